@@ -1,0 +1,8 @@
+pub mod HistoryLemmas
+pub mod IdLemmas
+pub mod JournalLemmas
+pub mod LogLemmas
+pub mod LawLemmas
+pub mod DeliveryLemmas
+pub mod Sound
+pub mod ExampleLemmas

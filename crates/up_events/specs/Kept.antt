@@ -1,0 +1,25 @@
+-- What holds of the fields of every journal.
+use Rattle.std.specs.Prelude.{◌≡◌, ℕ, ◌<◌, ◌≤◌, Some, None, if◌then◌else◌, unwrap_or, List, Vec, length, slice_get}
+use Rattle.std.specs.Ordering.{nat_cmp}
+use Rattle.std.specs.BTreeMap.{get}
+use Rattle.std.specs.declared.alloc.Global.{Global}
+use Rattle.up_events.specs.History.{is_known, offset_of, length_of, events_of, IsLegal}
+use Rattle.up_events.specs.Log.{log_of}
+use Rattle.up_events.specs.declared.event.Event.{Event}
+use Rattle.up_events.specs.declared.event.Accepted.{Accepted}
+use Rattle.up_events.specs.declared.track.Track.{Track}
+use Rattle.up_events.specs.declared.journal.Journal.TheInside.{Inside}
+
+-- how far an upload has come with these changes
+abbrev pub track_of : List Accepted → ℕ → Track
+track_of changes u = record { events = length (events_of changes u); offset = offset_of changes u; length = unwrap_or (length_of changes u) 0 }
+
+-- there are 1 to 16 lanes, the changes are legal, and the logs and the tracks are those that the
+-- changes define
+pub record IsKept (a : Inside) : Type 0 where
+  pub some_lane : 0 < a.lanes
+  pub few_lanes : a.lanes ≤ 16
+  pub legal : IsLegal a.accepted.items
+  pub rows : length a.logs.items ≡ a.lanes
+  pub logs : (k : ℕ) (log : Vec Event Global) → slice_get a.logs.items k ≡ Some log → log.items ≡ log_of a.lanes a.accepted.items k
+  pub tracks : (u : ℕ) → get nat_cmp a.tracks u ≡ (if is_known a.accepted.items u then Some (track_of a.accepted.items u) else None)

@@ -1,0 +1,9 @@
+pub mod IdText
+pub mod Names
+pub mod Lists
+pub mod History
+pub mod Log
+pub mod Delivery
+pub mod Records
+pub mod Reached
+pub mod Kept

@@ -1,0 +1,58 @@
+-- Numbered events: the log that the accepted changes define for a lane, and what makes a list of events lawful.
+use Rattle.std.specs.Prelude.{◌≡◌, ℕ, ◌+◌, ◌%◌, ◌≤◌, Bool, true, false, List, [], ◌∷◌, ◌++◌, length, map, filter, count_by, if◌then◌else◌, ◌==◌}
+use Rattle.up_events.specs.Lists.{gather}
+use Rattle.up_events.specs.History.{id_of, Step, steps_of, events_of, IsLegal}
+use Rattle.up_events.specs.declared.event.Accepted.{Accepted}
+use Rattle.up_events.specs.declared.event.Event.{Event}
+use Rattle.up_events.specs.declared.event.Hook.{Hook}
+use Rattle.up_events.specs.declared.event.Hook.TheVariants.{Create, Receive, Finish, Terminate}
+
+-- an upload's events after its first n, with their numbers
+abbrev pub numbered : ℕ → ℕ → List Step → List Event
+numbered u n [] = []
+numbered u n (s ∷ steps) = record { id = u; number = n + 1; hook = s.0; offset = s.1; length = s.2 } ∷ numbered u (n + 1) steps
+
+-- for each change of an upload of the lane its events, each with the place that it has among that upload's
+unfoldable pub log_of : ℕ → List Accepted → ℕ → List Event
+log_of lanes changes k =
+    gather (λ before c. if id_of c % lanes == k then numbered (id_of c) (length (events_of before (id_of c))) (steps_of before c) else []) [] changes
+
+-- an event without id and number
+abbrev pub step_of : Event → Step
+step_of e = (e.hook, e.offset, e.length)
+
+-- whether the event is the upload's
+abbrev pub is_of : ℕ → Event → Bool
+is_of u e = e.id == u
+
+-- whether it is post-finish
+abbrev pub is_finish : Hook → Bool
+is_finish Create = false
+is_finish Receive = false
+is_finish Finish = true
+is_finish Terminate = false
+
+-- the events have the numbers n + 1, n + 2 and so on
+abbrev pub CountsFrom : ℕ → List Event → Type 0
+CountsFrom n [] = Unit {0}
+CountsFrom n (e ∷ events) = (e.number ≡ n + 1) × CountsFrom (n + 1) events
+
+-- one upload's events are as they should be: numbered 1, 2, 3 and so on, with a post-create first, at
+-- most one post-finish, and nothing after a post-terminate
+pub record IsLawfulRun (events : List Event) : Type 0 where
+  pub numbers : CountsFrom 0 events
+  pub first : (e : Event) (rest : List Event) → events ≡ e ∷ rest → e.hook ≡ Create
+  pub one_finish : count_by (λ (e : Event). is_finish e.hook) events ≤ 1
+  pub last : (front back : List Event) (e : Event) → events ≡ front ++ e ∷ back → e.hook ≡ Terminate → back ≡ []
+
+-- the events of each upload are as they should be
+abbrev pub IsLawful : List Event → Type 0
+IsLawful events = (u : ℕ) → IsLawfulRun (filter (is_of u) events)
+
+-- the log that a legal list defines for a lane is lawful
+abbrev pub LogsAreLawful : Type 0
+LogsAreLawful = (lanes k : ℕ) (changes : List Accepted) → IsLegal changes → IsLawful (log_of lanes changes k)
+
+-- the events of an upload in the log of its lane, without ids and numbers, are that upload's events
+abbrev pub LogsTellEvents : Type 0
+LogsTellEvents = (lanes u : ℕ) (changes : List Accepted) → IsLegal changes → map step_of (filter (is_of u) (log_of lanes changes (u % lanes))) ≡ events_of changes u

@@ -1,0 +1,18 @@
+// What the definitions promise of each other.
+ghost use Rattle.up_events.specs.Log.{LogsAreLawful, LogsTellEvents};
+ghost use Rattle.up_events.specs.Delivery.{NumberedIsDelivered};
+
+/// For every legal list of changes the log of a lane is lawful: each upload's events are numbered
+/// 1, 2, 3 and so on, with post-create first, post-finish at most once, and nothing after
+/// post-terminate. In the log of its lane an upload has just the events that its changes give.
+pub fn logs_are_lawful()
+    ensures lawful { LogsAreLawful }
+    ensures events { LogsTellEvents }
+{}
+
+/// Where all that was handed over stands in the log of one lane, and each upload's events were
+/// handed over with the numbers 1, 2, 3 and so on, they are the first of its events, each once and
+/// in order.
+pub fn numbered_events_are_delivered()
+    ensures { NumberedIsDelivered }
+{}

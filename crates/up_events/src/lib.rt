@@ -1,0 +1,18 @@
+//! What happened to uploads, and what is told of it: ids, accepted changes, the events that they
+//! give, and the journal that keeps each lane's log of them.
+#![tactic(auto)]
+
+mod event;
+mod fault;
+mod id;
+mod journal;
+mod law;
+#[cfg(test)]
+mod tests;
+mod track;
+
+pub use event::{Accepted, Event, Hook, Kind};
+pub use fault::NoMemory;
+pub use id::Id;
+pub use journal::{Added, Journal};
+pub use law::{logs_are_lawful, numbered_events_are_delivered};

@@ -1,0 +1,146 @@
+// How far an upload has come, and the step that writes a change down.
+ghost use Rattle.std.specs.Prelude.{◌≡◌, ◌<◌, ◌≤◌, OnOk, OnErr, IfOk, ◌+◌, ◌^◌, ◌++◌, ◌∷◌, [], Some, length, vec_len, vec_capacity};
+ghost use Rattle.std.specs.Ordering.{nat_cmp};
+ghost use Rattle.std.specs.BTreeMap.{Updates, IsUnchanged};
+ghost use Rattle.up_events.specs.History.{id_of, steps_at};
+ghost use Rattle.up_events.specs.Log.{numbered};
+ghost use Rattle.up_events.specs.Reached.{reached, hook_of, bytes_of, completes};
+
+use crate::event::{Accepted, Event, Hook};
+use crate::fault::NoMemory;
+use crate::id::Id;
+use std::collections::BTreeMap;
+
+/// How far an upload has come.
+#[derive(Clone, Copy, Debug)]
+pub struct Track {
+    /// How many events it has.
+    pub events: u64,
+    /// How many bytes it has.
+    pub offset: u64,
+    /// How many bytes it has once it is complete.
+    pub length: u64,
+}
+
+impl Track {
+    /// That of an upload that was never created.
+    pub const NONE: Track = Track {
+        events: 0,
+        offset: 0,
+        length: 0,
+    };
+
+    /// With the offset and the length that the change gives. The events are those before it.
+    pub fn reached(self, change: &Accepted) -> Track
+        requires { self.offset + bytes_of change.now < 2 ^ 64 }
+        ensures { result ≡ reached self change.now }
+    {
+        match *change {
+            Accepted::Created { length, .. } => Track {
+                events: self.events,
+                offset: 0,
+                length,
+            },
+            Accepted::Appended { count, .. } => Track {
+                events: self.events,
+                offset: self.offset + count,
+                length: self.length,
+            },
+        }
+    }
+}
+
+/// The hook of a change's first event.
+fn first_hook(change: &Accepted) -> Hook
+    ensures { result ≡ hook_of change.now }
+{
+    match change {
+        Accepted::Created { .. } => Hook::Create,
+        Accepted::Appended { .. } => Hook::Receive,
+    }
+}
+
+/// Whether the change, which brought the upload this far, makes it complete.
+fn is_completing(change: &Accepted, track: Track) -> bool
+    ensures { result ≡ completes change.now track.offset track.length }
+{
+    match change {
+        Accepted::Created { .. } | Accepted::Appended { .. } => track.offset == track.length,
+    }
+}
+
+/// Pushes into room that is there.
+fn push_within<T>(values: &mut Vec<T>, value: T)
+    requires { vec_len values.old < vec_capacity values.old }
+    ensures items { values.new.items ≡ values.old.items ++ value ∷ [] }
+    ensures len { vec_len values.new ≡ vec_len values.old + 1 }
+    ensures room { vec_capacity values.old ≤ vec_capacity values.new }
+{
+    values.push(value).unwrap()
+}
+
+/// Writes a change into the list, its events into the log of its lane, and into the table how far
+/// its upload has come. `track` has the offset and the length with the change, and the events
+/// before it. Gives the number of its events. `NoMemory` where memory was refused; the list, the
+/// log and the table then say what they said.
+pub fn write(
+    accepted: &mut Vec<Accepted>,
+    log: &mut Vec<Event>,
+    tracks: &mut BTreeMap<Id, Track>,
+    change: Accepted,
+    track: Track,
+) -> Result<u64, NoMemory>
+    requires { track.events + 2 < 2 ^ 64 }
+    ensures accepted { OnOk result (accepted.new.items ≡ accepted.old.items ++ change ∷ []) }
+    ensures log { OnOk result (log.new.items ≡ log.old.items ++ numbered (id_of change) track.events (steps_at change track.offset track.length)) }
+    ensures tracks { IfOk result (λ count. Updates nat_cmp tracks.old tracks.new (id_of change) (Some (record track { events = track.events + count }))) }
+    ensures count { IfOk result (λ count. count ≡ length (steps_at change track.offset track.length)) }
+    ensures same_list { OnErr result (accepted.new.items ≡ accepted.old.items) }
+    ensures same_log { OnErr result (log.new.items ≡ log.old.items) }
+    ensures same_tracks { OnErr result (IsUnchanged tracks.old tracks.new) }
+{
+    let id = change.id();
+    let Track {
+        events,
+        offset,
+        length,
+    } = track;
+    let completing = is_completing(&change, track);
+    let count = if completing { 2 } else { 1 };
+    accepted.reserve(1)?;
+    log.reserve(2)?;
+    tracks.insert(
+        id,
+        Track {
+            events: events + count,
+            offset,
+            length,
+        },
+    )?;
+    // From here on nothing grows.
+    push_within(accepted, change);
+    let hook = first_hook(&change);
+    push_within(
+        log,
+        Event {
+            id,
+            number: events + 1,
+            hook,
+            offset,
+            length,
+        },
+    );
+    if completing {
+        push_within(
+            log,
+            Event {
+                id,
+                number: events + 2,
+                hook: Hook::Finish,
+                offset,
+                length,
+            },
+        );
+    }
+    Ok(count)
+}

@@ -1,0 +1,56 @@
+-- The report written one lane after another.
+use Rattle.std.proofs.Common.{◌≡◌, ℕ, ◌+◌, ◌<◌, List, [], ◌∷◌, ◌++◌, length, take, drop, get_or, zero, suc, append-nil, Option, Result, Ok, Err, refl, sym, ap, ◌∙◌, subst, append_assoc, arith}
+use Rattle.std.specs.List.{flat_map}
+use Rattle.std.specs.Io.KnownBytes.{Appends}
+use Rattle.up_server.specs.ReportText.{event_line, lane_line, lane_text, lanes_text}
+use Rattle.std.proofs.KnownBytes.{Appends-trans}
+use Rattle.up_server.specs.Response.{Writes, WritesFront}
+use Rattle.up_server.specs.declared.feed.LaneReport.{LaneReport}
+use Rattle.up_server.proofs.Writing.{front_then, front_cut}
+
+-- the lanes up to one, that one, and the others
+pub lanes_text-split : (number : ℕ) (lanes : List LaneReport) (i : ℕ) (d : LaneReport) → i < length lanes
+    → lanes_text number lanes ≡ (lanes_text number (take i lanes) ++ lane_text (number + i) (get_or lanes i d)) ++ lanes_text (number + i + 1) (drop (suc i) lanes)
+lanes_text-split number [] i d inside = absurd (omega arith)
+lanes_text-split number (lane ∷ lanes) zero d inside = let e : number + zero ≡ number = omega arith in rw e refl
+lanes_text-split number (lane ∷ lanes) (suc i) d inside =
+    let one : (number + 1) + i ≡ number + suc i = omega arith in
+    ap (λ t. lane_text number lane ++ t) (lanes_text-split (number + 1) lanes i d (omega arith)
+    ∙ ap (λ n. (lanes_text (number + 1) (take i lanes) ++ lane_text n (get_or lanes i d)) ++ lanes_text (n + 1) (drop (suc i) lanes)) one)
+    ∙ sym (append_assoc (lane_text number lane) (lanes_text (number + 1) (take i lanes) ++ lane_text (number + suc i) (get_or lanes i d)) (lanes_text (number + suc i + 1) (drop (suc i) lanes)))
+    ∙ ap (λ t. t ++ lanes_text (number + suc i + 1) (drop (suc i) lanes)) (sym (append_assoc (lane_text number lane) (lanes_text (number + 1) (take i lanes)) (lane_text (number + suc i) (get_or lanes i d))))
+
+-- what one more lane adds
+pub lanes_text-more : (number : ℕ) (lanes : List LaneReport) (i : ℕ) (d : LaneReport) → i < length lanes
+    → lanes_text number (take (suc i) lanes) ≡ lanes_text number (take i lanes) ++ lane_text (number + i) (get_or lanes i d)
+lanes_text-more number [] i d inside = absurd (omega arith)
+lanes_text-more number (lane ∷ lanes) zero d inside = let e : number + zero ≡ number = omega arith in append-nil (lane_text number lane) ∙ ap (λ n. lane_text n lane) (sym e)
+lanes_text-more number (lane ∷ lanes) (suc i) d inside =
+    let one : (number + 1) + i ≡ number + suc i = omega arith in
+    ap (λ t. lane_text number lane ++ t) (lanes_text-more (number + 1) lanes i d (omega arith) ∙ ap (λ n. lanes_text (number + 1) (take i lanes) ++ lane_text n (get_or lanes i d)) one)
+    ∙ sym (append_assoc (lane_text number lane) (lanes_text (number + 1) (take i lanes)) (lane_text (number + suc i) (get_or lanes i d)))
+
+-- the lanes break off in one
+pub lanes_cut : (a b c : Option (List ℕ)) (lanes : List LaneReport) (i : ℕ) (d : LaneReport) → i < length lanes
+    → Appends a b (lanes_text 0 (take i lanes)) → WritesFront b c (lane_text i (get_or lanes i d)) → WritesFront a c (lanes_text 0 lanes)
+lanes_cut a b c lanes i d inside before next =
+    let e : 0 + i ≡ i = omega arith in
+    let some = front_then a b c (lanes_text 0 (take i lanes)) (lane_text i (get_or lanes i d)) before next in
+    let whole : lanes_text 0 lanes ≡ (lanes_text 0 (take i lanes) ++ lane_text i (get_or lanes i d)) ++ lanes_text (i + 1) (drop (suc i) lanes) =
+    lanes_text-split 0 lanes i d inside ∙ ap (λ n. (lanes_text 0 (take i lanes) ++ lane_text n (get_or lanes i d)) ++ lanes_text (n + 1) (drop (suc i) lanes)) e in
+    subst (WritesFront a c) (sym whole) (front_cut a c (lanes_text 0 (take i lanes) ++ lane_text i (get_or lanes i d)) (lanes_text (i + 1) (drop (suc i) lanes)) some)
+
+-- the lanes up to one, and that one
+pub lanes_more : (a b c : Option (List ℕ)) (lanes : List LaneReport) (i : ℕ) (d : LaneReport) → i < length lanes
+    → Appends a b (lanes_text 0 (take i lanes)) → Appends b c (lane_text i (get_or lanes i d)) → Appends a c (lanes_text 0 (take (i + 1) lanes))
+lanes_more a b c lanes i d inside before next =
+    let one : i + 1 ≡ suc i = omega arith in
+    let e : 0 + i ≡ i = omega arith in
+    let more : lanes_text 0 (take (i + 1) lanes) ≡ lanes_text 0 (take i lanes) ++ lane_text i (get_or lanes i d) =
+    ap (λ n. lanes_text 0 (take n lanes)) one ∙ lanes_text-more 0 lanes i d inside ∙ ap (λ n. lanes_text 0 (take i lanes) ++ lane_text n (get_or lanes i d)) e in
+    subst (Appends a c) (sym more) (Appends-trans _ _ _ _ _ before next)
+
+-- a text behind one that was written whole
+pub writes_then : {X E : Type 0} (a b c : Option (List ℕ)) (x y : List ℕ) (r : Result X E) → Appends a b x → Writes b c y r → Writes a c (x ++ y) r
+writes_then a b c x y (Ok done) first next = Appends-trans _ _ _ _ _ first next
+writes_then a b c x y (Err fault) first next = front_then a b c x y first next

@@ -1,0 +1,10 @@
+use Rattle.std.proofs.Common.{List, ◌≤◌}
+use Rattle.up_events.specs.declared.event.Event.{Event}
+use Rattle.up_server.specs.Passage.{IsFrom}
+use Rattle.up_server.proofs.feed.Feed.drain.Given as goal
+
+abbrev pub invariant-loop-self : goal.invariant-loop-self
+invariant-loop-self l = ((log : List Event) → IsFrom log l.initial.self → IsFrom log l.self) × (l.self.unread ≤ l.initial.self.unread)
+
+abbrev pub decreases-loop-self : goal.decreases-loop-self
+decreases-loop-self l = l.self.unread

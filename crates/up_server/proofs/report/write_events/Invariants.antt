@@ -1,0 +1,8 @@
+use Rattle.std.proofs.Common.{take}
+use Rattle.std.specs.List.{flat_map}
+use Rattle.std.specs.Io.KnownBytes.{Appends}
+use Rattle.up_server.specs.ReportText.{event_line}
+use Rattle.up_server.proofs.report.write_events.Given as goal
+
+abbrev pub invariant-loop-event : goal.invariant-loop-event
+invariant-loop-event g l = Appends (g.W.Write.contents l.fn.writer) (g.W.Write.contents l.writer) (flat_map event_line (take l.event-index l.events))

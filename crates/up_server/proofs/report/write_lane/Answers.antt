@@ -1,0 +1,19 @@
+use Rattle.std.proofs.Common.{sym, subst}
+use Rattle.std.specs.List.{flat_map}
+use Rattle.up_server.specs.ReportText.{event_line, lane_line, lane_text}
+use Rattle.up_server.specs.Response.{Writes}
+use Rattle.up_server.proofs.ReportLemmas.{writes_then}
+use Rattle.up_server.proofs.Writing.{front_cut, writes_err}
+use Rattle.up_server.proofs.report.write_lane.Goals as goal
+
+pub returns-in_err-write_lane_line : goal.returns-in_err-write_lane_line
+returns-in_err-write_lane_line g c =
+    let lane = c.args.lane.now in
+    writes_err _ _ (lane_text c.args.number lane) c.from_residual.result c.from_residual.ensures.0
+    (front_cut _ _ (lane_line c.args.number lane) (flat_map event_line lane.handed.items) c.in_err-write_lane_line.ensures)
+
+pub returns : goal.returns
+returns g c =
+    let lane = c.args.lane.now in
+    writes_then _ _ _ (lane_line c.args.number lane) (flat_map event_line lane.handed.items) c.write_events.result c.in_ok-write_lane_line.ensures
+    (subst (λ events. Writes (g.W.Write.contents c.write_lane_line.new.writer) (g.W.Write.contents c.write_events.new.writer) (flat_map event_line events) c.write_events.result) c.as_slice.ensures.value c.write_events.ensures)

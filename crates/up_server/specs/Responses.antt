@@ -1,0 +1,36 @@
+-- The responses.
+use Rattle.std.specs.Prelude.{ℕ, ◌++◌, Bool, true, false, List, [], ◌∷◌, codes, decimal}
+use Rattle.up_events.specs.IdText.{text_of}
+use Rattle.up_server.specs.declared.response.Response.{Response}
+
+-- a field's name and value
+abbrev pub Field : Type 0
+Field = List ℕ × List ℕ
+
+abbrev pub answered : ℕ → List Field → List ℕ → Response
+answered status fields body = record { status = status; fields = fields; body = body }
+
+-- an upload was made
+abbrev pub created : ℕ → Response
+created id = answered 201 ((codes "Location", codes "/files/" ++ text_of id) ∷ []) []
+
+-- an upload has come as far as this offset
+abbrev pub reached_offset : ℕ → Response
+reached_offset offset = answered 204 ((codes "Upload-Offset", decimal offset) ∷ []) []
+
+-- the type of every text that is answered
+abbrev pub plain_text : Field
+plain_text = (codes "Content-Type", codes "text/plain")
+
+-- the methods at an upload, or at the creation URL
+abbrev pub methods : Bool → List ℕ
+methods true = codes "OPTIONS, HEAD, GET, PATCH, DELETE"
+methods false = codes "OPTIONS, POST"
+
+-- a request was refused, in the words of this text
+abbrev pub refused_with : ℕ → List ℕ → Response
+refused_with status text = answered status (plain_text ∷ []) text
+
+-- a method was refused, at an upload or at the creation URL
+abbrev pub method_refused_with : ℕ → List ℕ → Bool → Response
+method_refused_with status text of_upload = answered status ((codes "Allow", methods of_upload) ∷ plain_text ∷ []) text

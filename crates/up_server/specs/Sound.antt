@@ -1,0 +1,22 @@
+-- What holds of the fields of every dispatcher.
+use Rattle.std.specs.Prelude.{◌≡◌, ℕ, ◌<◌, false, List, length, slice_get, Some}
+use Rattle.up_events.specs.History.{is_known}
+use Rattle.up_events.specs.Log.{log_of}
+use Rattle.up_events.specs.Records.{Records}
+use Rattle.up_events.specs.declared.event.Accepted.{Accepted}
+use Rattle.up_server.specs.Passage.{Passage, IsFrom}
+use Rattle.up_server.specs.declared.dispatcher.Dispatcher.TheInside.{Inside}
+
+-- no id above this one was given
+abbrev pub AreFreshAbove : ℕ → List Accepted → Type 0
+AreFreshAbove last accepted = (u : ℕ) → last < u → is_known accepted u ≡ false
+
+-- each feed has events of the log of its own lane
+abbrev pub AreFed : Records → List Passage → Type 0
+AreFed journal feeds = (k : ℕ) (f : Passage) → slice_get feeds k ≡ Some f → IsFrom (log_of journal.lanes journal.accepted k) f
+
+pub record IsSound (a : Inside) : Type 0 where
+  pub some : 0 < a.book.journal.lanes
+  pub rows : length a.feeds.items ≡ a.book.journal.lanes
+  pub feeds : AreFed a.book.journal a.feeds.items
+  pub fresh : AreFreshAbove a.last_id a.book.journal.accepted

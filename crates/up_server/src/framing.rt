@@ -1,0 +1,89 @@
+//! How long a message's body is.
+ghost use Rattle.std.specs.Prelude.{◌≡◌, ◌^◌, ◌≤◌, IsTrue, MatchOption};
+ghost use Rattle.std.specs.Str.Parse.{digits_value};
+ghost use Rattle.std.specs.List.{list_all};
+ghost use Rattle.std.specs.Char.{is_ascii_digit};
+ghost use Rattle.up_server.specs.Framing.{same_name, values, is_digits, sized, body_length, IsOneOf};
+
+use crate::message::Field;
+
+/// The values of the fields of one name.
+#[derive(Clone, Copy)]
+enum Values<'a> {
+    Absent,
+    One(&'a [u8]),
+    Several,
+}
+
+/// How many bytes the body has, by the fields: `Content-Length` at most once and within the limit, and no
+/// `Transfer-Encoding` (RFC 9112, section 6). None where the fields say something else.
+pub(crate) fn body_length(max_body: u64, fields: &[Field]) -> Option<u64>
+    ensures { result ≡ body_length max_body fields.now }
+{
+    let size = find_value(fields, b"content-length");
+    let coding = find_value(fields, b"transfer-encoding");
+    match (size, coding) {
+        (Values::Absent, Values::Absent) => Some(0),
+        (Values::One(value), Values::Absent) => sized(max_body, value),
+        _ => None,
+    }
+}
+
+/// The value of the fields with that name, where there is just one.
+fn find_value<'a>(fields: &'a [Field], name: &[u8]) -> Values<'a>
+    ensures { IsOneOf result (values name.now fields.now) }
+{
+    let mut found = Values::Absent;
+    for field in fields {
+        if same_name(field.0.as_slice(), name) {
+            found = match found {
+                Values::Absent => Values::One(field.1.as_slice()),
+                _ => Values::Several,
+            };
+        }
+    }
+    found
+}
+
+fn same_name(a: &[u8], b: &[u8]) -> bool
+    ensures { result ≡ same_name a.now b.now }
+{
+    a.eq_ignore_ascii_case(b)
+}
+
+fn sized(max_body: u64, value: &[u8]) -> Option<u64>
+    ensures { result ≡ sized max_body value.now }
+{
+    if !is_digits(value) {
+        return None;
+    }
+    match number(value) {
+        Some(size) if size <= max_body => Some(size),
+        _ => None,
+    }
+}
+
+fn is_digits(value: &[u8]) -> bool
+    ensures { result ≡ is_digits value.now }
+{
+    !value.is_empty() && are_digits(value)
+}
+
+fn are_digits(value: &[u8]) -> bool
+    ensures { result ≡ list_all is_ascii_digit value.now }
+{
+    value.iter().all(|b| b.is_ascii_digit())
+}
+
+/// The number of these digits, if it is below 2^64.
+fn number(digits: &[u8]) -> Option<u64>
+    requires { IsTrue (is_digits digits.now) }
+    ensures { MatchOption result (2 ^ 64 ≤ digits_value 10 digits.now)
+        (λ number. number ≡ digits_value 10 digits.now) }
+{
+    let mut number: u64 = 0;
+    for b in digits {
+        number = number.checked_mul(10)?.checked_add(u64::from(*b - b'0'))?;
+    }
+    Some(number)
+}

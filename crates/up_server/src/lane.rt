@@ -1,0 +1,129 @@
+//! A lane hands events over, each upload's own in the order of their numbers.
+ghost use Rattle.std.specs.Prelude.{◌≡◌, ℕ, ◌+◌, ◌<◌, [], ◌∷◌, ◌++◌, List, length, Contains, IfOk, OnOk, OnErr, IfSome, slice_get, Some, vec_len, vec_capacity};
+ghost use Rattle.up_events.specs.declared.event.Event.{Event as AnEvent};
+
+use std::alloc::Global;
+use std::collections::BTreeMap;
+use std::marker::Model;
+use up_events::{Event, Id, NoMemory};
+
+/// Hands over the events of its uploads, whatever order its queue gives them in. A repeat is dropped, and
+/// an event that comes before its turn is held back.
+#[derive(Drop)]
+pub struct Lane {
+    /// The number of the event that was handed over last, by upload.
+    last: BTreeMap<Id, u64>,
+    /// Events that came before their turn.
+    early: Vec<Event>,
+    /// The post-hook of the lane: what it was given.
+    handed: Vec<Event>,
+}
+
+impl Model for Lane {
+    ghost use Rattle.up_server.specs.Hands.{Hands};
+
+    ghost Value = { Hands };
+
+    ghost use Rattle.up_server.specs.Counting.{IsCounting};
+
+    ghost view = { λ a. record { handed = a.handed.items; early = a.early.items } };
+
+    ghost invariant = { IsCounting };
+}
+
+/// Pushes into room that is there.
+fn push_within<T>(values: &mut Vec<T>, value: T)
+    requires { vec_len values.old < vec_capacity values.old }
+    ensures { values.new.items ≡ values.old.items ++ value ∷ [] }
+{
+    values.push(value).unwrap()
+}
+
+impl Lane {
+    ghost use Rattle.up_events.specs.Delivery.{count_of, IsNumbered};
+    ghost use Rattle.up_server.specs.Hands.{Hands, AreFrom, IsNext};
+
+    /// A lane that has handed over nothing.
+    pub fn new(alloc: Global) -> Self
+        ensures { result ≡ record { handed = []; early = [] } }
+    {
+        Lane {
+            last: BTreeMap::new(alloc),
+            early: Vec::new(alloc),
+            handed: Vec::new(alloc),
+        }
+    }
+
+    /// How many events of the upload were handed over, which is the number of the last one.
+    fn last_of(&self, id: Id) -> u64
+        ensures { result ≡ count_of id self.now.handed }
+    {
+        self.last.get(&id).copied().unwrap_or(0)
+    }
+
+    /// Hands over the next event of its upload.
+    fn hand(&mut self, event: Event) -> Result<(), NoMemory>
+        requires { event.number ≡ count_of event.id self.old.handed + 1 }
+        ensures ok { OnOk result (self.new ≡ record self.old { handed = self.old.handed ++ event ∷ [] }) }
+        ensures err { OnErr result (self.new ≡ self.old) }
+        ensures numbered { IsNumbered self.new.handed }
+    {
+        self.handed.reserve(1)?;
+        self.last.insert(event.id, event.number)?;
+        push_within(&mut self.handed, event);
+        Ok(())
+    }
+
+    /// The place of an early event whose turn has come.
+    fn ready(&self) -> Option<usize>
+        ensures { IfSome result (λ i. IsNext self.now i) }
+    {
+        for (i, event) in self.early.iter().enumerate() {
+            let last = self.last_of(event.id);
+            if event.number > last && event.number - last == 1 {
+                return Some(i);
+            }
+        }
+        None
+    }
+
+    /// Hands over the early events whose turn has come.
+    fn hand_early(&mut self) -> Result<(), NoMemory>
+        ensures from { (log : List AnEvent) → AreFrom log self.old → AreFrom log self.new }
+        ensures numbered { IsNumbered self.old.handed → IsNumbered self.new.handed }
+    {
+        while let Some(i) = self.ready() {
+            let event = self.early[i];
+            self.hand(event)?;
+            self.early.swap_remove(i);
+        }
+        Ok(())
+    }
+
+    /// Takes an event. A repeat is dropped, an early one is held back. True where it was handed over.
+    pub fn offer(&mut self, event: Event) -> Result<bool, NoMemory>
+        ensures from { (log : List AnEvent) → AreFrom log self.old → Contains log event → AreFrom log self.new }
+        ensures numbered { IsNumbered self.new.handed }
+    {
+        let last = self.last_of(event.id);
+        if event.number <= last {
+            return Ok(false);
+        }
+        let is_early = event.number - last > 1;
+        if is_early {
+            self.early.push(event)?;
+            return Ok(false);
+        }
+        self.hand(event)?;
+        self.hand_early()?;
+        Ok(true)
+    }
+
+    /// What was handed over, in order.
+    pub fn into_handed(self) -> Vec<Event>
+        ensures handed { result.items ≡ self.handed }
+        ensures numbered { IsNumbered result.items }
+    {
+        self.handed
+    }
+}

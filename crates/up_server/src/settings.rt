@@ -1,0 +1,42 @@
+//! What a run of the server is given.
+ghost use Rattle.std.specs.Prelude.{◌≤◌, ◌^◌};
+
+/// The most lanes that a server has.
+pub const MOST_LANES: u64 = 16;
+
+/// The most items that the queue of a lane holds.
+pub const MOST_CAPACITY: u64 = 4096;
+
+/// The largest upload that can be allowed, in bytes.
+pub const MOST_SIZE: u64 = 1 << 30;
+
+/// The size of a server.
+#[derive(Clone, Copy, Debug, PartialEq, Eq)]
+pub struct Settings {
+    /// How many lanes hand events over, from 1 to 16. The lane of an upload is its id modulo this number.
+    pub lanes: u64,
+    /// How many items the queue of a lane holds, from 1 to 4,096.
+    pub capacity: u64,
+    /// The most bytes of an upload and of a message's body, from 1 to 2^30.
+    pub max_size: u64,
+    ghost lanes_within: { (1 ≤ lanes) × (lanes ≤ 16) },
+    ghost capacity_within: { (1 ≤ capacity) × (capacity ≤ 4096) },
+    ghost max_size_within: { (1 ≤ max_size) × (max_size ≤ 2 ^ 30) },
+}
+
+impl Default for Settings {
+    /// Two lanes, 16 items a queue, and 1 MiB.
+    fn default() -> Self {
+        Settings {
+            lanes: 2,
+            capacity: 16,
+            max_size: 1 << 20,
+        }
+    }
+}
+
+/// What the command line asks for.
+#[derive(Clone, Copy, Debug, PartialEq, Eq)]
+pub struct Words {
+    pub settings: Settings,
+}
