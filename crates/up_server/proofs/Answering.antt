@@ -8,7 +8,8 @@ use Rattle.up_server.specs.declared.message.Message.{Message}
 use Rattle.up_server.specs.declared.wire_fault.WireFault.{WireFault}
 use Rattle.up_server.specs.declared.wire_fault.WireFault.TheVariants.{BadHead, ReadFailed, NoMemory}
 use Rattle.up_server.specs.declared.head.Head.{Head}
-use Rattle.up_server.specs.Framing.{Field, body_length}
+use Rattle.up_server.specs.Fields.{Field}
+use Rattle.up_server.specs.Framing.{body_length}
 use Rattle.up_server.specs.Message.{IsHead, fields_of, is_bare, HasParts, IsFault, IsCutBody}
 use Rattle.up_server.specs.Reading.{HasHead, IsCutBy}
 use Rattle.up_server.proofs.Heads.{no_head_at_first}

@@ -1,8 +1,9 @@
 -- A dispatcher's fields after one more request.
-use Rattle.std.proofs.Common.{◌≡◌, ℕ, ◌+◌, ◌<◌, ◌≤◌, ◌%◌, Bool, true, false, Option, Some, None, is_some, Result, Ok, Err, List, [], ◌∷◌, ◌++◌, length, drop, take, inl, inr, zero, suc, refl, sym, ap, ◌∙◌, subst, arith, Vec, slice_get, slice_set, length-append, eqb, cond, get_or, append_assoc}
+use Rattle.std.proofs.Common.{◌≡◌, ℕ, ◌+◌, ◌<◌, ◌≤◌, ◌%◌, Bool, true, false, Option, Some, None, is_some, Result, Ok, Err, List, [], ◌∷◌, ◌++◌, length, drop, take, inl, inr, zero, suc, refl, sym, ap, ◌∙◌, subst, arith, Vec, slice_get, slice_set, length-append, eqb, cond, get_or, append_assoc, Contains}
 use Rattle.std.proofs.Math.ListN.{length-set}
 use Rattle.std.specs.Vec.{with_item}
-use Rattle.std.proofs.lemmas.List.Elements.{Contains-append_left, Contains-append_right, Contains-append_cases}
+use Rattle.std.proofs.lemmas.List.{take-append-drop}
+use Rattle.std.proofs.lemmas.List.Elements.{Contains-append_left, Contains-append_right}
 use Rattle.std.specs.declared.alloc.Global.{Global}
 use Rattle.up_events.specs.declared.event.Accepted.{Accepted}
 use Rattle.up_events.specs.declared.event.Event.{Event}
@@ -24,11 +25,12 @@ use Rattle.up_events.proofs.HistoryLemmas.{log_of-snoc, creation_of-other}
 use Rattle.up_events.specs.Delivery.{IsWithin}
 use Rattle.up_server.specs.Passage.{Passage, IsFrom}
 use Rattle.up_server.specs.Course.{AreNew}
-use Rattle.up_server.specs.Each.{IsOfLane, AreOfLanes}
+use Rattle.up_server.proofs.Each.{IsOfLane, AreOfLanes}
 use Rattle.up_server.specs.Sound.{IsSound, AreFed, AreFreshAbove}
 use Rattle.up_server.specs.State.{State, empty_state, after, AreAdded, IsFresh}
 use Rattle.up_server.specs.Course.{last_after, Replies, carried_out}
-use Rattle.up_server.specs.Decision.{Outcome, Answers, decide, outcome_of, unless, change_of, appended, first_refusal, rows_of}
+use Rattle.up_server.specs.Decision.{Outcome, Answers, decide, outcome_of, unless, change_of, appended, rows_of}
+use Rattle.up_server.specs.Rows.{first_that_holds}
 use Rattle.up_events.proofs.JournalLemmas.{each_set, get-push}
 use Rattle.up_server.specs.declared.dispatcher.Dispatcher.TheInside.{Inside}
 
@@ -43,15 +45,11 @@ from_more log more f from = record {
 from_noted : (lanes : ℕ) (changes : List Accepted) (c : Accepted) (k : ℕ) (f : Passage) → IsFrom (log_of lanes changes k) f → IsFrom (log_of lanes (changes ++ c ∷ []) k) f
 from_noted lanes changes c k f from = subst (λ l. IsFrom l f) (sym (log_of-snoc lanes changes c k)) (from_more (log_of lanes changes k) (cond (eqb (id_of c % lanes) k) (numbered (id_of c) (length (events_of changes (id_of c))) (steps_of changes c)) []) f from)
 
-pub within_drop : (n : ℕ) (xs : List Event) → IsWithin (drop n xs) xs
-within_drop zero xs e m = m
-within_drop (suc n) [] e m = m
-within_drop (suc n) (x ∷ xs) e m = Contains-append_right (x ∷ []) xs e (within_drop n xs e m)
+within_drop : (n : ℕ) (xs : List Event) → IsWithin (drop n xs) xs
+within_drop n xs e m = subst (λ l. Contains l e) (take-append-drop n xs) (Contains-append_right (take n xs) (drop n xs) e m)
 
 within_take : (n : ℕ) (xs : List Event) → IsWithin (take n xs) xs
-within_take zero xs e (k, h, is) = absurd (let h : k < 0 = h in omega arith)
-within_take (suc n) [] e m = m
-within_take (suc n) (x ∷ xs) e m = elim (Contains-append_cases (x ∷ []) (take n xs) e m) [ inl h ↦ Contains-append_left (x ∷ []) xs e h | inr h ↦ Contains-append_right (x ∷ []) xs e (within_take n xs e h) ]
+within_take n xs e m = subst (λ l. Contains l e) (take-append-drop n xs) (Contains-append_left (take n xs) (drop n xs) e m)
 
 pub within_slice : (m n : ℕ) (xs : List Event) → IsWithin (take m (drop n xs)) xs
 within_slice m n xs e c = within_drop n xs e (within_take m (drop n xs) e c)
@@ -98,7 +96,7 @@ unless_ok (Some r) o d is = absurd (cc)
 
 pub change_done : (s : State) (request : Request) (id : ℕ) (d : Done) → Answers (Ok d) (decide s request id) → d.change ≡ change_of s request id
 change_done s request id d answer = elim answer [
-  | inl is ↦ unless_ok (first_refusal (rows_of s request id)) _ d is
+  | inl is ↦ unless_ok (first_that_holds (rows_of s request id)) _ d is
   | inr refused ↦ absurd (let h : Ok d ≡ Err refusal.NoMemory = refused.0 in cc)
 ]
 

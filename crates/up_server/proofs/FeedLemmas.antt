@@ -4,8 +4,7 @@ use Rattle.std.proofs.lemmas.List.Elements.{Contains-push_cases}
 use Rattle.up_events.specs.declared.event.Event.{Event}
 use Rattle.up_server.specs.declared.queue.Item.{Item}
 use Rattle.up_server.specs.declared.queue.Item.TheVariants.{Event as AnEvent}
-use Rattle.up_events.specs.Delivery.{IsWithin}
-use Rattle.up_events.specs.Delivery.{IsNumbered}
+use Rattle.up_events.specs.Delivery.{IsWithin, IsNumbered}
 use Rattle.up_server.specs.Hands.{Hands, AreFrom}
 use Rattle.up_server.specs.Passage.{Passage, IsFrom, IsItemFrom}
 

@@ -10,13 +10,13 @@ use Rattle.up_events.specs.Lists.{EachFollows}
 use Rattle.up_events.specs.declared.event.Accepted.{Accepted}
 use Rattle.up_events.specs.declared.event.Accepted.TheVariants.{Created, Appended}
 use Rattle.up_events.specs.declared.event.Kind.{Kind}
+use Rattle.up_events.proofs.JournalLemmas.{same_id}
 use Rattle.up_events.proofs.HistoryLemmas.{EachFollows-snoc, creation_of-other, offset_of-other, is_terminated-other}
 use Rattle.up_events.proofs.Sound.{sound, creation_of-created, creation_of-appended, is_terminated-created, is_terminated-appended, offset_of-created, offset_of-appended}
 use Rattle.up_server.specs.Content.{Content, with_more, HasRoom}
 use Rattle.up_events.specs.Records.{Records, noted}
 use Rattle.up_server.specs.State.{Contents, State}
 use Rattle.up_server.specs.Fits.{Fits, IsSoundBook}
-use Rattle.up_server.proofs.UploadsLemmas.{same_id}
 
 true_known : (a b : Bool) → a ≡ true → b ≡ false → (a && not b) ≡ true
 true_known a b e h = rw (e, h) refl

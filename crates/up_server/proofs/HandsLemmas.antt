@@ -1,7 +1,7 @@
 -- A lane's lists after one more event.
-use Rattle.std.proofs.Common.{◌≡◌, ℕ, ◌+◌, ◌<◌, inl, inr, Bool, true, false, cond, eqb, Some, unwrap_or, List, [], ◌∷◌, ◌++◌, length, filter, suc, refl, sym, ap, ◌∙◌, subst, arith, Contains, length-append, get_or}
+use Rattle.std.proofs.Common.{◌≡◌, ℕ, ◌+◌, ◌<◌, inl, inr, Bool, true, false, cond, eqb, Some, unwrap_or, List, [], ◌∷◌, ◌++◌, length, filter, suc, refl, sym, ap, ◌∙◌, subst, arith, Contains, length-append, append-nil, get_or}
 use Rattle.std.proofs.lemmas.Bool.{eqb-true, eq-eqb, false≢true}
-use Rattle.std.proofs.lemmas.List.Elements.{Contains-push_cases, Contains-append_right}
+use Rattle.std.proofs.lemmas.List.Elements.{Contains-push_cases, Contains-append_right, filter-append}
 use Rattle.std.proofs.lemmas.Map.Lookups.{exact_unsigned}
 use Rattle.std.specs.Ordering.{nat_cmp, is_eq}
 use Rattle.std.specs.Cmp.{nat_cmp_total}
@@ -10,11 +10,8 @@ use Rattle.std.specs.declared.cmp.Ordering.{Ordering}
 use Rattle.std.specs.declared.cmp.Ordering.TheVariants.{Less, Equal, Greater}
 use Rattle.up_events.specs.declared.event.Event.{Event}
 use Rattle.up_events.specs.Log.{is_of, CountsFrom}
-use Rattle.up_events.proofs.HistoryLemmas.{append_nil}
 use Rattle.up_events.proofs.JournalLemmas.{same_id, other_id}
-use Rattle.up_events.proofs.LogLemmas.{filter-append}
-use Rattle.up_events.specs.Delivery.{IsWithin}
-use Rattle.up_events.specs.Delivery.{count_of, IsNumbered}
+use Rattle.up_events.specs.Delivery.{IsWithin, count_of, IsNumbered}
 use Rattle.up_server.specs.Hands.{Hands, AreFrom}
 use Rattle.up_server.specs.Counting.{IsCounting}
 use Rattle.up_server.specs.declared.lane.Lane.TheInside.{Inside}
@@ -27,7 +24,7 @@ filter-own : (u : ℕ) (xs : List Event) (e : Event) → eqb e.id u ≡ true →
 filter-own u xs e is = filter-append (is_of u) xs (e ∷ []) ∙ ap (λ b. filter (is_of u) xs ++ cond b (e ∷ []) []) is
 
 filter-other : (u : ℕ) (xs : List Event) (e : Event) → eqb e.id u ≡ false → filter (is_of u) (xs ++ e ∷ []) ≡ filter (is_of u) xs
-filter-other u xs e is = filter-append (is_of u) xs (e ∷ []) ∙ ap (λ b. filter (is_of u) xs ++ cond b (e ∷ []) []) is ∙ append_nil (filter (is_of u) xs)
+filter-other u xs e is = filter-append (is_of u) xs (e ∷ []) ∙ ap (λ b. filter (is_of u) xs ++ cond b (e ∷ []) []) is ∙ append-nil (filter (is_of u) xs)
 
 CountsFrom-push : (n : ℕ) (xs : List Event) (e : Event) → CountsFrom n xs → e.number ≡ n + length xs + 1 → CountsFrom n (xs ++ e ∷ [])
 CountsFrom-push n [] e c is = (omega arith, tt)
@@ -42,8 +39,8 @@ numbered_push xs e old is u = elim (eqb e.id u) as (λ b. eqb e.id u ≡ b → C
 
 -- ---- the table of last numbers
 
-pub last_after : (m n : BTreeMap ℕ ℕ) (xs : List Event) (e : Event) → ((u : ℕ) → unwrap_or (get nat_cmp m u) 0 ≡ count_of u xs) → Updates nat_cmp m n e.id (Some e.number) → e.number ≡ count_of e.id xs + 1 → (u : ℕ) → unwrap_or (get nat_cmp n u) 0 ≡ count_of u (xs ++ e ∷ [])
-last_after m n xs e old updates is u =
+pub last_counted : (m n : BTreeMap ℕ ℕ) (xs : List Event) (e : Event) → ((u : ℕ) → unwrap_or (get nat_cmp m u) 0 ≡ count_of u xs) → Updates nat_cmp m n e.id (Some e.number) → e.number ≡ count_of e.id xs + 1 → (u : ℕ) → unwrap_or (get nat_cmp n u) 0 ≡ count_of u (xs ++ e ∷ [])
+last_counted m n xs e old updates is u =
     ap (λ o. unwrap_or o 0) (updates.0 u) ∙ elim (is_at (nat_cmp e.id) u) as (λ b. is_at (nat_cmp e.id) u ≡ b → unwrap_or (cond b (Some e.number) (get nat_cmp m u)) 0 ≡ count_of u (xs ++ e ∷ [])) [
       | true ↦ λ h.
           let same = same_id e.id u h in
@@ -55,7 +52,7 @@ last_after m n xs e old updates is u =
 pub counting_after : (a : Inside) (last : BTreeMap ℕ ℕ) (handed : Vec Event Global) (e : Event) → IsCounting a → e.number ≡ count_of e.id a.handed.items + 1 → Updates nat_cmp a.last last e.id (Some e.number) → handed.items ≡ a.handed.items ++ e ∷ [] → IsCounting (record { last = last; early = a.early; handed = handed })
 counting_after a last handed e k is updates grown = record {
   numbered = subst IsNumbered (sym grown) (numbered_push a.handed.items e k.numbered is);
-  last = λ u. last_after a.last last a.handed.items e k.last updates is u ∙ ap (count_of u) (sym grown);
+  last = λ u. last_counted a.last last a.handed.items e k.last updates is u ∙ ap (count_of u) (sym grown);
 }
 
 -- ---- members

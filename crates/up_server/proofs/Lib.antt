@@ -1,14 +1,14 @@
 pub mod UploadsLemmas
 pub mod FitsLemmas
 pub mod DecisionLemmas
+pub mod Prefixes
 pub mod HandsLemmas
 pub mod FeedLemmas
+pub mod Each
 pub mod CourseLemmas
-pub mod Numbers
 pub mod Answering
 pub mod Heads
 pub mod Taking
-pub mod Texts
 pub mod Tokens
 pub mod Writing
 pub mod TurnLemmas

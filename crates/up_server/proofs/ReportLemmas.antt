@@ -1,10 +1,10 @@
 -- The report written one lane after another.
-use Rattle.std.proofs.Common.{◌≡◌, ℕ, ◌+◌, ◌<◌, List, [], ◌∷◌, ◌++◌, length, take, drop, get_or, zero, suc, append-nil, Option, Result, Ok, Err, refl, sym, ap, ◌∙◌, subst, append_assoc, arith}
+use Rattle.std.proofs.Common.{◌≡◌, ℕ, ◌+◌, ◌<◌, List, [], ◌∷◌, ◌++◌, length, take, drop, get_or, zero, suc, append-nil, Option, refl, sym, ap, ◌∙◌, subst, append_assoc, arith}
 use Rattle.std.specs.List.{flat_map}
 use Rattle.std.specs.Io.KnownBytes.{Appends}
 use Rattle.up_server.specs.ReportText.{event_line, lane_line, lane_text, lanes_text}
 use Rattle.std.proofs.KnownBytes.{Appends-trans}
-use Rattle.up_server.specs.Response.{Writes, WritesFront}
+use Rattle.up_server.specs.Response.{WritesFront}
 use Rattle.up_server.specs.declared.feed.LaneReport.{LaneReport}
 use Rattle.up_server.proofs.Writing.{front_then, front_cut}
 
@@ -49,8 +49,3 @@ lanes_more a b c lanes i d inside before next =
     let more : lanes_text 0 (take (i + 1) lanes) ≡ lanes_text 0 (take i lanes) ++ lane_text i (get_or lanes i d) =
     ap (λ n. lanes_text 0 (take n lanes)) one ∙ lanes_text-more 0 lanes i d inside ∙ ap (λ n. lanes_text 0 (take i lanes) ++ lane_text n (get_or lanes i d)) e in
     subst (Appends a c) (sym more) (Appends-trans _ _ _ _ _ before next)
-
--- a text behind one that was written whole
-pub writes_then : {X E : Type 0} (a b c : Option (List ℕ)) (x y : List ℕ) (r : Result X E) → Appends a b x → Writes b c y r → Writes a c (x ++ y) r
-writes_then a b c x y (Ok done) first next = Appends-trans _ _ _ _ _ first next
-writes_then a b c x y (Err fault) first next = front_then a b c x y first next

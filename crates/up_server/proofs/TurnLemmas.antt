@@ -1,12 +1,15 @@
 -- What a message, and many of them, leave of a dispatcher's history.
-use Rattle.std.proofs.Common.{◌≡◌, ℕ, ◌+◌, ◌≤◌, Option, Some, None, List, [], ◌∷◌, ◌++◌, refl, sym, ap, ◌∙◌, subst, arith, append_assoc}
+use Rattle.std.proofs.Common.{◌≡◌, ℕ, zero, suc, eqb, true, add-one, inl, inr, ◌+◌, ◌≤◌, Option, Some, None, List, [], ◌∷◌, ◌++◌, refl, sym, ap, ◌∙◌, subst, arith, append_assoc, append-nil}
 use Rattle.up_events.specs.Delivery.{IsPrefix}
 use Rattle.up_events.specs.declared.event.Accepted.{Accepted}
-use Rattle.up_events.proofs.HistoryLemmas.{append_nil}
+use Rattle.up_server.proofs.Prefixes.{prefix_same, prefix_then}
 use Rattle.up_server.specs.Course.{Course, carried_out, last_after}
 use Rattle.up_server.specs.Decision.{change_of}
 use Rattle.up_server.specs.State.{State, after}
-use Rattle.up_server.specs.Turn.{GoesOn}
+use Rattle.up_server.specs.Turn.{GoesOn, IsServed, Stand, TakesTurn, Passes}
+use Rattle.std.proofs.lemmas.Bool.{eq-eqb}
+use Rattle.up_server.specs.declared.reader.Taken.{Taken}
+use Rattle.up_server.specs.declared.reader.Taken.TheVariants as Taken
 use Rattle.up_server.specs.declared.request.Request.{Request}
 use Rattle.up_server.specs.declared.request.Request.TheVariants as request
 
@@ -14,12 +17,6 @@ use Rattle.up_server.specs.declared.request.Request.TheVariants as request
 last_within : (last : ℕ) (asks : Request) → last_after last asks ≤ last + 1
 last_within last (request.Create new) = omega arith
 last_within last (request.Patch p) = omega arith
-
-pub prefix_same : (xs : List Accepted) → IsPrefix xs xs
-prefix_same xs = ([], sym (append_nil xs))
-
-prefix_then : (xs ys zs : List Accepted) → IsPrefix xs ys → IsPrefix ys zs → IsPrefix xs zs
-prefix_then xs ys zs one two = (one.0 ++ two.0, two.1 ∙ ap (λ l. l ++ two.0) one.1 ∙ append_assoc xs one.0 two.0)
 
 -- nothing happened
 pub goes_on_same : (old : Course) → GoesOn 0 old old
@@ -62,3 +59,29 @@ goes_on_refused old new asks is last = record {
   history = subst (λ (s : State). IsPrefix old.book.journal.accepted s.journal.accepted) (sym is) (prefix_same old.book.journal.accepted);
   ids = omega (arith, last, last_within old.last_id asks);
 }
+
+-- ---- turns
+
+pub no_passes : (max_size : ℕ) (stand : Stand) → Passes max_size 0 stand stand
+unfolding Passes
+no_passes max_size stand = refl
+
+pub passes_more : (max_size turns : ℕ) (old mid new : Stand) → Passes max_size turns old mid → TakesTurn max_size (eqb (turns + 1) 10000) mid new None → Passes max_size (turns + 1) old new
+unfolding Passes
+passes_more max_size turns old mid new before turn =
+    subst (λ n. Passes max_size n old new) (sym (add-one turns)) (mid, before, turn)
+
+-- the last turn ends the conversation
+last_served : (taken : Taken) (max_size : ℕ) (old new : Course) (before after : Option (List ℕ)) → IsServed taken max_size true old new before after None → ⊥
+last_served (Taken.Message m) max_size old new before after served = absurd (let closes = served.2.0 in cc)
+last_served (Taken.Fault fault bare) max_size old new before after (same, inl unread) = absurd (let ended = unread.2 in cc)
+last_served (Taken.Fault fault bare) max_size old new before after (same, inr sent) = absurd (let closes = sent.1.2.0 in cc)
+last_served Taken.End max_size old new before after served = absurd (let ended = served.2 in cc)
+
+pub passes_few : (max_size turns : ℕ) (old new : Stand) → 10000 ≤ turns → turns ≤ 10000 → Passes max_size turns old new → ⊥
+unfolding Passes
+passes_few max_size zero old new least most passes = absurd (omega arith)
+passes_few max_size (suc turns) old new least most passes =
+    let all : turns + 1 ≡ 10000 = omega arith in
+    let turn = subst (λ b. TakesTurn max_size b passes.0 new None) (eq-eqb (turns + 1) 10000 all) passes.2 in
+    last_served turn.taken max_size passes.0.course new.course passes.0.written new.written turn.is_served

@@ -2,15 +2,12 @@
 use Rattle.std.proofs.Common.{◌≡◌, ℕ, true, false, cond, Option, Some, None, Result, Ok, Err, OnOk, OnErr, List, [], ◌∷◌, refl, sym, ap, ◌∙◌}
 use Rattle.std.specs.FinMap as map
 use Rattle.std.specs.FinMap.{find, from_entries, get-from_entries, get-insert, same_map, nat_cmp-IsAntisymmetric}
-use Rattle.std.specs.Ordering.{nat_cmp, is_eq}
+use Rattle.std.specs.Ordering.{nat_cmp}
 use Rattle.std.specs.Cmp.{nat_cmp_total, eq_by_cmp_equiv}
 use Rattle.std.specs.BTreeMap.{BTreeMap, is_at, WritesThrough}
 use Rattle.std.specs.Prelude.{IsSome}
-use Rattle.std.proofs.lemmas.Bool.{false≢true}
-use Rattle.std.proofs.lemmas.Map.Lookups.{exact_unsigned}
-use Rattle.std.specs.declared.cmp.Ordering.{Ordering}
-use Rattle.std.specs.declared.cmp.Ordering.TheVariants.{Less, Equal, Greater}
 use Rattle.std.specs.Map.{lookup}
+use Rattle.up_events.proofs.JournalLemmas.{same_id}
 use Rattle.up_server.specs.Content.{Content}
 
 find_is : (es : List (ℕ × Content)) (q : ℕ) → find nat_cmp q es ≡ lookup (is_at (nat_cmp q)) es
@@ -26,14 +23,6 @@ pub one_put : (es fs : List (ℕ × Content)) (k : ℕ) (x : Content) → ((q : 
 one_put es fs k x h = same_map nat_cmp_total nat_cmp-IsAntisymmetric _ _ (λ q.
     get_at fs q ∙ h q ∙ ap (λ b. cond b (Some x) (lookup (is_at (nat_cmp q)) es)) ((eq_by_cmp_equiv nat_cmp_total).symm k q)
     ∙ sym (get-insert nat_cmp_total (from_entries es) k x q ∙ ap (cond (is_at (nat_cmp q) k) (Some x)) (get_at es q)))
-
-equal_from : (r : Ordering) → is_eq r ≡ true → r ≡ Equal
-equal_from Less e = absurd (false≢true e)
-equal_from Equal e = refl
-equal_from Greater e = absurd (false≢true e)
-
-pub same_id : (k u : ℕ) → is_at (nat_cmp k) u ≡ true → k ≡ u
-same_id k u e = exact_unsigned k u (equal_from (nat_cmp k u) e)
 
 -- from one fact at `Ok` to another
 pub on_ok : {T E : Type 0} (r : Result T E) (P Q : Type 0) → (P → Q) → OnOk r P → OnOk r Q

@@ -20,6 +20,11 @@ front_then a b c x y first next = (
   Appends-trans _ _ _ _ _ first next.2,
 )
 
+-- a text behind one that was written whole
+pub writes_then : {X E : Type 0} (a b c : Option (List ℕ)) (x y : List ℕ) (r : Result X E) → Appends a b x → Writes b c y r → Writes a c (x ++ y) r
+writes_then a b c x y (Ok done) first next = Appends-trans _ _ _ _ _ first next
+writes_then a b c x y (Err fault) first next = front_then a b c x y first next
+
 -- a front of a text is a front of a longer one
 pub front_cut : (a b : Option (List ℕ)) (x y : List ℕ) → WritesFront a b x → WritesFront a b (x ++ y)
 front_cut a b x y some = (

@@ -19,8 +19,8 @@ abbrev pub with_more : Content → List ℕ → Content
 with_more x more = record x { bytes = x.bytes ++ more }
 
 -- no more bytes than the length says
-abbrev pub IsWithin : Content → Type 0
-IsWithin x = length x.bytes ≤ x.length
+abbrev pub IsWithinLength : Content → Type 0
+IsWithinLength x = length x.bytes ≤ x.length
 
 -- there is room for so many bytes more
 abbrev pub HasRoom : ℕ → Content → Type 0

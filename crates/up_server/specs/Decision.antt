@@ -5,6 +5,7 @@ use Rattle.up_events.specs.declared.event.Accepted.{Accepted}
 use Rattle.up_events.specs.declared.event.Accepted.TheVariants.{Created, Appended}
 use Rattle.up_server.specs.Content.{Content, made_of}
 use Rattle.up_server.specs.Responses.{created, reached_offset}
+use Rattle.up_server.specs.Rows.{Row, first_that_holds}
 use Rattle.up_server.specs.State.{Contents, State, bytes_of}
 use Rattle.up_server.specs.declared.refusal.Done.{Done}
 use Rattle.up_server.specs.declared.refusal.Refusal.{Refusal}
@@ -16,22 +17,13 @@ use Rattle.up_server.specs.declared.response.Response.{Response}
 
 -- ---- refusals
 
--- a row of the table: whether it holds, and the refusal
-abbrev pub Row : Type 0
-Row = Bool × Refusal
-
--- the refusal of the first row that holds
-abbrev pub first_refusal : List Row → Option Refusal
-first_refusal [] = None
-first_refusal (row ∷ rows) = if row.0 then Some row.1 else first_refusal rows
-
 -- the offset that was sent is n
 abbrev pub is_offset : Option ℕ → ℕ → Bool
 is_offset None n = false
 is_offset (Some m) n = m == n
 
 -- the rows of a patch of an upload that is there
-abbrev pub upload_rows : Content → Patch → List Row
+abbrev pub upload_rows : Content → Patch → List (Row Refusal)
 upload_rows x p =
     (not p.media, refusal.MediaType)
     ∷ (is_none p.offset, refusal.BadOffset)
@@ -40,16 +32,16 @@ upload_rows x p =
     ∷ []
 
 -- no upload has the id, or the rows of the one that has it
-abbrev pub rows_at : Option Content → (Content → List Row) → List Row
+abbrev pub rows_at : Option Content → (Content → List (Row Refusal)) → List (Row Refusal)
 rows_at None rows = (true, refusal.NotFound) ∷ []
 rows_at (Some x) rows = rows x
 
 -- the rows of a patch
-abbrev pub patch_rows : Contents → Patch → List Row
+abbrev pub patch_rows : Contents → Patch → List (Row Refusal)
 patch_rows content p = rows_at (map.get content p.id) (λ x. upload_rows x p)
 
 -- the rows that name the request, in order
-abbrev pub rows_of : State → Request → ℕ → List Row
+abbrev pub rows_of : State → Request → ℕ → List (Row Refusal)
 rows_of s (request.Create new) id = []
 rows_of s (request.Patch p) id = patch_rows s.content p
 
@@ -85,7 +77,7 @@ unless (Some r) x = Err r
 
 -- the decision on a request
 abbrev pub decide : State → Request → ℕ → Result Outcome Refusal
-decide s request id = unless (first_refusal (rows_of s request id)) (record { response = response_to s request id; change = change_of s request id })
+decide s request id = unless (first_that_holds (rows_of s request id)) (record { response = response_to s request id; change = change_of s request id })
 
 -- response and change, or the refusal
 abbrev pub outcome_of : Result Done Refusal → Result Outcome Refusal

@@ -1,5 +1,5 @@
 -- What a lane has handed over and holds back.
-use Rattle.std.specs.Prelude.{◌≡◌, ℕ, ◌+◌, ◌<◌, List, length, slice_get, Some}
+use Rattle.std.specs.Prelude.{◌≡◌, ◌+◌, ◌==◌, Bool, List, None, position}
 use Rattle.up_events.specs.Delivery.{IsWithin, count_of}
 use Rattle.up_events.specs.declared.event.Event.{Event}
 
@@ -11,6 +11,10 @@ pub record Hands : Type 0 where
 abbrev pub AreFrom : List Event → Hands → Type 0
 AreFrom log hands = IsWithin hands.early log × IsWithin hands.handed log
 
--- the early event at i is the next of its upload
-abbrev pub IsNext : Hands → ℕ → Type 0
-IsNext hands i = (i < length hands.early) × ((e : Event) → slice_get hands.early i ≡ Some e → e.number ≡ count_of e.id hands.handed + 1)
+-- whether the event is the next of its upload
+abbrev pub is_next : Hands → Event → Bool
+is_next hands e = e.number == count_of e.id hands.handed + 1
+
+-- no early event is the next of its upload
+abbrev pub IsSettled : Hands → Type 0
+IsSettled hands = position (is_next hands) hands.early ≡ None

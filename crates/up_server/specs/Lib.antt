@@ -4,6 +4,7 @@ pub mod Refusals
 pub mod Responses
 pub mod State
 pub mod StateCode
+pub mod Rows
 pub mod Decision
 pub mod Fits
 pub mod Hands
@@ -12,9 +13,8 @@ pub mod Passage
 pub mod Course
 pub mod CourseCode
 pub mod Sound
-pub mod Each
 pub mod Digits
-pub mod Faults
+pub mod HeaderFaults
 pub mod Fields
 pub mod Places
 pub mod Table
@@ -22,7 +22,8 @@ pub mod Framing
 pub mod Message
 pub mod Reading
 pub mod Response
-pub mod WireFault
+pub mod WireFaults
 pub mod Replies
 pub mod Turn
 pub mod ReportText
+pub mod Run

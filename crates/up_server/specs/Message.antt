@@ -6,7 +6,8 @@ use Rattle.up_server.specs.declared.message.Message.{Message}
 use Rattle.up_server.specs.declared.wire_fault.WireFault.{WireFault}
 use Rattle.up_server.specs.declared.wire_fault.WireFault.TheVariants as Fault
 use Rattle.up_server.specs.declared.reader.Taken.{Taken}
-use Rattle.up_server.specs.Framing.{Field, body_length}
+use Rattle.up_server.specs.Fields.{Field}
+use Rattle.up_server.specs.Framing.{body_length}
 
 -- how many bytes a head may have
 abbrev pub max_head : ℕ

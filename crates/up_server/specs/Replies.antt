@@ -1,9 +1,9 @@
 -- What is answered where a message is refused.
 use Rattle.std.specs.Prelude.{◌≡◌, ◌⊎◌, Bool, []}
 use Rattle.up_server.specs.Responses.{answered, refused_with, method_refused_with}
-use Rattle.up_server.specs.Faults as header
-use Rattle.up_server.specs.Refusals as machine
-use Rattle.up_server.specs.WireFault as wire
+use Rattle.up_server.specs.HeaderFaults as header
+use Rattle.up_server.specs.Refusals as refused
+use Rattle.up_server.specs.WireFaults as wire
 use Rattle.up_server.specs.declared.header_fault.HeaderFault.{HeaderFault}
 use Rattle.up_server.specs.declared.header_fault.HeaderFault.TheVariants as fault
 use Rattle.up_server.specs.declared.refusal.Refusal.{Refusal}
@@ -18,8 +18,8 @@ out_of_memory = answered 503 [] []
 
 -- what is answered to a message that can't be read
 abbrev pub reply_to_wire_fault : WireFault → Response
-reply_to_wire_fault unread.BadHead = refused_with (wire.fault_status unread.BadHead) (wire.fault_text unread.BadHead)
-reply_to_wire_fault unread.ReadFailed = refused_with (wire.fault_status unread.ReadFailed) (wire.fault_text unread.ReadFailed)
+reply_to_wire_fault unread.BadHead = refused_with (wire.status_of unread.BadHead) (wire.line_of unread.BadHead)
+reply_to_wire_fault unread.ReadFailed = refused_with (wire.status_of unread.ReadFailed) (wire.line_of unread.ReadFailed)
 reply_to_wire_fault unread.NoMemory = out_of_memory
 
 -- what is answered to a message that is no request
@@ -32,11 +32,11 @@ reply_to_header_fault fault.NoMemory = out_of_memory
 
 -- what is answered to a request that is refused
 abbrev pub reply_to_refusal : Refusal → Response
-reply_to_refusal refusal.NotFound = refused_with (machine.status_of refusal.NotFound) (machine.line_of refusal.NotFound)
-reply_to_refusal refusal.MediaType = refused_with (machine.status_of refusal.MediaType) (machine.line_of refusal.MediaType)
-reply_to_refusal refusal.BadOffset = refused_with (machine.status_of refusal.BadOffset) (machine.line_of refusal.BadOffset)
-reply_to_refusal refusal.WrongOffset = refused_with (machine.status_of refusal.WrongOffset) (machine.line_of refusal.WrongOffset)
-reply_to_refusal refusal.TooMuch = refused_with (machine.status_of refusal.TooMuch) (machine.line_of refusal.TooMuch)
+reply_to_refusal refusal.NotFound = refused_with (refused.status_of refusal.NotFound) (refused.line_of refusal.NotFound)
+reply_to_refusal refusal.MediaType = refused_with (refused.status_of refusal.MediaType) (refused.line_of refusal.MediaType)
+reply_to_refusal refusal.BadOffset = refused_with (refused.status_of refusal.BadOffset) (refused.line_of refusal.BadOffset)
+reply_to_refusal refusal.WrongOffset = refused_with (refused.status_of refusal.WrongOffset) (refused.line_of refusal.WrongOffset)
+reply_to_refusal refusal.TooMuch = refused_with (refused.status_of refusal.TooMuch) (refused.line_of refusal.TooMuch)
 reply_to_refusal refusal.NoMemory = out_of_memory
 
 -- it is this response, or memory was wanting for it

@@ -1,19 +1,17 @@
 -- The bytes of a response (RFC 9112, sections 4 to 6).
-use Rattle.std.specs.Prelude.{◌≡◌, ℕ, Bool, ◌&&◌, ◌||◌, List, [], ◌∷◌, ◌++◌, length, flat_map, Option, Result, Ok, Err, if◌then◌else◌, nat_le, nat_lt, ◌==◌, codes, decimal, unwrap_or}
+use Rattle.std.specs.Prelude.{ℕ, Bool, ◌&&◌, ◌||◌, List, [], ◌∷◌, ◌++◌, length, flat_map, Option, Result, Ok, Err, if◌then◌else◌, nat_le, nat_lt, ◌==◌, codes, decimal, unwrap_or}
 use Rattle.std.specs.Io.KnownBytes.{Appends}
+use Rattle.std.specs.List.{concat}
 use Rattle.std.specs.Borrow.{Bor}
 use Rattle.httparse.specs.Ascii.{crlf_bytes}
 use Rattle.http.specs.StatusCode.{reason_phrase}
 use Rattle.up_server.specs.declared.response.Response.{Response}
-use Rattle.up_server.specs.Framing.{Field}
-
--- the text begins with the front
-abbrev pub IsFront : List ℕ → List ℕ → Type 0
-IsFront front text = (rest : List ℕ) × (text ≡ front ++ rest)
+use Rattle.up_events.specs.Delivery.{IsPrefix}
+use Rattle.up_server.specs.Fields.{Field}
 
 -- some front of the text was written, or all of it
 abbrev pub WritesFront : Option (List ℕ) → Option (List ℕ) → List ℕ → Type 0
-WritesFront before after text = (front : List ℕ) × IsFront front text × Appends before after front
+WritesFront before after text = (front : List ℕ) × IsPrefix front text × Appends before after front
 
 -- the text was written, and at an error some front of it
 abbrev pub Writes : {X E : Type 0} → Option (List ℕ) → Option (List ℕ) → List ℕ → Result X E → Type 0
@@ -28,23 +26,19 @@ joined pieces = flat_map (λ piece. piece.now) pieces
 abbrev pub phrase : ℕ → List ℕ
 phrase status = if nat_le 100 status && nat_lt status 1000 then unwrap_or (reason_phrase status) [] else []
 
--- texts joined
-abbrev pub texts : List (List ℕ) → List ℕ
-texts all = flat_map (λ text. text) all
-
 -- the status line and the lines that every response has
 abbrev pub start_text : ℕ → List ℕ
 start_text status =
-    texts (codes "HTTP/1.1 " ∷ decimal status ∷ codes " " ∷ phrase status ∷ codes "\r\nTus-Resumable: 1.0.0\r\nCache-Control: no-store\r\n" ∷ [])
+    concat (codes "HTTP/1.1 " ∷ decimal status ∷ codes " " ∷ phrase status ∷ codes "\r\nTus-Resumable: 1.0.0\r\nCache-Control: no-store\r\n" ∷ [])
 
 -- a field and its line end
 abbrev pub field_line : Field → List ℕ
-field_line field = texts (field.0 ∷ codes ": " ∷ field.1 ∷ crlf_bytes ∷ [])
+field_line field = concat (field.0 ∷ codes ": " ∷ field.1 ∷ crlf_bytes ∷ [])
 
 -- the line that gives the length of the body; none where no body is meant
 abbrev pub length_line : Bool → Response → List ℕ
 length_line bare r =
-    if bare || r.status == 204 then [] else texts (codes "Content-Length: " ∷ decimal (length r.body) ∷ crlf_bytes ∷ [])
+    if bare || r.status == 204 then [] else concat (codes "Content-Length: " ∷ decimal (length r.body) ∷ crlf_bytes ∷ [])
 
 -- the line that says that the conversation closes
 abbrev pub close_line : Bool → List ℕ
@@ -56,7 +50,7 @@ shown bare body = if bare then [] else body
 
 -- that line, the empty line and the body
 abbrev pub end_text : Bool → Bool → List ℕ → List ℕ
-end_text bare close body = texts (close_line close ∷ crlf_bytes ∷ shown bare body ∷ [])
+end_text bare close body = concat (close_line close ∷ crlf_bytes ∷ shown bare body ∷ [])
 
 -- a response as it is written
 abbrev pub response_text : Response → Bool → Bool → List ℕ

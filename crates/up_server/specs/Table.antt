@@ -15,16 +15,8 @@ use Rattle.up_server.specs.declared.place.Place.{Place}
 use Rattle.up_server.specs.declared.place.Place.TheVariants.{Creation, Upload, Nowhere}
 use Rattle.up_server.specs.Digits.{is_digits}
 use Rattle.up_server.specs.Fields.{Field, same_name, first_value}
+use Rattle.up_server.specs.Rows.{Row, first_that_holds}
 use Rattle.up_server.specs.Places.{IsAt, is_creation, is_upload, is_nowhere}
-
--- a check: whether it fails, and its fault
-abbrev pub Row : Type 0
-Row = Bool × HeaderFault
-
--- the fault of the first check that fails
-abbrev pub first_fault : List Row → Option HeaderFault
-first_fault [] = None
-first_fault (row ∷ rows) = if row.0 then Some row.1 else first_fault rows
 
 -- whether the method is the one of the place, with regard to case
 abbrev pub is_served : List ℕ → Place → Bool
@@ -44,8 +36,8 @@ has_length fields = is_digits (length_text fields) && not (is_some (first_value 
 abbrev pub length_in : List Field → ℕ
 length_in fields = digits_value 10 (length_text fields)
 
--- the checks, in their order
-abbrev pub checks : Message → ℕ → Place → List Row
+-- the checks, in their order: whether each fails, and its fault
+abbrev pub checks : Message → ℕ → Place → List (Row HeaderFault)
 checks m max_size at =
     (is_nowhere at, NoSuchPath)
     ∷ (not (is_served m.method at), Method (is_upload at))
@@ -91,13 +83,13 @@ Then None result more = more
 
 -- what the checks say of a message whose target leads there
 abbrev pub IsAnswerAt : Message → ℕ → Place → Result Request HeaderFault → Type 0
-IsAnswerAt m max_size at result = Then (first_fault (checks m max_size at)) result (Asks m at result)
+IsAnswerAt m max_size at result = Then (first_that_holds (checks m max_size at)) result (Asks m at result)
 
 -- what the checks say of a message; want of memory may stand in its place
 abbrev pub IsAnswer : Message → ℕ → Result Request HeaderFault → Type 0
 IsAnswer m max_size result = (result ≡ Err NoMemory) ⊎ ((at : Place) × IsAt m.target at × IsAnswerAt m max_size at result)
 
 -- an upload that is to be made is no longer than that
-abbrev pub IsBounded : ℕ → Request → Type 0
-IsBounded max_size (Create new) = new.length ≤ max_size
-IsBounded max_size (Append patch) = Unit {0}
+abbrev pub FitsWithin : ℕ → Request → Type 0
+FitsWithin max_size (Create new) = new.length ≤ max_size
+FitsWithin max_size (Append patch) = Unit {0}

@@ -4,11 +4,12 @@ ghost use Rattle.std.specs.Option.{option_copied};
 ghost use Rattle.std.specs.FinMap as map;
 ghost use Rattle.up_events.specs.History.{is_known, CanFollow};
 
+use crate::answer;
+use crate::patch_checks::check_patch;
 use crate::refusal::{Done, Refusal};
 use crate::request::{NewUpload, Patch, Request};
 use crate::upload::Upload;
 use crate::uploads::Uploads;
-use crate::{answer, checks};
 use std::alloc::Global;
 use std::marker::Model;
 use up_events::{Accepted, Id, Journal, Kind, NoMemory};
@@ -98,7 +99,7 @@ impl Book {
         ensures added { IfOk result (λ done. AreAdded self.old.journal done.change done.added) }
         ensures err { OnErr result (self.new ≡ self.old) }
     {
-        let offset = checks::check_patch(&self.uploads, &patch)?;
+        let offset = check_patch(&self.uploads, &patch)?;
         let response = answer::to_patch(alloc, offset)?;
         let id = patch.id;
         let count = patch.bytes.len() as u64;

@@ -1,7 +1,7 @@
 //! One conversation: each message is read, decided and answered before the next.
 ghost use Rattle.std.specs.Prelude.{◌≡◌, ◌+◌, ◌<◌, ◌≤◌, ◌^◌};
 ghost use Rattle.up_server.specs.Response.{response_text};
-ghost use Rattle.up_server.specs.Turn.{IsTurn, GoesOn, Sends};
+ghost use Rattle.up_server.specs.Turn.{IsTurn, Converses, GoesOn, Sends, TakesTurn};
 
 use crate::dispatcher::Dispatcher;
 use crate::header_checks::request_of;
@@ -70,17 +70,19 @@ fn take_turn<R: BufRead, W: Write>(
 ) -> Option<Ended>
     requires small { max_size ≤ 2 ^ 30 }
     requires room { dispatcher.old.last_id + 1 < 2 ^ 64 }
-    ensures { GoesOn 1 dispatcher.old dispatcher.new }
+    ensures turn { TakesTurn max_size is_last (record { course = dispatcher.old; unread = R.remaining reader.old; written = W.contents writer.old })
+        (record { course = dispatcher.new; unread = R.remaining reader.new; written = W.contents writer.new }) result }
+    ensures goes_on { GoesOn 1 dispatcher.old dispatcher.new }
 {
     match read_message(alloc, reader, max_size) {
         Taken::End => Some(Ended::Closed),
-        Taken::Fault { fault, bare } => {
-            if fault == WireFault::ReadFailed {
-                return Some(Ended::ReadFailed);
+        Taken::Fault { fault, bare } => match fault {
+            WireFault::ReadFailed => Some(Ended::ReadFailed),
+            _ => {
+                let response = reply_to_wire_fault(alloc, fault);
+                send(writer, &response, bare, true)
             }
-            let response = reply_to_wire_fault(alloc, fault);
-            send(writer, &response, bare, true)
-        }
+        },
         Taken::Message(message) => {
             let bare = message.bare;
             let response = answer_to(alloc, dispatcher, message, max_size);
@@ -99,7 +101,9 @@ pub fn converse<R: BufRead, W: Write>(
 ) -> Ended
     requires small { max_size ≤ 2 ^ 30 }
     requires room { dispatcher.old.last_id + 10000 < 2 ^ 64 }
-    ensures { GoesOn 10000 dispatcher.old dispatcher.new }
+    ensures turns { Converses max_size (record { course = dispatcher.old; unread = R.remaining reader.old; written = W.contents writer.old })
+        (record { course = dispatcher.new; unread = R.remaining reader.new; written = W.contents writer.new }) result }
+    ensures goes_on { GoesOn 10000 dispatcher.old dispatcher.new }
 {
     for turn in 0..MOST_MESSAGES {
         let is_last = turn + 1 == MOST_MESSAGES;

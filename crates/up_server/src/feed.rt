@@ -1,5 +1,5 @@
 //! A lane with its queue: events go in, and come out in order or not at all.
-ghost use Rattle.std.specs.Prelude.{◌≡◌, [], ◌<◌, ◌+◌, true, false, List, IfOk};
+ghost use Rattle.std.specs.Prelude.{◌≡◌, [], ◌<◌, ◌+◌, ◌-◌, ◌^◌, min, true, false, List, IfOk};
 ghost use Rattle.up_events.specs.declared.event.Event.{Event as AnEvent};
 ghost use Rattle.up_events.specs.Delivery.{IsWithin};
 
@@ -107,6 +107,7 @@ impl Feed {
     fn try_put(&mut self, item: Item) -> bool
         ensures from { (log : List AnEvent) → IsFrom log self.old → IsItemFrom log item → IsFrom log self.new }
         ensures full { result ≡ false → self.new.unread ≡ self.old.unread }
+        ensures put { result ≡ true → self.new.unread ≡ min (self.old.unread + 1) (2 ^ 64 - 1) }
     {
         if self.queue.put(item).is_err() {
             return false;
@@ -175,3 +176,6 @@ impl Feed {
         }
     }
 }
+
+#[cfg(test)]
+mod tests;

@@ -1,10 +1,10 @@
 //! How long a message's body is.
-ghost use Rattle.std.specs.Prelude.{◌≡◌, ◌^◌, ◌≤◌, IsTrue, MatchOption};
-ghost use Rattle.std.specs.Str.Parse.{digits_value};
-ghost use Rattle.std.specs.List.{list_all};
-ghost use Rattle.std.specs.Char.{is_ascii_digit};
-ghost use Rattle.up_server.specs.Framing.{same_name, values, is_digits, sized, body_length, IsOneOf};
+ghost use Rattle.std.specs.Prelude.{◌≡◌};
+ghost use Rattle.up_server.specs.Fields.{values};
+ghost use Rattle.up_server.specs.Framing.{sized, body_length, IsOneOf};
 
+use crate::digits::{is_digits, number};
+use crate::fields::same_name;
 use crate::message::Field;
 
 /// The values of the fields of one name.
@@ -45,12 +45,6 @@ fn find_value<'a>(fields: &'a [Field], name: &[u8]) -> Values<'a>
     found
 }
 
-fn same_name(a: &[u8], b: &[u8]) -> bool
-    ensures { result ≡ same_name a.now b.now }
-{
-    a.eq_ignore_ascii_case(b)
-}
-
 fn sized(max_body: u64, value: &[u8]) -> Option<u64>
     ensures { result ≡ sized max_body value.now }
 {
@@ -61,29 +55,4 @@ fn sized(max_body: u64, value: &[u8]) -> Option<u64>
         Some(size) if size <= max_body => Some(size),
         _ => None,
     }
-}
-
-fn is_digits(value: &[u8]) -> bool
-    ensures { result ≡ is_digits value.now }
-{
-    !value.is_empty() && are_digits(value)
-}
-
-fn are_digits(value: &[u8]) -> bool
-    ensures { result ≡ list_all is_ascii_digit value.now }
-{
-    value.iter().all(|b| b.is_ascii_digit())
-}
-
-/// The number of these digits, if it is below 2^64.
-fn number(digits: &[u8]) -> Option<u64>
-    requires { IsTrue (is_digits digits.now) }
-    ensures { MatchOption result (2 ^ 64 ≤ digits_value 10 digits.now)
-        (λ number. number ≡ digits_value 10 digits.now) }
-{
-    let mut number: u64 = 0;
-    for b in digits {
-        number = number.checked_mul(10)?.checked_add(u64::from(*b - b'0'))?;
-    }
-    Some(number)
 }

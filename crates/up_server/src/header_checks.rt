@@ -1,6 +1,6 @@
 //! The checks that turn a message into a request.
 ghost use Rattle.std.specs.Prelude.{◌≡◌, ℕ, IfOk};
-ghost use Rattle.up_server.specs.Table.{IsAnswer, IsAnswerAt, IsBounded, before_semicolon, is_media, offset_of, patch_of, trim_end};
+ghost use Rattle.up_server.specs.Table.{IsAnswer, IsAnswerAt, FitsWithin, before_semicolon, is_media, offset_of, patch_of, trim_end};
 
 use crate::digits::{is_digits, number};
 use crate::fields::{first_value, same_name};
@@ -17,7 +17,7 @@ use up_events::Id;
 /// the method, and for a creation the length and its bound. Of a repeated field the first counts.
 pub fn request_of(alloc: Global, message: Message, max_size: u64) -> Result<Request, HeaderFault>
     ensures answer { IsAnswer message max_size result }
-    ensures bounded { IfOk result (IsBounded max_size) }
+    ensures bounded { IfOk result (FitsWithin max_size) }
 {
     let Ok(place) = place_of(alloc, message.target.as_slice()) else {
         return Err(HeaderFault::NoMemory);
@@ -32,7 +32,7 @@ pub fn request_of(alloc: Global, message: Message, max_size: u64) -> Result<Requ
 /// What a message to the creation URL asks for.
 fn create(message: &Message, max_size: u64) -> Result<Request, HeaderFault>
     ensures answer { IsAnswerAt message.now max_size Place.Creation result }
-    ensures bounded { IfOk result (IsBounded max_size) }
+    ensures bounded { IfOk result (FitsWithin max_size) }
 {
     if message.method.as_str() != "POST" {
         return Err(HeaderFault::Method { of_upload: false });
@@ -51,7 +51,7 @@ fn create(message: &Message, max_size: u64) -> Result<Request, HeaderFault>
 /// What a message to an upload asks for.
 fn patch(id: Id, message: Message) -> Result<Request, HeaderFault>
     ensures answer { (max_size : ℕ) → IsAnswerAt message max_size (Place.Upload id) result }
-    ensures bounded { (max_size : ℕ) → IfOk result (IsBounded max_size) }
+    ensures bounded { (max_size : ℕ) → IfOk result (FitsWithin max_size) }
 {
     if message.method.as_str() != "PATCH" {
         return Err(HeaderFault::Method { of_upload: true });

@@ -28,7 +28,7 @@ pub enum HeaderFault {
 }
 
 impl HeaderFault {
-    ghost use Rattle.up_server.specs.Faults.{status_of, line_of};
+    ghost use Rattle.up_server.specs.HeaderFaults.{status_of, line_of};
 
     /// The status code of the answer (RFC 9110, section 15).
     pub fn status(&self) -> u16
@@ -43,7 +43,7 @@ impl HeaderFault {
         }
     }
 
-    /// The body of the answer: one line, with the number of the fault and its name.
+    /// The body of the answer: a line with the number of the fault and its name.
     pub fn text(&self) -> &'static str
         ensures { result.now ≡ line_of self.now }
     {

@@ -1,5 +1,5 @@
 //! A lane hands events over, each upload's own in the order of their numbers.
-ghost use Rattle.std.specs.Prelude.{◌≡◌, ℕ, ◌+◌, ◌<◌, [], ◌∷◌, ◌++◌, List, length, Contains, IfOk, OnOk, OnErr, IfSome, slice_get, Some, vec_len, vec_capacity};
+ghost use Rattle.std.specs.Prelude.{◌≡◌, ◌+◌, ◌<◌, ◌≤◌, true, false, [], ◌∷◌, ◌++◌, List, Contains, IfOk, OnOk, OnErr, position};
 ghost use Rattle.up_events.specs.declared.event.Event.{Event as AnEvent};
 
 use std::alloc::Global;
@@ -31,17 +31,9 @@ impl Model for Lane {
     ghost invariant = { IsCounting };
 }
 
-/// Pushes into room that is there.
-fn push_within<T>(values: &mut Vec<T>, value: T)
-    requires { vec_len values.old < vec_capacity values.old }
-    ensures { values.new.items ≡ values.old.items ++ value ∷ [] }
-{
-    values.push(value).unwrap()
-}
-
 impl Lane {
-    ghost use Rattle.up_events.specs.Delivery.{count_of, IsNumbered};
-    ghost use Rattle.up_server.specs.Hands.{Hands, AreFrom, IsNext};
+    ghost use Rattle.up_events.specs.Delivery.{count_of, IsNumbered, IsPrefix};
+    ghost use Rattle.up_server.specs.Hands.{Hands, AreFrom, IsSettled, is_next};
 
     /// A lane that has handed over nothing.
     pub fn new(alloc: Global) -> Self
@@ -70,25 +62,31 @@ impl Lane {
     {
         self.handed.reserve(1)?;
         self.last.insert(event.id, event.number)?;
-        push_within(&mut self.handed, event);
+        self.handed.push_reserved(event);
         Ok(())
     }
 
-    /// The place of an early event whose turn has come.
-    fn ready(&self) -> Option<usize>
-        ensures { IfSome result (λ i. IsNext self.now i) }
+    /// Whether it is the next event of its upload.
+    fn is_next(&self, event: &Event) -> bool
+        ensures { result ≡ is_next self.now event.now }
     {
-        for (i, event) in self.early.iter().enumerate() {
-            let last = self.last_of(event.id);
-            if event.number > last && event.number - last == 1 {
-                return Some(i);
-            }
+        match event.number.checked_sub(self.last_of(event.id)) {
+            Some(ahead) => ahead == 1,
+            None => false,
         }
-        None
+    }
+
+    /// The place of the first early event whose turn has come.
+    fn ready(&self) -> Option<usize>
+        ensures { result ≡ position (is_next self.now) self.now.early }
+    {
+        self.early.iter().position(|event| self.is_next(event))
     }
 
     /// Hands over the early events whose turn has come.
     fn hand_early(&mut self) -> Result<(), NoMemory>
+        ensures grows { IsPrefix self.old.handed self.new.handed }
+        ensures settled { OnOk result (IsSettled self.new) }
         ensures from { (log : List AnEvent) → AreFrom log self.old → AreFrom log self.new }
         ensures numbered { IsNumbered self.old.handed → IsNumbered self.new.handed }
     {
@@ -100,8 +98,14 @@ impl Lane {
         Ok(())
     }
 
-    /// Takes an event. A repeat is dropped, an early one is held back. True where it was handed over.
+    /// Takes an event. A repeat is dropped, an early one is held back. True where it was handed over, with the early
+    /// ones whose turn came by that.
     pub fn offer(&mut self, event: Event) -> Result<bool, NoMemory>
+        ensures repeat { event.number ≤ count_of event.id self.old.handed → (result ≡ Ok false) × (self.new ≡ self.old) }
+        ensures early { count_of event.id self.old.handed + 1 < event.number → IfOk result (λ handed.
+            (handed ≡ false) × (self.new ≡ record self.old { early = self.old.early ++ event ∷ [] })) }
+        ensures next { event.number ≡ count_of event.id self.old.handed + 1 → IfOk result (λ handed.
+            (handed ≡ true) × IsPrefix (self.old.handed ++ event ∷ []) self.new.handed × IsSettled self.new) }
         ensures from { (log : List AnEvent) → AreFrom log self.old → Contains log event → AreFrom log self.new }
         ensures numbered { IsNumbered self.new.handed }
     {

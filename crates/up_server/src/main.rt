@@ -5,12 +5,10 @@
 mod answer;
 mod body;
 mod book;
-mod checks;
 mod command_line;
 mod conversation;
 mod digits;
 mod dispatcher;
-mod fault;
 mod feed;
 mod fields;
 mod framing;
@@ -19,6 +17,7 @@ mod header_checks;
 mod header_fault;
 mod lane;
 mod message;
+mod patch_checks;
 mod place;
 mod queue;
 mod reader;
@@ -29,6 +28,7 @@ mod report;
 mod request;
 mod response;
 mod sequence;
+mod server_fault;
 mod settings;
 mod upload;
 mod uploads;
@@ -37,7 +37,7 @@ mod wire_fault;
 mod wire_tests;
 
 use command_line::{WordsFault, words};
-use fault::ServerFault;
+use server_fault::ServerFault;
 use settings::Words;
 use std::io::{self, BufReader, BufWriter};
 use std::process::ExitCode;
@@ -49,9 +49,22 @@ fn serve(rt: &HostRuntime, words: &Words) -> io::Result<Result<(), ServerFault>>
     Ok(replay::replay(rt.alloc(), &words.settings, &mut reader, &mut writer))
 }
 
+/// The words behind the program's name.
+fn given(rt: &HostRuntime) -> Result<Vec<String>, WordsFault> {
+    let Ok(all) = std::env::args(rt) else {
+        return Err(WordsFault::Memory);
+    };
+    all.skip(1)
+        .collect(rt.alloc())
+        .map_err(|_| WordsFault::Memory)
+}
+
 fn main(rt: HostRuntime) -> io::Result<ExitCode> {
-    let given: Vec<String> = std::env::args(&rt)?.skip(1).collect(rt.alloc())?;
-    match words(rt.alloc(), given) {
+    let found = match given(&rt) {
+        Ok(list) => words(rt.alloc(), list),
+        Err(fault) => Err(fault),
+    };
+    match found {
         Ok(words) => match serve(&rt, &words).unwrap_or(Err(ServerFault::Memory)) {
             Ok(()) => Ok(ExitCode::SUCCESS),
             Err(fault) => {

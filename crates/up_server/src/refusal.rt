@@ -40,7 +40,7 @@ impl From<NoMemory> for Refusal {
 impl Refusal {
     ghost use Rattle.up_server.specs.Refusals.{status_of, line_of};
 
-    /// The status code of the response (RFC 9110, section 15).
+    /// The status code of the answer (RFC 9110, section 15).
     pub fn status(&self) -> u16
         ensures { result ≡ status_of self.now }
     {
@@ -54,7 +54,7 @@ impl Refusal {
         }
     }
 
-    /// The body of the response: a line with the refusal's number and name.
+    /// The body of the answer: a line with the number of the refusal and its name.
     pub fn text(&self) -> &'static str
         ensures { result.now ≡ line_of self.now }
     {

@@ -1,12 +1,13 @@
 //! A run of the server over one input.
-ghost use Rattle.std.specs.Prelude.{◌≡◌, IfOk, All, length};
-ghost use Rattle.up_events.specs.Delivery.{IsDelivered};
+ghost use Rattle.std.specs.Prelude.{◌≡◌, ◌⊎◌, ℕ, List, Option, IfOk};
+ghost use Rattle.up_server.specs.Run.{IsRun, IsReported, any_stopped, is_stopped};
+ghost use Rattle.up_server.specs.declared.replay.Served.{Served};
 
 use crate::conversation::{Ended, converse};
 use crate::dispatcher::{Dispatcher, Report};
-use crate::fault::ServerFault;
-use crate::feed::How;
+use crate::feed::{How, LaneReport};
 use crate::report::write_report;
+use crate::server_fault::ServerFault;
 use crate::settings::Settings;
 use std::alloc::Global;
 use std::io::{BufRead, Write};
@@ -26,13 +27,44 @@ fn run<R: BufRead, W: Write>(
     reader: &mut R,
     writer: &mut W,
 ) -> Result<Served, NoMemory>
-    ensures lanes { IfOk result (λ served. length served.report.lanes.items ≡ settings.now.lanes) }
-    ensures delivered { IfOk result (λ served. All (λ lane. IsDelivered served.report.accepted.items lane.handed.items) served.report.lanes.items) }
+    ensures { IfOk result (λ served. IsRun settings.now served (R.remaining reader.old) (W.contents writer.old) (R.remaining reader.new) (W.contents writer.new)) }
 {
     let mut dispatcher = Dispatcher::new(alloc, settings.lanes, settings.capacity)?;
     let ended = converse(alloc, &mut dispatcher, settings.max_size, reader, writer);
     let report = dispatcher.finish(alloc)?;
     Ok(Served { report, ended })
+}
+
+/// Whether the lane stopped before its end came.
+fn is_stopped(lane: &LaneReport) -> bool
+    ensures { result ≡ is_stopped lane.now.how }
+{
+    matches!(lane.how, How::Stopped)
+}
+
+/// Whether any lane did.
+fn any_stopped(lanes: &[LaneReport]) -> bool
+    ensures { result ≡ any_stopped lanes.now }
+{
+    lanes.iter().any(|lane| is_stopped(lane))
+}
+
+/// Writes the report behind the replies, where these were written, and tells the first thing that went wrong.
+fn tell<W: Write>(writer: &mut W, served: &Served) -> Result<(), ServerFault>
+    ensures { IsReported served.now (W.contents writer.old) (W.contents writer.new) result }
+{
+    match served.ended {
+        Ended::WriteFailed => Err(ServerFault::Write),
+        Ended::ReadFailed => match write_report(writer, &served.report) {
+            Ok(()) => Err(ServerFault::Read),
+            Err(_) => Err(ServerFault::Write),
+        },
+        Ended::Closed => match write_report(writer, &served.report) {
+            Ok(()) if any_stopped(served.report.lanes.as_slice()) => Err(ServerFault::Stopped),
+            Ok(()) => Ok(()),
+            Err(_) => Err(ServerFault::Write),
+        },
+    }
 }
 
 /// Serves the messages of `reader` as one conversation, with ids counted from 1, writes the replies to `writer`, ends the
@@ -43,18 +75,16 @@ pub fn replay<R: BufRead, W: Write>(
     settings: &Settings,
     reader: &mut R,
     writer: &mut W,
-) -> Result<(), ServerFault> {
-    let Ok(run) = run(alloc, settings, reader, writer) else {
+) -> Result<(), ServerFault>
+    ensures { (result ≡ Err ServerFault.Memory) ⊎ ((served : Served) × (written : Option (List ℕ))
+        × IsRun settings.now served (R.remaining reader.old) (W.contents writer.old) (R.remaining reader.new) written
+        × IsReported served written (W.contents writer.new) result) }
+{
+    let Ok(served) = run(alloc, settings, reader, writer) else {
         return Err(ServerFault::Memory);
     };
-    if run.ended == Ended::WriteFailed || write_report(writer, &run.report).is_err() {
-        return Err(ServerFault::Write);
-    }
-    if run.ended == Ended::ReadFailed {
-        return Err(ServerFault::Read);
-    }
-    if run.report.lanes.iter().any(|lane| lane.how == How::Stopped) {
-        return Err(ServerFault::Stopped);
-    }
-    Ok(())
+    tell(writer, &served)
 }
+
+#[cfg(test)]
+mod tests;

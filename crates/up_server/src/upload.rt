@@ -15,7 +15,7 @@ pub struct Upload {
 }
 
 impl Model for Upload {
-    ghost use Rattle.up_server.specs.Content.{Content, content_code, IsWithin};
+    ghost use Rattle.up_server.specs.Content.{Content, content_code, IsWithinLength};
 
     ghost Value = { Content };
 
@@ -23,7 +23,7 @@ impl Model for Upload {
 
     ghost view = { λ a. record { kind = a.kind; length = a.length; bytes = a.bytes.items } };
 
-    ghost invariant = { λ a. IsWithin (record { kind = a.kind; length = a.length; bytes = a.bytes.items }) };
+    ghost invariant = { λ a. IsWithinLength (record { kind = a.kind; length = a.length; bytes = a.bytes.items }) };
 }
 
 /// Makes room for so many bytes more: twice the room that there was, if the length allows that.
@@ -45,7 +45,7 @@ fn grow(bytes: &mut Vec<u8>, count: usize, length: u64) -> Result<(), AllocError
 }
 
 impl Upload {
-    ghost use Rattle.up_server.specs.Content.{made_of, with_more, IsWithin, HasRoom};
+    ghost use Rattle.up_server.specs.Content.{made_of, with_more, IsWithinLength, HasRoom};
     ghost use Rattle.up_events.specs.History.{CanFollow};
     ghost use Rattle.up_events.specs.Records.{noted, ArePlaces};
     ghost use Rattle.up_events.specs.declared.event.Accepted.TheVariants.{Appended};
@@ -78,7 +78,7 @@ impl Upload {
     /// The bytes that have come so far, no more than the length says.
     pub fn bytes(&self) -> &[u8]
         ensures value { result.now ≡ self.now.bytes }
-        ensures within { IsWithin self.now }
+        ensures within { IsWithinLength self.now }
     {
         self.bytes.as_slice()
     }

@@ -1,6 +1,5 @@
 //! Why no message was read.
 ghost use Rattle.std.specs.Prelude.{◌≡◌};
-ghost use Rattle.up_server.specs.WireFault.{fault_status, fault_text};
 
 use thiserror::Error;
 
@@ -20,10 +19,12 @@ pub enum WireFault {
 }
 
 impl WireFault {
-    /// The status of the answer (RFC 9110, section 15). `ReadFailed` is never answered, and has that of
+    ghost use Rattle.up_server.specs.WireFaults.{status_of, line_of};
+
+    /// The status code of the answer (RFC 9110, section 15). `ReadFailed` is never answered, and has that of
     /// `BadHead`.
     pub fn status(&self) -> u16
-        ensures { result ≡ fault_status self.now }
+        ensures { result ≡ status_of self.now }
     {
         match self {
             WireFault::BadHead | WireFault::ReadFailed => 400,
@@ -31,9 +32,9 @@ impl WireFault {
         }
     }
 
-    /// The body of the answer: the fault's number and name, and a line end.
+    /// The body of the answer: a line with the number of the fault and its name.
     pub fn text(&self) -> &'static str
-        ensures { result.now ≡ fault_text self.now }
+        ensures { result.now ≡ line_of self.now }
     {
         match self {
             WireFault::BadHead => "1 BadHead\n",

@@ -1,5 +1,6 @@
 use Rattle.std.proofs.Common.{take}
-use Rattle.up_server.specs.Framing.{values, IsOneOf}
+use Rattle.up_server.specs.Fields.{values}
+use Rattle.up_server.specs.Framing.{IsOneOf}
 use Rattle.up_server.proofs.framing.find_value.Given as goal
 
 abbrev pub invariant-loop-field : goal.invariant-loop-field

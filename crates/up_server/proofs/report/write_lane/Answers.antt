@@ -2,8 +2,7 @@ use Rattle.std.proofs.Common.{sym, subst}
 use Rattle.std.specs.List.{flat_map}
 use Rattle.up_server.specs.ReportText.{event_line, lane_line, lane_text}
 use Rattle.up_server.specs.Response.{Writes}
-use Rattle.up_server.proofs.ReportLemmas.{writes_then}
-use Rattle.up_server.proofs.Writing.{front_cut, writes_err}
+use Rattle.up_server.proofs.Writing.{front_cut, writes_err, writes_then}
 use Rattle.up_server.proofs.report.write_lane.Goals as goal
 
 pub returns-in_err-write_lane_line : goal.returns-in_err-write_lane_line

@@ -2,7 +2,8 @@ use Rattle.std.proofs.Common.{◌≡◌, [], ◌∷◌, ap, sym, ◌∙◌}
 use Rattle.std.specs.Prelude.{codes}
 use Rattle.std.proofs.lemmas.Bool.{cond-true, cond-false}
 use Rattle.httparse.specs.Ascii.{crlf_bytes}
-use Rattle.up_server.specs.Response.{texts, close_line, shown, end_text}
+use Rattle.std.specs.List.{concat}
+use Rattle.up_server.specs.Response.{close_line, shown, end_text}
 use Rattle.up_server.proofs.Writing.{writes_as}
 use Rattle.up_server.proofs.response.write_end.Goals.{then-close, else-close, then-bare, else-bare}
 use Rattle.up_server.proofs.response.write_end.Goals as goal
@@ -19,7 +20,7 @@ returns g c =
       | else-bare w ↦ ap (λ s. s.now) w.sent-is ∙ sym (cond-false c.args.bare [] c.args.body.now w.if-bare.false)
     ] in
     writes_as _ _
-    (texts (c.if-close.closing.now ∷ crlf_bytes ∷ c.if-bare.sent.now ∷ []))
+    (concat (c.if-close.closing.now ∷ crlf_bytes ∷ c.if-bare.sent.now ∷ []))
     (end_text c.args.bare c.args.close c.args.body.now) c.write_pieces.result
-    (λ i. texts (closing i ∷ crlf_bytes ∷ sent i ∷ []))
+    (λ i. concat (closing i ∷ crlf_bytes ∷ sent i ∷ []))
     c.write_pieces.ensures

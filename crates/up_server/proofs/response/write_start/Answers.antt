@@ -1,6 +1,7 @@
 use Rattle.std.proofs.Common.{◌≡◌, [], ◌∷◌, ◌∙◌}
 use Rattle.std.specs.Prelude.{codes, decimal}
-use Rattle.up_server.specs.Response.{texts, phrase, start_text}
+use Rattle.std.specs.List.{concat}
+use Rattle.up_server.specs.Response.{phrase, start_text}
 use Rattle.up_server.proofs.Writing.{writes_as}
 use Rattle.up_server.proofs.response.write_start.Goals as goal
 
@@ -10,7 +11,7 @@ returns g c =
     let digits : c.as_bytes.result.now ≡ decimal status = c.as_bytes.ensures.value ∙ c.format.ensures.text in
     let reason : c.as_bytes-2.result.now ≡ phrase status = c.as_bytes-2.ensures.value ∙ c.phrase.ensures in
     writes_as _ _
-    (texts (codes "HTTP/1.1 " ∷ c.as_bytes.result.now ∷ codes " " ∷ c.as_bytes-2.result.now ∷ codes "\r\nTus-Resumable: 1.0.0\r\nCache-Control: no-store\r\n" ∷ []))
+    (concat (codes "HTTP/1.1 " ∷ c.as_bytes.result.now ∷ codes " " ∷ c.as_bytes-2.result.now ∷ codes "\r\nTus-Resumable: 1.0.0\r\nCache-Control: no-store\r\n" ∷ []))
     (start_text status) c.write_pieces.result
-    (λ i. texts (codes "HTTP/1.1 " ∷ digits i ∷ codes " " ∷ reason i ∷ codes "\r\nTus-Resumable: 1.0.0\r\nCache-Control: no-store\r\n" ∷ []))
+    (λ i. concat (codes "HTTP/1.1 " ∷ digits i ∷ codes " " ∷ reason i ∷ codes "\r\nTus-Resumable: 1.0.0\r\nCache-Control: no-store\r\n" ∷ []))
     c.write_pieces.ensures

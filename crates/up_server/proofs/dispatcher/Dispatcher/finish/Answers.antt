@@ -5,7 +5,7 @@ use Rattle.up_events.specs.Records.{Records}
 use Rattle.up_server.specs.declared.feed.LaneReport.{LaneReport}
 use Rattle.up_events.specs.Delivery.{IsDelivered}
 use Rattle.up_server.specs.Course.{Course}
-use Rattle.up_server.specs.Each.{AreOfLanes}
+use Rattle.up_server.proofs.Each.{AreOfLanes}
 use Rattle.up_server.proofs.CourseLemmas.{of_lanes}
 use Rattle.up_events.proofs.DeliveryLemmas.{delivered}
 use Rattle.up_server.proofs.dispatcher.Dispatcher.finish.Goals as goal

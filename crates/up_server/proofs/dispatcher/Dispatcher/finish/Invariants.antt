@@ -1,7 +1,7 @@
 use Rattle.std.proofs.Common.{◌≡◌, ◌+◌, length, All}
 use Rattle.up_server.specs.declared.feed.LaneReport.{LaneReport}
 use Rattle.up_events.specs.Delivery.{IsDelivered}
-use Rattle.up_server.specs.Each.{AreOfLanes}
+use Rattle.up_server.proofs.Each.{AreOfLanes}
 use Rattle.up_server.proofs.dispatcher.Dispatcher.finish.Given as goal
 
 abbrev pub invariant-loop-feed : goal.invariant-loop-feed

@@ -1,0 +1,49 @@
+-- A run of the server over one input, from its first message to the report.
+use Rattle.std.specs.Prelude.{◌≡◌, ◌⊎◌, ℕ, Bool, true, false, List, length, All, Option, Result, Ok, Err}
+use Rattle.std.specs.Io.KnownBytes.{Appends}
+use Rattle.std.specs.List.{list_any}
+use Rattle.up_events.specs.Delivery.{IsDelivered}
+use Rattle.up_server.specs.Course.{Course}
+use Rattle.up_server.specs.ReportText.{report_text}
+use Rattle.up_server.specs.Response.{WritesFront}
+use Rattle.up_server.specs.State.{empty_state}
+use Rattle.up_server.specs.Turn.{Stand, Converses}
+use Rattle.up_server.specs.declared.conversation.Ended.TheVariants.{Closed, ReadFailed, WriteFailed}
+use Rattle.up_server.specs.declared.feed.How.{How}
+use Rattle.up_server.specs.declared.feed.How.TheVariants.{Drained, Stopped}
+use Rattle.up_server.specs.declared.feed.LaneReport.{LaneReport}
+use Rattle.up_server.specs.declared.replay.Served.{Served}
+use Rattle.up_server.specs.declared.server_fault.ServerFault.{ServerFault}
+use Rattle.up_server.specs.declared.server_fault.ServerFault.TheVariants as Fault
+use Rattle.up_server.specs.declared.settings.Settings.{Settings}
+
+-- a new server
+abbrev pub new_server : ℕ → Course
+new_server lanes = record { book = empty_state lanes; last_id = 0 }
+
+-- one conversation was served on a new server, and the report tells what was accepted and what each lane handed over
+pub record IsRun (settings : Settings) (served : Served) (unread written unread_after written_after : Option (List ℕ)) : Type 0 where
+  pub course : Course
+  pub converses : Converses settings.max_size (record { course = new_server settings.lanes; unread = unread; written = written }) (record { course = course; unread = unread_after; written = written_after }) served.ended
+  pub accepted : served.report.accepted.items ≡ course.book.journal.accepted
+  pub lanes : length served.report.lanes.items ≡ settings.lanes
+  pub delivered : All (λ (lane : LaneReport). IsDelivered served.report.accepted.items lane.handed.items) served.report.lanes.items
+
+-- whether a lane stopped before its end came
+abbrev pub is_stopped : How → Bool
+is_stopped Drained = false
+is_stopped Stopped = true
+
+-- whether any lane did
+abbrev pub any_stopped : List LaneReport → Bool
+any_stopped lanes = list_any (λ lane. is_stopped lane.how) lanes
+
+-- the report behind the replies, and what went wrong
+abbrev pub IsReported : Served → Option (List ℕ) → Option (List ℕ) → {X : Type 0} → Result X ServerFault → Type 0
+IsReported served before after (Ok done) =
+    (served.ended ≡ Closed) × Appends before after (report_text served.report) × (any_stopped served.report.lanes.items ≡ false)
+IsReported served before after (Err Fault.Memory) = ⊥
+IsReported served before after (Err Fault.Write) = ((served.ended ≡ WriteFailed) × (after ≡ before)) ⊎ WritesFront before after (report_text served.report)
+IsReported served before after (Err Fault.Read) = (served.ended ≡ ReadFailed) × Appends before after (report_text served.report)
+IsReported served before after (Err Fault.Stopped) =
+    (served.ended ≡ Closed) × Appends before after (report_text served.report) × (any_stopped served.report.lanes.items ≡ true)
