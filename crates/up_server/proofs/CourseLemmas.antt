@@ -24,8 +24,8 @@ use Rattle.up_server.specs.declared.request.Request.TheVariants as request
 use Rattle.up_events.proofs.HistoryLemmas.{log_of-snoc, creation_of-other}
 use Rattle.up_events.specs.Delivery.{IsWithin}
 use Rattle.up_server.specs.Passage.{Passage, IsFrom}
-use Rattle.up_server.specs.Course.{AreNew}
-use Rattle.up_server.proofs.Each.{IsOfLane, AreOfLanes}
+use Rattle.up_server.specs.Course.{AreNew, AreOfTheirLanes}
+use Rattle.up_server.proofs.Each.{AreOfLanes}
 use Rattle.up_server.specs.Sound.{IsSound, AreFed, AreFreshAbove}
 use Rattle.up_server.specs.State.{State, empty_state, after, AreAdded, IsFresh}
 use Rattle.up_server.specs.Course.{last_after, Replies, carried_out}
@@ -75,11 +75,30 @@ sound_new book feeds lanes some is are = record {
   fresh = λ u h. subst (λ (s : State). is_known s.journal.accepted u ≡ false) (sym is) refl;
 }
 
--- ---- each feed is of some lane
+-- ---- each feed is of its lane
 
-pub of_lanes : (lanes : ℕ) (accepted : List Accepted) (feeds : List Passage) → ((k : ℕ) (f : Passage) → slice_get feeds k ≡ Some f → IsOfLane lanes accepted f) → AreOfLanes lanes accepted feeds
-of_lanes lanes accepted [] each = tt
-of_lanes lanes accepted (f ∷ feeds) each = (each zero f refl, of_lanes lanes accepted feeds (λ k g e. each (suc k) g e))
+of_lanes_from : (lanes : ℕ) (accepted : List Accepted) (k : ℕ) (feeds : List Passage) → ((i : ℕ) (f : Passage) → slice_get feeds i ≡ Some f → IsFrom (log_of lanes accepted (k + i)) f) → AreOfLanes lanes accepted k feeds
+of_lanes_from lanes accepted k [] each = tt
+of_lanes_from lanes accepted k (f ∷ feeds) each =
+    let here : k + 0 ≡ k = omega arith in (
+      subst (λ j. IsFrom (log_of lanes accepted j) f) here (each zero f refl),
+      of_lanes_from lanes accepted (k + 1) feeds (λ i g e. let next : k + suc i ≡ (k + 1) + i = omega arith in subst (λ j. IsFrom (log_of lanes accepted j) g) next (each (suc i) g e)),
+    )
+
+pub of_lanes : (lanes : ℕ) (accepted : List Accepted) (feeds : List Passage) → ((k : ℕ) (f : Passage) → slice_get feeds k ≡ Some f → IsFrom (log_of lanes accepted k) f) → AreOfLanes lanes accepted 0 feeds
+of_lanes lanes accepted feeds each = of_lanes_from lanes accepted 0 feeds (λ i f e. let here : i ≡ 0 + i = omega arith in subst (λ j. IsFrom (log_of lanes accepted j) f) here (each i f e))
+
+-- what holds of each member at its place holds of each with one more
+pub get-push_at : {X : Type 0} (P : ℕ → X → Type 0) (xs : List X) (new : X) → ((k : ℕ) (x : X) → slice_get xs k ≡ Some x → P k x) → P (length xs) new → (k : ℕ) (x : X) → slice_get (xs ++ new ∷ []) k ≡ Some x → P k x
+get-push_at P [] new old here zero x e = subst (P 0) (let h : new ≡ x = cc in h) here
+get-push_at P [] new old here (suc k) x e = absurd (cc)
+get-push_at P (y ∷ ys) new old here zero x e = old zero x e
+get-push_at P (y ∷ ys) new old here (suc k) x e = get-push_at (λ j. P (suc j)) ys new (λ k x e. old (suc k) x e) here k x e
+
+-- no lane has reported
+pub none_reported : (journal : Records) → AreOfTheirLanes journal []
+none_reported journal zero r e = absurd (cc)
+none_reported journal (suc k) r e = absurd (cc)
 
 -- ---- what a request makes of a dispatcher
 

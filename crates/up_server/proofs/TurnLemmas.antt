@@ -1,4 +1,4 @@
--- What a message, and many of them, leave of a dispatcher's history.
+-- What a message, and many of them, leave of a dispatcher's history, and that the last one ends a conversation.
 use Rattle.std.proofs.Common.{◌≡◌, ℕ, zero, suc, eqb, true, add-one, inl, inr, ◌+◌, ◌≤◌, Option, Some, None, List, [], ◌∷◌, ◌++◌, refl, sym, ap, ◌∙◌, subst, arith, append_assoc, append-nil}
 use Rattle.up_events.specs.Delivery.{IsPrefix}
 use Rattle.up_events.specs.declared.event.Accepted.{Accepted}

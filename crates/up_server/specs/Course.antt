@@ -1,9 +1,12 @@
 -- What a dispatcher stands for, and what a request makes of it.
 use Rattle.std.specs.Prelude.{◌≡◌, ◌⊎◌, ℕ, ◌+◌, List, length, slice_get, Some, Result, Ok, Err, IsOk}
+use Rattle.up_events.specs.Delivery.{IsWithin}
+use Rattle.up_events.specs.Records.{Records, lane_log}
 use Rattle.up_events.specs.declared.event.Event.{Event}
 use Rattle.up_server.specs.Decision.{Outcome, change_of}
 use Rattle.up_server.specs.Passage.{Passage, IsFrom}
 use Rattle.up_server.specs.State.{State, after}
+use Rattle.up_server.specs.declared.feed.LaneReport.{LaneReport}
 use Rattle.up_server.specs.declared.refusal.Refusal.{Refusal}
 use Rattle.up_server.specs.declared.refusal.Refusal.TheVariants as refusal
 use Rattle.up_server.specs.declared.request.Request.{Request}
@@ -27,6 +30,10 @@ Replies (Err refused) expected = (expected ≡ Err refused) ⊎ ((refused ≡ re
 -- the book after a request that no row refuses
 abbrev pub carried_out : State → Request → ℕ → State
 carried_out s request id = after s request id (change_of s request id)
+
+-- each lane was handed events of its own log
+abbrev pub AreOfTheirLanes : Records → List LaneReport → Type 0
+AreOfTheirLanes journal reports = (k : ℕ) (r : LaneReport) → slice_get reports k ≡ Some r → IsWithin r.handed.items (lane_log journal k)
 
 -- as many new feeds as there are lanes
 pub record AreNew (lanes : ℕ) (feeds : List Passage) : Type 0 where

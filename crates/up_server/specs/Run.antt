@@ -3,7 +3,7 @@ use Rattle.std.specs.Prelude.{◌≡◌, ◌⊎◌, ℕ, Bool, true, false, List
 use Rattle.std.specs.Io.KnownBytes.{Appends}
 use Rattle.std.specs.List.{list_any}
 use Rattle.up_events.specs.Delivery.{IsDelivered}
-use Rattle.up_server.specs.Course.{Course}
+use Rattle.up_server.specs.Course.{Course, AreOfTheirLanes}
 use Rattle.up_server.specs.ReportText.{report_text}
 use Rattle.up_server.specs.Response.{WritesFront}
 use Rattle.up_server.specs.State.{empty_state}
@@ -27,6 +27,7 @@ pub record IsRun (settings : Settings) (served : Served) (unread written unread_
   pub converses : Converses settings.max_size (record { course = new_server settings.lanes; unread = unread; written = written }) (record { course = course; unread = unread_after; written = written_after }) served.ended
   pub accepted : served.report.accepted.items ≡ course.book.journal.accepted
   pub lanes : length served.report.lanes.items ≡ settings.lanes
+  pub own : AreOfTheirLanes course.book.journal served.report.lanes.items
   pub delivered : All (λ (lane : LaneReport). IsDelivered served.report.accepted.items lane.handed.items) served.report.lanes.items
 
 -- whether a lane stopped before its end came

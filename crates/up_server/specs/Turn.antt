@@ -1,4 +1,4 @@
--- What one message makes of a dispatcher, and what is answered to it.
+-- What one message makes of a dispatcher, what is answered to it, and a conversation turn by turn.
 use Rattle.std.specs.Prelude.{◌≡◌, ◌≢◌, ◌⊎◌, ℕ, zero, suc, ◌+◌, ◌≤◌, ◌==◌, Bool, true, false, List, Option, Some, None, Result, Ok, Err}
 use Rattle.std.specs.Io.KnownBytes.{Appends, Consumes}
 use Rattle.up_server.specs.Message.{IsTaken}

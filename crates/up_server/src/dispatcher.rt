@@ -66,7 +66,7 @@ fn last_after(last: u64, request: &Request) -> u64
 
 impl Dispatcher {
     ghost use Rattle.up_events.specs.Delivery.{IsDelivered};
-    ghost use Rattle.up_server.specs.Course.{Course, Replies, carried_out};
+    ghost use Rattle.up_server.specs.Course.{Course, AreOfTheirLanes, Replies, carried_out};
     ghost use Rattle.up_server.specs.Decision.{decide};
     ghost use Rattle.up_server.specs.State.{IsBounded, empty_state};
 
@@ -104,10 +104,12 @@ impl Dispatcher {
         Ok(done.response)
     }
 
-    /// Ends each lane. Of each upload the first of its events were handed over, each once and in order.
+    /// Ends each lane, in their order. Of each upload the first of its events were handed over, by its lane, each once
+    /// and in order.
     pub fn finish(self, alloc: Global) -> Result<Report, NoMemory>
         ensures accepted { IfOk result (λ report. report.accepted.items ≡ self.book.journal.accepted) }
         ensures lanes { IfOk result (λ report. length report.lanes.items ≡ self.book.journal.lanes) }
+        ensures own { IfOk result (λ report. AreOfTheirLanes self.book.journal report.lanes.items) }
         ensures delivered { IfOk result (λ report. All (λ lane. IsDelivered report.accepted.items lane.handed.items) report.lanes.items) }
     {
         let accepted = self.book.journal().accepted().to_vec(alloc)?;

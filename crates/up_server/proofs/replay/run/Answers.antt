@@ -13,5 +13,6 @@ returns g c =
           new c.converse-ended.ensures.turns;
       accepted = c.in_ok-report.ensures.accepted;
       lanes = c.in_ok-report.ensures.lanes ∙ c.converse-ended.ensures.goes_on.lanes ∙ ap (λ (x : Course). x.book.journal.lanes) new;
+      own = c.in_ok-report.ensures.own;
       delivered = c.in_ok-report.ensures.delivered;
     }
