@@ -1,0 +1,15 @@
+pub mod Pieces
+pub mod Tokens
+pub mod Heads
+pub mod BlankLines
+pub mod ChunkedTexts
+pub mod Answering
+pub mod Writing
+pub mod OneAnswerTexts
+pub mod OneAnswerHeads
+pub mod OneAnswerHeadless
+pub mod OneAnswerStops
+pub mod OneAnswerChunks
+pub mod OneAnswerBodies
+pub mod OneAnswerKinds
+pub mod OneAnswer

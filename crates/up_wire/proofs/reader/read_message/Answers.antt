@@ -1,0 +1,173 @@
+use Rattle.std.proofs.Common.{[], ◌++◌, Ok, Err, refl, sym, ap, subst, append-nil, arith, inl, inr}
+use Rattle.std.proofs.KnownBytes.{Appends-nil, Consumes-trans}
+use Rattle.up_wire.specs.Message.{open_yet, fields_of, IsBody, IsCutBody}
+use Rattle.up_wire.specs.Reading.{interim_after}
+use Rattle.up_wire.proofs.Answering.{shows_of, head_fault, framing_error, framing_fault, fault_behind, framing_is, bare_is, due_is, parts_are, head_more, gave_up, head_written, error_written, body_written}
+use Rattle.up_wire.proofs.reader.read_message.Goals as goal
+
+pub returns-in-Fault : goal.returns-in-Fault
+returns-in-Fault g c =
+    let a = c.in-Fault.ensures.answer in
+    let counted = c.in-Fault.ensures.counted in
+    let both = head_fault c.args.limits.now.max_body a.0 a.1 c.in-Fault.fault c.in-Fault.bare a.4 in
+    record {
+      input = a.0;
+      ending = a.1;
+      line = [];
+      took = a.2;
+      wrote = Appends-nil _;
+      shows = shows_of a.1 _ _ _ a.3 (omega arith);
+      is_answer = both.0;
+      is_interim = both.1;
+      is_unwritten = λ failed. absurd (head_written a.0 a.1 c.in-Fault.fault c.in-Fault.bare a.4 failed);
+    }
+
+pub returns-in-Err : goal.returns-in-Err
+returns-in-Err g c =
+    let a = c.in-Whole.ensures.answer in
+    let counted = c.in-Whole.ensures.counted in
+    let limit = c.args.limits.now.max_body in
+    let h = c.in-Whole.head in
+    let head = a.4.0 in
+    let has = a.4.2 in
+    let fault = c.in-Err.fault in
+    let framed = framing_is limit h head c.as_slice.result.now (Err fault) has c.as_slice.ensures c.in-Err.ensures in
+    let bare = bare_is h head c.is_bare-bare.result has c.is_bare-bare.ensures in
+    let both = framing_fault limit a.0 open_yet fault c.is_bare-bare.result []
+    (framing_error limit head.minor (fields_of head) fault framed)
+    (record { head = head; behind = []; is_head = a.4.1; is_fault = inl (framed, refl); bare_is = bare })
+    (head, [], a.4.1, sym (ap (λ r. interim_after r head) framed)) in
+    record {
+      input = a.0;
+      ending = open_yet;
+      line = [];
+      took = a.2;
+      wrote = Appends-nil _;
+      shows = tt;
+      is_answer = both.0;
+      is_interim = both.1;
+      is_unwritten = λ failed. absurd (error_written fault (framing_error limit head.minor (fields_of head) fault framed) failed);
+    }
+
+pub returns-then-not-continue_if_asked : goal.returns-then-not-continue_if_asked
+returns-then-not-continue_if_asked g c =
+    let a = c.in-Whole.ensures.answer in
+    let limit = c.args.limits.now.max_body in
+    let h = c.in-Whole.head in
+    let head = a.4.0 in
+    let has = a.4.2 in
+    let framed = framing_is limit h head c.as_slice.result.now (Ok c.in-Ok.framing) has c.as_slice.ensures c.in-Ok.ensures in
+    let written = c.continue_if_asked.ensures.written in
+    record {
+      input = a.0;
+      ending = open_yet;
+      line = written.0;
+      took = a.2;
+      wrote = written.2;
+      shows = tt;
+      is_answer = inr (head, [], a.4.1, bare_is h head c.is_bare-bare.result has c.is_bare-bare.ensures);
+      is_interim = (_, (head, [], a.4.1, due_is limit h head c.in-Ok.framing _ has framed refl), c.continue_if_asked.ensures.due c.if-not-continue_if_asked.true, written.1);
+      is_unwritten = λ failed. gave_up (g.W.Sink.has_failed c.continue_if_asked.new.sink) c.continue_if_asked.new.interruptions _
+          (c.continue_if_asked.ensures.failed c.if-not-continue_if_asked.true) (omega (arith, c.in-Whole.ensures.counted, c.continue_if_asked.ensures.counted));
+    }
+
+pub returns-in-Whole-read_body : goal.returns-in-Whole-read_body
+returns-in-Whole-read_body g c =
+    let a = c.in-Whole.ensures.answer in
+    let limit = c.args.limits.now.max_body in
+    let h = c.in-Whole.head in
+    let head = a.4.0 in
+    let has = a.4.2 in
+    let framed = framing_is limit h head c.as_slice.result.now (Ok c.in-Ok.framing) has c.as_slice.ensures c.in-Ok.ensures in
+    let written = c.continue_if_asked.ensures.written in
+    let all = written.3 c.if-not-continue_if_asked.false in
+    let b = c.in-Whole-read_body.ensures.answer in
+    let counted = c.in-Whole-read_body.ensures.counted in
+    let m = c.into_message in
+    let whole = head_more a.0 head b.0 a.4.1 in
+    record {
+      input = a.0 ++ b.0;
+      ending = b.1;
+      line = written.0;
+      took = Consumes-trans _ _ _ _ _ a.2 b.2;
+      wrote = written.2;
+      shows = shows_of b.1 _ _ _ b.3 (omega arith);
+      is_answer = record {
+        head = head;
+        behind = b.0;
+        is_head = whole;
+        framing = c.in-Ok.framing;
+        is_framed = framed;
+        text = b.0;
+        is_body = subst (λ bytes. IsBody limit c.in-Ok.framing bytes b.0) (sym m.ensures.body) b.4.0;
+        behind_is = sym (append-nil b.0);
+        parts = parts_are h head m.result has m.ensures.method m.ensures.target m.ensures.fields m.ensures.bare m.ensures.close;
+      };
+      is_interim = (head, b.0, whole, due_is limit h head c.in-Ok.framing written.0 has framed all);
+      is_unwritten = tt;
+    }
+
+pub returns-in-Cut : goal.returns-in-Cut
+returns-in-Cut g c =
+    let a = c.in-Whole.ensures.answer in
+    let limit = c.args.limits.now.max_body in
+    let h = c.in-Whole.head in
+    let head = a.4.0 in
+    let has = a.4.2 in
+    let framed = framing_is limit h head c.as_slice.result.now (Ok c.in-Ok.framing) has c.as_slice.ensures c.in-Ok.ensures in
+    let written = c.continue_if_asked.ensures.written in
+    let all = written.3 c.if-not-continue_if_asked.false in
+    let b = c.in-Cut.ensures.answer in
+    let counted = c.in-Cut.ensures.counted in
+    let m = c.into_message-in-Cut in
+    let whole = head_more a.0 head b.0 a.4.1 in
+    record {
+      input = a.0 ++ b.0;
+      ending = b.1;
+      line = written.0;
+      took = Consumes-trans _ _ _ _ _ a.2 b.2;
+      wrote = written.2;
+      shows = shows_of b.1 _ _ _ b.3 (omega arith);
+      is_answer = (
+        record {
+          head = head;
+          behind = b.0;
+          is_head = whole;
+          framing = c.in-Ok.framing;
+          is_framed = framed;
+          is_cut = subst (λ bytes. IsCutBody limit c.in-Ok.framing bytes b.0) (sym m.ensures.body) b.4.0;
+          parts = parts_are h head m.result has m.ensures.method m.ensures.target m.ensures.fields m.ensures.bare m.ensures.close;
+        },
+        b.4.1,
+      );
+      is_interim = (head, b.0, whole, due_is limit h head c.in-Ok.framing written.0 has framed all);
+      is_unwritten = tt;
+    }
+
+pub returns-in-Fault-read_body : goal.returns-in-Fault-read_body
+returns-in-Fault-read_body g c =
+    let a = c.in-Whole.ensures.answer in
+    let limit = c.args.limits.now.max_body in
+    let h = c.in-Whole.head in
+    let head = a.4.0 in
+    let has = a.4.2 in
+    let framed = framing_is limit h head c.as_slice.result.now (Ok c.in-Ok.framing) has c.as_slice.ensures c.in-Ok.ensures in
+    let written = c.continue_if_asked.ensures.written in
+    let all = written.3 c.if-not-continue_if_asked.false in
+    let b = c.in-Fault-read_body.ensures.answer in
+    let counted = c.in-Fault-read_body.ensures.counted in
+    let whole = head_more a.0 head b.0 a.4.1 in
+    let bare = bare_is h head c.is_bare-bare.result has c.is_bare-bare.ensures in
+    let due = due_is limit h head c.in-Ok.framing written.0 has framed all in
+    let both = fault_behind limit (a.0 ++ b.0) b.1 c.in-Fault-read_body.fault c.is_bare-bare.result written.0 head b.0 c.in-Ok.framing whole framed bare due b.4 in
+    record {
+      input = a.0 ++ b.0;
+      ending = b.1;
+      line = written.0;
+      took = Consumes-trans _ _ _ _ _ a.2 b.2;
+      wrote = written.2;
+      shows = shows_of b.1 _ _ _ b.3 (omega arith);
+      is_answer = both.0;
+      is_interim = both.1;
+      is_unwritten = λ failed. absurd (body_written limit c.in-Ok.framing b.0 c.in-Fault-read_body.fault b.4 failed);
+    }

@@ -1,0 +1,18 @@
+use Rattle.std.proofs.Common.{get_or, ap, arith}
+use Rattle.up_wire.specs.Response.{field_line}
+use Rattle.up_wire.proofs.Writing.{each_cut, each_next, writes_as}
+use Rattle.up_wire.proofs.response.write_fields.Goals as goal
+
+pub returns-then-not-write_field-clause-written : goal.returns-then-not-write_field-clause-written
+returns-then-not-write_field-clause-written g c =
+    let next = writes_as _ _ (field_line c.field-item.result) (field_line (get_or c.args.fields.now c.loop-field.field-index c.field-item.result)) c.write_field.result (ap field_line c.field-item.is) c.write_field.ensures.written in
+    each_cut field_line _ _ _ c.args.fields.now c.loop-field.field-index c.field-item.result c.write_field.result c.loop-field-test.true c.loop-field.invariant.written next c.if-not-write_field.true
+
+pub loop-field-preserved : goal.loop-field-preserved
+loop-field-preserved g c =
+    let next = writes_as _ _ (field_line c.field-item.result) (field_line (get_or c.args.fields.now c.loop-field.field-index c.field-item.result)) c.write_field.result (ap field_line c.field-item.is) c.write_field.ensures.written in
+    record {
+      written = each_next field_line _ _ _ c.args.fields.now c.loop-field.field-index c.field-item.result c.write_field.result c.loop-field-test.true c.loop-field.invariant.written next c.if-not-write_field.false;
+      counted = omega arith;
+      patient = c.write_field.ensures.patient c.if-not-write_field.false;
+    }

@@ -1,0 +1,14 @@
+use Rattle.std.proofs.Common.{arith}
+use Rattle.up_wire.proofs.Writing.{each_cut, each_next}
+use Rattle.up_wire.proofs.write.write_each.Goals as goal
+
+pub returns-then-not-write_all-clause-written : goal.returns-then-not-write_all-clause-written
+returns-then-not-write_all-clause-written g c =
+    each_cut (λ piece. piece.now) _ _ _ c.args.pieces.now c.loop-piece.piece-index _ c.write_all.result c.loop-piece-test.true c.loop-piece.invariant.written c.write_all.ensures.written c.if-not-write_all.true
+
+pub loop-piece-preserved : goal.loop-piece-preserved
+loop-piece-preserved g c = record {
+  written = each_next (λ piece. piece.now) _ _ _ c.args.pieces.now c.loop-piece.piece-index _ c.write_all.result c.loop-piece-test.true c.loop-piece.invariant.written c.write_all.ensures.written c.if-not-write_all.false;
+  counted = omega arith;
+  patient = c.write_all.ensures.patient c.if-not-write_all.false;
+}

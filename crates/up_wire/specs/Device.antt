@@ -1,0 +1,119 @@
+-- What a call of a device does, as its callers see it.
+use Rattle.std.specs.Prelude.{◌≡◌, ℕ, ◌<◌, ◌≤◌, ◌⊎◌, Bool, true, false, List, [], ◌∷◌, length, take, Option, Some, None, ⊤}
+use Rattle.std.specs.Io.KnownBytes.{IsAtEnd}
+use Rattle.up_wire.specs.Limits.{max_interruptions}
+use Rattle.up_wire.specs.declared.device.NextByte.{NextByte}
+use Rattle.up_wire.specs.declared.device.NextByte.TheVariants as Next
+use Rattle.up_wire.specs.declared.device.Run.{Run}
+use Rattle.up_wire.specs.declared.device.WriteSome.{WriteSome}
+use Rattle.up_wire.specs.declared.device.WriteSome.TheVariants as Write
+
+-- what is seen of a source or a sink: the bytes left or written, where they are known, whether it answered that it
+-- failed, and how often it was interrupted
+pub record Device : Type 0 where
+  pub bytes : Option (List ℕ)
+  pub has_failed : Bool
+  pub interruptions : ℕ
+
+abbrev pub device : Option (List ℕ) → Bool → ℕ → Device
+device bytes has_failed interruptions = record { bytes = bytes; has_failed = has_failed; interruptions = interruptions }
+
+-- a device failed, or a call was interrupted too often
+abbrev pub GaveUp : Bool → ℕ → Type 0
+GaveUp has_failed count = (has_failed ≡ true) ⊎ (max_interruptions ≤ count)
+
+-- the bytes that an answer of a source gives
+abbrev pub given : NextByte → List ℕ
+given (Next.Byte byte) = byte ∷ []
+given Next.End = []
+given Next.Interrupted = []
+given Next.Failed = []
+
+-- whether the source answered that it failed
+abbrev pub is_failed_read : NextByte → Bool
+is_failed_read (Next.Byte byte) = false
+is_failed_read Next.End = false
+is_failed_read Next.Interrupted = false
+is_failed_read Next.Failed = true
+
+-- how many interruptions an answer is
+abbrev pub interrupted_reads : NextByte → ℕ
+interrupted_reads (Next.Byte byte) = 0
+interrupted_reads Next.End = 0
+interrupted_reads Next.Interrupted = 1
+interrupted_reads Next.Failed = 0
+
+-- the source has no byte left where it answered End
+abbrev pub EndsAt : NextByte → Option (List ℕ) → Type 0
+EndsAt (Next.Byte byte) left = ⊤
+EndsAt Next.End left = IsAtEnd left
+EndsAt Next.Interrupted left = ⊤
+EndsAt Next.Failed left = ⊤
+
+-- the bytes that a run moved: as many as it says, some and at most so many, or none
+abbrev pub IsRun : Run → ℕ → List ℕ → Type 0
+IsRun (Run.Moved count) most run = (length run ≡ count) × (0 < count) × (count ≤ most)
+IsRun Run.End most run = run ≡ []
+IsRun Run.Interrupted most run = run ≡ []
+IsRun Run.Failed most run = run ≡ []
+
+-- whether the source answered that it failed
+abbrev pub is_failed_run : Run → Bool
+is_failed_run (Run.Moved count) = false
+is_failed_run Run.End = false
+is_failed_run Run.Interrupted = false
+is_failed_run Run.Failed = true
+
+-- how many interruptions an answer is
+abbrev pub interrupted_runs : Run → ℕ
+interrupted_runs (Run.Moved count) = 0
+interrupted_runs Run.End = 0
+interrupted_runs Run.Interrupted = 1
+interrupted_runs Run.Failed = 0
+
+-- the source has no byte left where it answered End
+abbrev pub RunEndsAt : Run → Option (List ℕ) → Type 0
+RunEndsAt (Run.Moved count) left = ⊤
+RunEndsAt Run.End left = IsAtEnd left
+RunEndsAt Run.Interrupted left = ⊤
+RunEndsAt Run.Failed left = ⊤
+
+-- the byte, where there is one
+abbrev pub maybe_byte : Option ℕ → List ℕ
+maybe_byte None = []
+maybe_byte (Some byte) = byte ∷ []
+
+-- there is a byte, or the reader was at its end
+abbrev pub IsNoneAtEnd : Option ℕ → Option (List ℕ) → Type 0
+IsNoneAtEnd None left = IsAtEnd left
+IsNoneAtEnd (Some byte) left = ⊤
+
+-- the bytes of a slice that an answer of a sink took
+abbrev pub taken : WriteSome → List ℕ → List ℕ
+taken (Write.Took count) bytes = take count bytes
+taken Write.Interrupted bytes = []
+taken Write.Failed bytes = []
+
+-- whether the sink answered that it failed
+abbrev pub is_failed_write : WriteSome → Bool
+is_failed_write (Write.Took count) = false
+is_failed_write Write.Interrupted = false
+is_failed_write Write.Failed = true
+
+-- how many interruptions an answer is
+abbrev pub interrupted_writes : WriteSome → ℕ
+interrupted_writes (Write.Took count) = 0
+interrupted_writes Write.Interrupted = 1
+interrupted_writes Write.Failed = 0
+
+-- nothing was taken
+abbrev pub IsNothing : WriteSome → Type 0
+IsNothing (Write.Took count) = ⊥
+IsNothing Write.Interrupted = ⊤
+IsNothing Write.Failed = ⊤
+
+-- a sink takes no more than the slice has, and something of a slice that is not empty
+abbrev pub TakesSome : WriteSome → List ℕ → Type 0
+TakesSome (Write.Took count) bytes = (count ≤ length bytes) × (0 < length bytes → 0 < count)
+TakesSome Write.Interrupted bytes = ⊤
+TakesSome Write.Failed bytes = ⊤

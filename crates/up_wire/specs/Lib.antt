@@ -1,0 +1,13 @@
+-- The definitions that the contracts cite.
+pub mod Limits
+pub mod Device
+pub mod WireFaults
+pub mod Digits
+pub mod Fields
+pub mod Framing
+pub mod Chunks
+pub mod Message
+pub mod Reading
+pub mod Steps
+pub mod Response
+pub mod OneAnswer

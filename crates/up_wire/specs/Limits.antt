@@ -1,0 +1,18 @@
+-- What is allowed of a message, and of a device.
+use Rattle.std.specs.Prelude.{ℕ}
+
+-- how many bytes a head or a trailer section may have
+abbrev pub max_head : ℕ
+max_head = 16384
+
+-- how many fields a head or a trailer section may have
+abbrev pub max_fields : ℕ
+max_fields = 64
+
+-- how many bytes a chunk line may have, its CRLF among them
+abbrev pub max_line : ℕ
+max_line = 256
+
+-- the interruption of one call that counts as a failure
+abbrev pub max_interruptions : ℕ
+max_interruptions = 1000

@@ -1,0 +1,80 @@
+-- What a call of `read_message` took, wrote and answered.
+use Rattle.std.specs.Prelude.{◌≡◌, ℕ, ◌+◌, ◌-◌, ◌<◌, ◌⊎◌, List, [], ◌++◌, length, Result, Ok, Err, ⊤}
+use Rattle.std.specs.Io.KnownBytes.{Consumes, Appends, IsAtEnd}
+use Rattle.httparse.specs.Grammar.{RequestHead}
+use Rattle.up_wire.specs.declared.wire_fault.WireFault.{WireFault}
+use Rattle.up_wire.specs.declared.wire_fault.WireFault.TheVariants as Fault
+use Rattle.up_wire.specs.declared.message.Taken.{Taken}
+use Rattle.up_wire.specs.declared.framing.Framing.{Framing}
+use Rattle.up_wire.specs.Device.{Device, GaveUp}
+use Rattle.up_wire.specs.Framing.{interim}
+use Rattle.up_wire.specs.Message.{Ending, fields_of, IsHead, framing_of, open_yet, ended, failed, IsMessage, IsCut, IsEndOfInput, IsFault}
+
+-- some front of the text
+abbrev pub IsFront : List ℕ → List ℕ → Type 0
+IsFront front text = (rest : List ℕ) × (text ≡ front ++ rest)
+
+-- what is due to be written behind a head: nothing where its fields are at fault
+abbrev pub interim_after : Result Framing WireFault → RequestHead → List ℕ
+interim_after (Ok framing) head = interim framing head.minor (fields_of head)
+interim_after (Err fault) head = []
+
+-- the line is what is due behind the head of the input
+abbrev pub IsDue : ℕ → List ℕ → List ℕ → Type 0
+IsDue limit input line =
+    (head : RequestHead) × (behind : List ℕ) × IsHead input head behind × (line ≡ interim_after (framing_of limit head) head)
+
+-- what was written where a fault is answered
+abbrev pub IsInterimAtFault : ℕ → List ℕ → WireFault → List ℕ → Type 0
+IsInterimAtFault limit input Fault.BadHead line = line ≡ []
+IsInterimAtFault limit input Fault.HeadTooLarge line = line ≡ []
+IsInterimAtFault limit input Fault.BadFraming line = IsDue limit input line
+IsInterimAtFault limit input Fault.UnknownCoding line = IsDue limit input line
+IsInterimAtFault limit input Fault.BodyTooLarge line = IsDue limit input line
+IsInterimAtFault limit input Fault.ReadFailed line = line ≡ []
+IsInterimAtFault limit input Fault.NoMemory line = (line ≡ []) ⊎ IsDue limit input line
+IsInterimAtFault limit input Fault.WriteFailed line = (whole : List ℕ) × IsDue limit input whole × (0 < length whole) × IsFront line whole
+
+-- what was written
+abbrev pub IsInterim : ℕ → List ℕ → Taken → List ℕ → Type 0
+IsInterim limit input (Taken.Message m) line = IsDue limit input line
+IsInterim limit input (Taken.Cut m) line = IsDue limit input line
+IsInterim limit input (Taken.Fault fault bare) line = IsInterimAtFault limit input fault line
+IsInterim limit input Taken.End line = line ≡ []
+
+-- what `read_message` may answer, having taken these bytes
+abbrev pub IsAnswer : ℕ → List ℕ → Ending → Taken → Type 0
+IsAnswer limit input ending (Taken.Message m) = IsMessage limit input m []
+IsAnswer limit input ending (Taken.Cut m) = IsCut limit input m × ((ending ≡ ended) ⊎ (ending ≡ failed))
+IsAnswer limit input ending (Taken.Fault fault bare) = IsFault limit input ending fault bare
+IsAnswer limit input ending Taken.End = IsEndOfInput input × (ending ≡ ended)
+
+-- how the input goes on, by what the source shows after a call that was interrupted so often
+abbrev pub Shows : Ending → Device → ℕ → Type 0
+Shows open_yet source count = ⊤
+Shows ended source count = IsAtEnd source.bytes
+Shows failed source count = GaveUp source.has_failed count
+
+-- the sink was given up where that is answered
+abbrev pub IsUnwritten : Taken → Device → ℕ → Type 0
+IsUnwritten (Taken.Message m) sink count = ⊤
+IsUnwritten (Taken.Cut m) sink count = ⊤
+IsUnwritten (Taken.Fault fault bare) sink count = fault ≡ Fault.WriteFailed → GaveUp sink.has_failed count
+IsUnwritten Taken.End sink count = ⊤
+
+-- how often both devices were interrupted in a call
+abbrev pub interruptions : Device → Device → Device → Device → ℕ
+interruptions source source_after sink sink_after =
+    (source_after.interruptions - source.interruptions) + (sink_after.interruptions - sink.interruptions)
+
+-- a call of `read_message`, by the source and the sink before and after it
+pub record IsReading (limit : ℕ) (source source_after sink sink_after : Device) (answer : Taken) : Type 0 where
+  pub input : List ℕ
+  pub ending : Ending
+  pub line : List ℕ
+  pub took : Consumes source.bytes source_after.bytes input
+  pub wrote : Appends sink.bytes sink_after.bytes line
+  pub shows : Shows ending source_after (interruptions source source_after sink sink_after)
+  pub is_answer : IsAnswer limit input ending answer
+  pub is_interim : IsInterim limit input answer line
+  pub is_unwritten : IsUnwritten answer sink_after (interruptions source source_after sink sink_after)

@@ -1,0 +1,151 @@
+-- What the steps of reading a message answer.
+use Rattle.std.specs.Prelude.{◌≡◌, ◌≢◌, ℕ, ◌<◌, ◌≤◌, ◌⊎◌, Bool, true, false, List, [], ◌∷◌, length, Option, Result, Ok, Err}
+use Rattle.std.specs.Io.KnownBytes.{Appends, IsAtEnd}
+use Rattle.httparse.specs.Ascii.{crlf_bytes}
+use Rattle.httparse.specs.Grammar.{ReadsSection, HasNoSection, NeverHasSection, MayBecomeSection, ChunkLine, print_chunk_line, chunk_size, RequestHead, ReadsRequest, HasNoRequest, NeverHasRequest, MayBecomeRequest}
+use Rattle.httparse.specs.Spans.{RequestExceeds, SectionExceeds}
+use Rattle.up_wire.specs.declared.wire_fault.WireFault.{WireFault}
+use Rattle.up_wire.specs.declared.wire_fault.WireFault.TheVariants as Fault
+use Rattle.up_wire.specs.declared.step.Step.{Step}
+use Rattle.up_wire.specs.declared.head.Head.{Head}
+use Rattle.up_wire.specs.declared.head.Parsed.{Parsed}
+use Rattle.up_wire.specs.declared.head_reader.HeadRead.{HeadRead}
+use Rattle.up_wire.specs.declared.body.BodyRead.{BodyRead}
+use Rattle.up_wire.specs.declared.body.Stop.{Stop}
+use Rattle.up_wire.specs.declared.chunks.Trailers.{Trailers}
+use Rattle.httparse.specs.Grammar as Line
+use Rattle.up_wire.specs.declared.body.Batch.{Batch}
+use Rattle.up_wire.specs.declared.framing.Framing.{Framing}
+use Rattle.up_wire.specs.Chunks.{IsLine, IsOpenLine, IsBadLine, IsOpenEnd, IsBadEnd, IsTrailers, AreOpenTrailers, AreBadTrailers}
+use Rattle.up_wire.specs.Message.{IsBody, IsCutBody, IsBodyFault, Ending, open_yet, ended, failed, fields_of, is_bare, IsHead, IsEndOfInput, IsBadHead, IsTooLarge, IsReadFailure, IsBare}
+use Rattle.up_wire.specs.Limits.{max_fields, max_interruptions}
+use Rattle.up_wire.specs.Device.{GaveUp}
+use Rattle.up_wire.specs.Reading.{IsFront}
+
+-- the bytes that a step gives
+abbrev pub step_bytes : Step → List ℕ
+step_bytes (Step.Byte byte) = byte ∷ []
+step_bytes Step.Ended = []
+step_bytes Step.Failed = []
+
+-- how the input goes on, by the source after it: the bytes left, whether it failed, and the interruptions of the call
+abbrev pub EndsSo : Ending → Option (List ℕ) → Bool → ℕ → Type 0
+EndsSo open_yet left has_failed count = count < max_interruptions
+EndsSo ended left has_failed count = IsAtEnd left × (count < max_interruptions)
+EndsSo failed left has_failed count = GaveUp has_failed count
+
+-- the ending that a step shows
+abbrev pub step_ending : Step → Ending
+step_ending (Step.Byte byte) = open_yet
+step_ending Step.Ended = ended
+step_ending Step.Failed = failed
+
+-- what is kept of a head
+pub record HasHead (h : Head) (head : RequestHead) : Type 0 where
+  pub method : h.method ≡ head.method
+  pub target : h.target ≡ head.target
+  pub minor : h.minor ≡ head.minor
+  pub fields : h.fields ≡ fields_of head
+
+-- what the parser says of the bytes so far
+abbrev pub IsParsed : List ℕ → Parsed → Type 0
+IsParsed text (Parsed.Whole h) =
+    (head : RequestHead) × (rest : List ℕ) × ReadsRequest text head rest × (length head.fields ≤ max_fields) × HasHead h head
+IsParsed text (Parsed.NoMemory bare) =
+    (head : RequestHead) × (rest : List ℕ) × ReadsRequest text head rest × (length head.fields ≤ max_fields) × (bare ≡ is_bare head)
+IsParsed text Parsed.Partial = HasNoRequest text × MayBecomeRequest text
+IsParsed text Parsed.Invalid = NeverHasRequest text
+IsParsed text Parsed.TooManyFields = RequestExceeds max_fields text
+
+-- the faults before a whole head
+abbrev pub IsHeadFault : List ℕ → Ending → WireFault → Bool → Type 0
+IsHeadFault input ending Fault.BadHead bare = IsBadHead input ending × (bare ≡ false)
+IsHeadFault input ending Fault.HeadTooLarge bare = IsTooLarge input × (bare ≡ false)
+IsHeadFault input ending Fault.BadFraming bare = ⊥
+IsHeadFault input ending Fault.UnknownCoding bare = ⊥
+IsHeadFault input ending Fault.BodyTooLarge bare = ⊥
+IsHeadFault input ending Fault.ReadFailed bare = IsReadFailure input ending × (bare ≡ false)
+IsHeadFault input ending Fault.NoMemory bare = IsBare input bare
+IsHeadFault input ending Fault.WriteFailed bare = ⊥
+
+-- what came of reading a head
+abbrev pub IsHeadRead : List ℕ → Ending → HeadRead → Type 0
+IsHeadRead input ending (HeadRead.Whole h) = (head : RequestHead) × IsHead input head [] × HasHead h head × (ending ≡ open_yet)
+IsHeadRead input ending (HeadRead.Fault fault bare) = IsHeadFault input ending fault bare
+IsHeadRead input ending HeadRead.End = IsEndOfInput input × (ending ≡ ended)
+
+-- what bytes are that are no head: one may come of them, and the answer is this, or their fault
+abbrev pub IsStanding : List ℕ → WireFault → WireFault → Type 0
+IsStanding text waiting fault =
+    ((fault ≡ waiting) × MayBecomeRequest text)
+    ⊎ (((fault ≡ Fault.BadHead) × NeverHasRequest text)
+    ⊎ ((fault ≡ Fault.HeadTooLarge) × RequestExceeds max_fields text))
+
+-- what came of reading a body
+abbrev pub IsBodyRead : ℕ → Framing → List ℕ → Ending → BodyRead → Type 0
+IsBodyRead limit framing input ending (BodyRead.Whole body) = IsBody limit framing body input × (ending ≡ open_yet)
+IsBodyRead limit framing input ending (BodyRead.Cut body) = IsCutBody limit framing body input × ((ending ≡ ended) ⊎ (ending ≡ failed))
+IsBodyRead limit framing input ending (BodyRead.Fault fault) = (fault ≡ Fault.NoMemory) ⊎ IsBodyFault limit framing input fault
+
+-- the ending that a batch shows
+abbrev pub batch_ending : Batch → Ending
+batch_ending Batch.Came = open_yet
+batch_ending Batch.Ended = ended
+batch_ending Batch.Failed = failed
+
+-- the bytes of a batch: some and at most so many, or none
+abbrev pub IsBatch : Batch → ℕ → List ℕ → Type 0
+IsBatch Batch.Came most run = (0 < length run) × (length run ≤ most)
+IsBatch Batch.Ended most run = run ≡ []
+IsBatch Batch.Failed most run = run ≡ []
+
+-- why a part stopped: it breaks off so, or is wrong so
+abbrev pub IsStop : Ending → Type 0 → Type 0 → Stop → Type 0
+IsStop ending cut bad Stop.Ended = cut × (ending ≡ ended)
+IsStop ending cut bad Stop.Failed = cut × (ending ≡ failed)
+IsStop ending cut bad Stop.Bad = bad × (ending ≡ open_yet)
+IsStop ending cut bad Stop.NoMemory = ending ≡ open_yet
+
+-- a body that stops so, with the bytes that came
+abbrev pub stopped : Stop → List ℕ → BodyRead
+stopped Stop.Ended bytes = BodyRead.Cut bytes
+stopped Stop.Failed bytes = BodyRead.Cut bytes
+stopped Stop.Bad bytes = BodyRead.Fault Fault.BadFraming
+stopped Stop.NoMemory bytes = BodyRead.Fault Fault.NoMemory
+
+-- a body of that size, or less
+abbrev pub IsBytesRead : {X : Type 0} → ℕ → List ℕ → Ending → Result X Stop → Type 0
+IsBytesRead size bytes ending (Ok done) = (length bytes ≡ size) × (ending ≡ open_yet)
+IsBytesRead size bytes ending (Err stop) = IsStop ending (length bytes < size) ⊥ stop
+
+-- a chunk line and its size
+abbrev pub IsLineRead : List ℕ → Ending → Result ℕ Stop → Type 0
+IsLineRead input ending (Ok size) = (line : ChunkLine) × IsLine line × (input ≡ print_chunk_line line) × (size ≡ chunk_size line) × (ending ≡ open_yet)
+IsLineRead input ending (Err stop) = IsStop ending (IsOpenLine input) (IsBadLine input) stop
+
+-- one byte
+abbrev pub IsByteRead : {X : Type 0} → ℕ → List ℕ → Ending → Result X Stop → Type 0
+IsByteRead wanted input ending (Ok done) = (input ≡ wanted ∷ []) × (ending ≡ open_yet)
+IsByteRead wanted input ending (Err stop) = IsStop ending (input ≡ []) ((b : ℕ) × (input ≡ b ∷ []) × (b ≢ wanted)) stop
+
+-- CRLF
+abbrev pub IsCrlfRead : {X : Type 0} → List ℕ → Ending → Result X Stop → Type 0
+IsCrlfRead input ending (Ok done) = (input ≡ crlf_bytes) × (ending ≡ open_yet)
+IsCrlfRead input ending (Err stop) = IsStop ending (IsOpenEnd input) (IsBadEnd input) stop
+
+-- what the parser says of the bytes so far of a trailer section
+abbrev pub AreParsed : List ℕ → Trailers → Type 0
+AreParsed text Trailers.Whole =
+    (fields : List Line.Field) × (last : Line.LineEnd) × (rest : List ℕ) × ReadsSection text fields last rest × (length fields ≤ max_fields)
+AreParsed text Trailers.Partial = HasNoSection text × MayBecomeSection text
+AreParsed text Trailers.Bad = NeverHasSection text ⊎ SectionExceeds max_fields text
+
+-- a trailer section
+abbrev pub AreTrailersRead : {X : Type 0} → List ℕ → Ending → Result X Stop → Type 0
+AreTrailersRead input ending (Ok done) = IsTrailers input × (ending ≡ open_yet)
+AreTrailersRead input ending (Err stop) = IsStop ending (AreOpenTrailers input) (AreBadTrailers input) stop
+
+-- some front of the text was written, and where it is done all of it
+abbrev pub WritesIf : Option (List ℕ) → Option (List ℕ) → List ℕ → Bool → Type 0
+WritesIf before after text done =
+    (front : List ℕ) × IsFront front text × Appends before after front × (done ≡ true → front ≡ text)

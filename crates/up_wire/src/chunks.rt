@@ -1,0 +1,186 @@
+//! Reading a chunked body.
+ghost use Rattle.std.specs.Prelude.{◌≡◌, ◌+◌, ◌<◌, List, ℕ};
+ghost use Rattle.std.specs.Io.KnownBytes.{Consumes};
+ghost use Rattle.up_wire.specs.Message.{Ending};
+ghost use Rattle.up_wire.specs.Limits.{max_interruptions};
+ghost use Rattle.up_wire.specs.Steps.{EndsSo, IsBodyRead, IsLineRead, IsByteRead, IsCrlfRead, AreParsed, AreTrailersRead};
+
+use crate::body::{BodyRead, Stop, read_bytes};
+use crate::device::Source;
+use crate::framing::Framing;
+use crate::head::MAX_FIELDS;
+use crate::head_reader::MAX_HEAD;
+use crate::sequence::Sequence;
+use crate::step::{Step, take_step};
+use crate::wire_fault::WireFault;
+use httparse::spans::{EMPTY_HEADER_SPAN, parse_headers};
+use httparse::{Error, Status, parse_chunk_size};
+use std::alloc::Global;
+
+/// How many bytes a chunk line may have, its CRLF among them.
+const MAX_LINE: usize = 256;
+
+/// Reads chunks, the last line and the trailers.
+pub(crate) fn read_chunks<R: Source>(
+    alloc: Global,
+    source: &mut R,
+    interruptions: &mut u32,
+    limit: u64,
+) -> BodyRead
+    requires { interruptions.old < max_interruptions }
+    ensures answer { (input : List ℕ) × (ending : Ending)
+        × Consumes (R.left source.old) (R.left source.new) input
+        × EndsSo ending (R.left source.new) (R.has_failed source.new) interruptions.new
+        × IsBodyRead limit Framing.Chunked input ending result }
+    ensures counted { interruptions.new + R.interruptions source.old
+        ≡ interruptions.old + R.interruptions source.new }
+{
+    let mut body = Vec::new(alloc);
+    'chunks: loop {
+        let size = match read_line(alloc, source, interruptions) {
+            Ok(size) => size,
+            Err(stop) => return stop.into_body(body),
+        };
+        if size == 0 {
+            return match read_trailers(alloc, source, interruptions) {
+                Ok(()) => BodyRead::Whole(Sequence::from_vec(body)),
+                Err(stop) => stop.into_body(body),
+            };
+        }
+        let done = body.len() as u64;
+        if size > limit - done {
+            return BodyRead::Fault(WireFault::BodyTooLarge);
+        }
+        if let Err(stop) = read_bytes(source, interruptions, &mut body, done + size, limit) {
+            return stop.into_body(body);
+        }
+        if let Err(stop) = read_crlf(source, interruptions) {
+            return stop.into_body(body);
+        }
+    }
+}
+
+/// Reads a chunk line, and answers the size that it says.
+fn read_line<R: Source>(alloc: Global, source: &mut R, interruptions: &mut u32) -> Result<u64, Stop>
+    requires { interruptions.old < max_interruptions }
+    ensures answer { (input : List ℕ) × (ending : Ending)
+        × Consumes (R.left source.old) (R.left source.new) input
+        × EndsSo ending (R.left source.new) (R.has_failed source.new) interruptions.new
+        × IsLineRead input ending result }
+    ensures counted { interruptions.new + R.interruptions source.old
+        ≡ interruptions.old + R.interruptions source.new }
+{
+    let mut text = Vec::new(alloc);
+    'bytes: while text.len() < MAX_LINE {
+        if text.reserve(1).is_err() {
+            return Err(Stop::NoMemory);
+        }
+        match take_step(source, interruptions) {
+            Step::Byte(byte) => {
+                text.push_reserved(byte);
+                if byte == b'\n' {
+                    match parse_chunk_size(&text) {
+                        Ok(Status::Complete((_, size))) => return Ok(size),
+                        Ok(Status::Partial) => return Err(Stop::Bad),
+                        Err(_) => return Err(Stop::Bad),
+                    }
+                }
+            }
+            Step::Ended => return Err(Stop::Ended),
+            Step::Failed => return Err(Stop::Failed),
+        }
+    }
+    Err(Stop::Bad)
+}
+
+/// Reads the CRLF behind a chunk.
+fn read_crlf<R: Source>(source: &mut R, interruptions: &mut u32) -> Result<(), Stop>
+    requires { interruptions.old < max_interruptions }
+    ensures answer { (input : List ℕ) × (ending : Ending)
+        × Consumes (R.left source.old) (R.left source.new) input
+        × EndsSo ending (R.left source.new) (R.has_failed source.new) interruptions.new
+        × IsCrlfRead input ending result }
+    ensures counted { interruptions.new + R.interruptions source.old
+        ≡ interruptions.old + R.interruptions source.new }
+{
+    match read_byte(source, interruptions, b'\r') {
+        Ok(()) => read_byte(source, interruptions, b'\n'),
+        Err(stop) => Err(stop),
+    }
+}
+
+/// Reads this byte.
+fn read_byte<R: Source>(source: &mut R, interruptions: &mut u32, wanted: u8) -> Result<(), Stop>
+    requires { interruptions.old < max_interruptions }
+    ensures answer { (input : List ℕ) × (ending : Ending)
+        × Consumes (R.left source.old) (R.left source.new) input
+        × EndsSo ending (R.left source.new) (R.has_failed source.new) interruptions.new
+        × IsByteRead wanted input ending result }
+    ensures counted { interruptions.new + R.interruptions source.old
+        ≡ interruptions.old + R.interruptions source.new }
+{
+    match take_step(source, interruptions) {
+        Step::Byte(byte) if byte == wanted => Ok(()),
+        Step::Byte(_) => Err(Stop::Bad),
+        Step::Ended => Err(Stop::Ended),
+        Step::Failed => Err(Stop::Failed),
+    }
+}
+
+/// What the bytes so far are of a trailer section.
+#[derive(Clone, Copy)]
+enum Trailers {
+    Whole,
+    Partial,
+    Bad,
+}
+
+/// Reads a trailer section that stands at the front of the bytes.
+fn parse_trailers(text: &[u8]) -> Trailers
+    ensures { AreParsed text.now result }
+{
+    let mut spans = [EMPTY_HEADER_SPAN; MAX_FIELDS];
+    match parse_headers(text, &mut spans) {
+        Ok(Status::Complete(_)) => Trailers::Whole,
+        Ok(Status::Partial) => Trailers::Partial,
+        Err(Error::TooManyHeaders) => Trailers::Bad,
+        Err(_) => Trailers::Bad,
+    }
+}
+
+/// Reads trailer fields and the empty line behind them, and drops them.
+fn read_trailers<R: Source>(
+    alloc: Global,
+    source: &mut R,
+    interruptions: &mut u32,
+) -> Result<(), Stop>
+    requires { interruptions.old < max_interruptions }
+    ensures answer { (input : List ℕ) × (ending : Ending)
+        × Consumes (R.left source.old) (R.left source.new) input
+        × EndsSo ending (R.left source.new) (R.has_failed source.new) interruptions.new
+        × AreTrailersRead input ending result }
+    ensures counted { interruptions.new + R.interruptions source.old
+        ≡ interruptions.old + R.interruptions source.new }
+{
+    let mut text = Vec::new(alloc);
+    'bytes: while text.len() < MAX_HEAD {
+        if text.reserve(1).is_err() {
+            return Err(Stop::NoMemory);
+        }
+        match take_step(source, interruptions) {
+            Step::Byte(byte) => {
+                text.push_reserved(byte);
+                if byte == b'\n' {
+                    match parse_trailers(&text) {
+                        Trailers::Whole => return Ok(()),
+                        Trailers::Partial => {}
+                        Trailers::Bad => return Err(Stop::Bad),
+                    }
+                }
+            }
+            Step::Ended => return Err(Stop::Ended),
+            Step::Failed => return Err(Stop::Failed),
+        }
+    }
+    Err(Stop::Bad)
+}

@@ -1,0 +1,133 @@
+//! What the fields of a head say.
+ghost use Rattle.std.specs.Prelude.{◌≡◌, reverse, codes};
+ghost use Rattle.std.specs.List.{list_any};
+ghost use Rattle.httparse.specs.Grammar.{skip_ows, trim_ows};
+ghost use Rattle.up_wire.specs.Fields.{values, same_name, has_token, IsOneOf};
+ghost use Rattle.up_wire.specs.Framing.{closes, is_continue, asks_to_continue};
+
+use crate::message::Field;
+use httparse::is_space_or_tab;
+
+/// The values of the fields of one name.
+#[derive(Clone, Copy)]
+pub(crate) enum Values<'a> {
+    Absent,
+    One(&'a [u8]),
+    Several,
+}
+
+/// Whether the texts are the same without regard to case, as names of fields are compared
+/// (RFC 9110, section 5.1).
+pub fn same_name(a: &[u8], b: &[u8]) -> bool
+    ensures { result ≡ same_name a.now b.now }
+{
+    a.eq_ignore_ascii_case(b)
+}
+
+/// The value of the fields with that name, where there is just one.
+pub(crate) fn find_value<'a>(fields: &'a [Field], name: &[u8]) -> Values<'a>
+    ensures { IsOneOf result (values name.now fields.now) }
+{
+    let mut found = Values::Absent;
+    for field in fields {
+        if same_name(field.0.as_slice(), name) {
+            found = match found {
+                Values::Absent => Values::One(field.1.as_slice()),
+                _ => Values::Several,
+            };
+        }
+    }
+    found
+}
+
+fn trim_start(mut text: &[u8]) -> &[u8]
+    ensures { result.now ≡ skip_ows text.now }
+{
+    while let [first, rest @ ..] = text
+        && is_space_or_tab(*first)
+    {
+        text = rest;
+    }
+    text
+}
+
+fn trim_end(mut text: &[u8]) -> &[u8]
+    ensures { result.now ≡ reverse (skip_ows (reverse text.now)) }
+{
+    while let [rest @ .., last] = text
+        && is_space_or_tab(*last)
+    {
+        text = rest;
+    }
+    text
+}
+
+/// The text without the blanks at both ends.
+fn trim(text: &[u8]) -> &[u8]
+    ensures { result.now ≡ trim_ows text.now }
+{
+    trim_end(trim_start(text))
+}
+
+/// Whether the text, up to each comma, is the token somewhere.
+fn has_token(value: &[u8], token: &[u8]) -> bool
+    ensures { result ≡ has_token token.now value.now }
+{
+    let mut rest = value;
+    'pieces: loop {
+        match rest.iter().position(|b| *b == b',') {
+            Some(comma) => {
+                if same_name(trim(&rest[..comma]), token) {
+                    return true;
+                }
+                rest = &rest[comma + 1..];
+            }
+            None => return same_name(trim(rest), token),
+        }
+    }
+}
+
+/// Whether the conversation closes after a message with these fields.
+pub(crate) fn closes(minor: u8, fields: &[Field]) -> bool
+    ensures { result ≡ closes minor fields.now }
+{
+    minor == 0 || says_close(fields)
+}
+
+fn says_close(fields: &[Field]) -> bool
+    ensures { result ≡ list_any (has_token (codes "close")) (values (codes "connection") fields.now) }
+{
+    let mut closes = false;
+    for field in fields {
+        if same_name(field.0.as_slice(), b"connection") {
+            closes |= has_token(field.1.as_slice(), b"close");
+        }
+    }
+    closes
+}
+
+/// Whether the client waits for `100 Continue`.
+pub(crate) fn asks_to_continue(minor: u8, fields: &[Field]) -> bool
+    ensures { result ≡ asks_to_continue minor fields.now }
+{
+    minor == 1 && expects_continue(fields)
+}
+
+fn expects_continue(fields: &[Field]) -> bool
+    ensures { result ≡ list_any is_continue (values (codes "expect") fields.now) }
+{
+    let mut asks = false;
+    for field in fields {
+        if same_name(field.0.as_slice(), b"expect") {
+            asks |= is_continue(field.1.as_slice());
+        }
+    }
+    asks
+}
+
+#[tactic(auto, unfolding(crate::specs::Framing::is_continue))]
+fn is_continue(value: &[u8]) -> bool
+    ensures { result ≡ is_continue value.now }
+{
+    same_name(value, b"100-continue")
+}

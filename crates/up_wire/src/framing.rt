@@ -1,0 +1,54 @@
+//! Where a message's body ends.
+ghost use Rattle.std.specs.Prelude.{◌≡◌};
+ghost use Rattle.up_wire.specs.Framing.{sized, coded, framing};
+
+use crate::digits::{is_digits, number};
+use crate::fields::{Values, find_value, same_name};
+use crate::message::Field;
+use crate::wire_fault::WireFault;
+
+/// How a head says where the body ends.
+#[derive(Clone, Copy, Debug)]
+pub enum Framing {
+    NoBody,
+    Sized(u64),
+    Chunked,
+}
+
+/// How the body is framed, or the fault of the fields that say so.
+pub(crate) fn framing_of(limit: u64, minor: u8, fields: &[Field]) -> Result<Framing, WireFault>
+    ensures { result ≡ framing limit minor fields.now }
+{
+    let size = find_value(fields, b"content-length");
+    let coding = find_value(fields, b"transfer-encoding");
+    match (size, coding) {
+        (Values::Absent, Values::Absent) => Ok(Framing::NoBody),
+        (Values::One(value), Values::Absent) => sized(limit, value),
+        (Values::Absent, Values::One(value)) => coded(minor, value),
+        _ => Err(WireFault::BadFraming),
+    }
+}
+
+fn sized(limit: u64, value: &[u8]) -> Result<Framing, WireFault>
+    ensures { result ≡ sized limit value.now }
+{
+    if !is_digits(value) {
+        return Err(WireFault::BadFraming);
+    }
+    match number(value) {
+        Some(size) if size <= limit => Ok(Framing::Sized(size)),
+        _ => Err(WireFault::BodyTooLarge),
+    }
+}
+
+fn coded(minor: u8, value: &[u8]) -> Result<Framing, WireFault>
+    ensures { result ≡ coded minor value.now }
+{
+    if minor == 0 {
+        return Err(WireFault::BadFraming);
+    }
+    if same_name(value, b"chunked") {
+        return Ok(Framing::Chunked);
+    }
+    Err(WireFault::UnknownCoding)
+}

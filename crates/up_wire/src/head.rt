@@ -1,0 +1,148 @@
+//! A head out of its bytes.
+ghost use Rattle.std.specs.Prelude.{◌≡◌, ◌≤◌, length, take, map, All, IfOk, bytes_eq, codes};
+ghost use Rattle.up_wire.specs.Framing.{closes};
+ghost use Rattle.http_header.specs.Token.{IsToken};
+ghost use Rattle.httparse.specs.Spans.{span_bytes, header_bytes, IsHeaderWithin, IsRequestWithin};
+ghost use Rattle.up_wire.specs.Steps.{IsParsed};
+
+use crate::fields::closes;
+use crate::message::{Field, Message};
+use crate::sequence::Sequence;
+use http::Method;
+use http::method::MethodError;
+use httparse::spans::{EMPTY_HEADER_SPAN, HeaderSpan, RequestSpans, parse_request};
+use httparse::{Error, Status};
+use std::alloc::{AllocError, Global};
+
+/// How many fields a head may have.
+pub(crate) const MAX_FIELDS: usize = 64;
+
+/// The parts of a head.
+#[derive(Drop)]
+pub(crate) struct Head {
+    pub(crate) method: Method,
+    pub(crate) target: Sequence<u8>,
+    pub(crate) fields: Sequence<Field>,
+    pub(crate) minor: u8,
+}
+
+impl Head {
+    /// Whether the method is HEAD.
+    pub(crate) fn is_bare(&self) -> bool
+        ensures { result ≡ bytes_eq self.now.method (codes "HEAD") }
+    {
+        self.method.as_str() == "HEAD"
+    }
+
+    /// The message with this head and body.
+    pub(crate) fn into_message(self, body: Sequence<u8>) -> Message
+        ensures method { result.method ≡ self.method }
+        ensures target { result.target ≡ self.target }
+        ensures fields { result.fields ≡ self.fields }
+        ensures body { result.body ≡ body }
+        ensures bare { result.bare ≡ bytes_eq self.method (codes "HEAD") }
+        ensures close { result.close ≡ closes self.minor self.fields }
+    {
+        let bare = self.is_bare();
+        let close = closes(self.minor, self.fields.as_slice());
+        Message {
+            method: self.method,
+            target: self.target,
+            fields: self.fields,
+            body,
+            bare,
+            close,
+        }
+    }
+}
+
+/// What the bytes so far are.
+#[derive(Drop)]
+pub(crate) enum Parsed {
+    Whole(Head),
+    /// They are a head, whose method may be HEAD, and there was no memory for its parts.
+    NoMemory(bool),
+    /// They are none yet, and may become one.
+    Partial,
+    /// No head begins so.
+    Invalid,
+    TooManyFields,
+}
+
+/// Reads a head that stands at the front of the bytes.
+pub(crate) fn parse(alloc: Global, text: &[u8]) -> Parsed
+    ensures { IsParsed text.now result }
+{
+    let mut spans = [EMPTY_HEADER_SPAN; MAX_FIELDS];
+    match parse_request(text, &mut spans) {
+        Ok(Status::Complete(found)) => {
+            let bare = found.method.of(text) == b"HEAD".as_slice();
+            match head_of(alloc, text, &spans, found) {
+                Ok(head) => Parsed::Whole(head),
+                Err(_) => Parsed::NoMemory(bare),
+            }
+        }
+        Ok(Status::Partial) => Parsed::Partial,
+        Err(Error::TooManyHeaders) => Parsed::TooManyFields,
+        Err(_) => Parsed::Invalid,
+    }
+}
+
+fn head_of(
+    alloc: Global,
+    text: &[u8],
+    spans: &[HeaderSpan],
+    found: RequestSpans,
+) -> Result<Head, AllocError>
+    requires within { IsRequestWithin text.now spans.now found }
+    requires token { IsToken (span_bytes text.now found.method) }
+    ensures method { IfOk result (λ head. head.method ≡ span_bytes text.now found.method) }
+    ensures target { IfOk result (λ head. head.target ≡ span_bytes text.now found.path) }
+    ensures minor { IfOk result (λ head. head.minor ≡ found.version) }
+    ensures fields { IfOk result (λ head. head.fields ≡ map (header_bytes text.now) (take found.headers spans.now)) }
+{
+    let method = method_of(alloc, found.method.of(text))?;
+    let target = Sequence::from_slice(alloc, found.path.of(text))?;
+    let fields = fields_of(alloc, text, &spans[..found.headers])?;
+    Ok(Head {
+        method,
+        target,
+        fields,
+        minor: found.version,
+    })
+}
+
+fn method_of(alloc: Global, name: &[u8]) -> Result<Method, AllocError>
+    requires { IsToken name.now }
+    ensures { IfOk result (λ method. method ≡ name.now) }
+{
+    match Method::from_bytes(alloc, name) {
+        Ok(method) => Ok(method),
+        Err(MethodError::OutOfMemory) => Err(AllocError),
+        Err(MethodError::Invalid) => unreachable!(),
+    }
+}
+
+fn fields_of(
+    alloc: Global,
+    text: &[u8],
+    spans: &[HeaderSpan],
+) -> Result<Sequence<Field>, AllocError>
+    requires { All (IsHeaderWithin (length text.now)) spans.now }
+    ensures { IfOk result (λ fields. fields ≡ map (header_bytes text.now) spans.now) }
+{
+    let mut fields = Sequence::new(alloc);
+    for span in spans {
+        fields.push(field_of(alloc, text, *span)?)?;
+    }
+    Ok(fields)
+}
+
+fn field_of(alloc: Global, text: &[u8], span: HeaderSpan) -> Result<Field, AllocError>
+    requires { IsHeaderWithin (length text.now) span }
+    ensures { IfOk result (λ field. field ≡ header_bytes text.now span) }
+{
+    let name = Sequence::from_slice(alloc, span.name.of(text))?;
+    let value = Sequence::from_slice(alloc, span.value.of(text))?;
+    Ok((name, value))
+}

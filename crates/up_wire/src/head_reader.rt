@@ -1,0 +1,117 @@
+//! Reading a head.
+ghost use Rattle.std.specs.Prelude.{◌≡◌, ◌+◌, ◌<◌, ◌==◌, ◌||◌, List, ℕ, false};
+ghost use Rattle.std.specs.Io.KnownBytes.{Consumes};
+ghost use Rattle.httparse.specs.Grammar.{HasNoRequest};
+ghost use Rattle.up_wire.specs.Message.{Ending, is_crlfs};
+ghost use Rattle.up_wire.specs.Limits.{max_interruptions};
+ghost use Rattle.up_wire.specs.Steps.{EndsSo, IsStanding, IsHeadRead};
+
+use crate::device::Source;
+use crate::head::{Head, MAX_FIELDS, Parsed, parse};
+use crate::step::{Step, take_step};
+use crate::wire_fault::WireFault;
+use httparse::spans::{EMPTY_HEADER_SPAN, parse_request};
+use httparse::{Error, Status};
+use std::alloc::Global;
+
+/// How many bytes a head may have.
+pub(crate) const MAX_HEAD: usize = 16384;
+
+/// What came of reading a head.
+#[derive(Drop)]
+pub(crate) enum HeadRead {
+    Whole(Head),
+    Fault { fault: WireFault, bare: bool },
+    End,
+}
+
+impl HeadRead {
+    fn refuse(fault: WireFault) -> HeadRead
+        ensures { result ≡ HeadRead.Fault fault false }
+    {
+        HeadRead::Fault { fault, bare: false }
+    }
+}
+
+/// Whether the bytes are empty lines alone.
+fn is_blank(mut text: &[u8]) -> bool
+    ensures { result ≡ is_crlfs text.now }
+{
+    while let [b'\r', b'\n', rest @ ..] = text {
+        text = rest;
+    }
+    text.is_empty()
+}
+
+/// Whether the byte is one of a line end.
+fn is_line_end(byte: u8) -> bool
+    ensures { result ≡ (byte == 13 || byte == 10) }
+{
+    byte == b'\r' || byte == b'\n'
+}
+
+/// The fault of bytes that are no head, or this one where they may become a head.
+fn fault_of(text: &[u8], waiting: WireFault) -> WireFault
+    requires { HasNoRequest text.now }
+    ensures { IsStanding text.now waiting result }
+{
+    let mut spans = [EMPTY_HEADER_SPAN; MAX_FIELDS];
+    match parse_request(text, &mut spans) {
+        Ok(Status::Partial) => waiting,
+        Ok(Status::Complete(_)) => unreachable!(),
+        Err(Error::TooManyHeaders) => WireFault::HeadTooLarge,
+        Err(_) => WireFault::BadHead,
+    }
+}
+
+/// Reads a head, and no byte behind it. Its bytes are parsed where a line ends, once one that isn't empty has begun.
+pub(crate) fn read_head<R: Source>(
+    alloc: Global,
+    source: &mut R,
+    interruptions: &mut u32,
+) -> HeadRead
+    requires { interruptions.old < max_interruptions }
+    ensures answer { (input : List ℕ) × (ending : Ending)
+        × Consumes (R.left source.old) (R.left source.new) input
+        × EndsSo ending (R.left source.new) (R.has_failed source.new) interruptions.new
+        × IsHeadRead input ending result }
+    ensures counted { interruptions.new + R.interruptions source.old
+        ≡ interruptions.old + R.interruptions source.new }
+{
+    let mut text = Vec::new(alloc);
+    let mut is_begun = false;
+    'bytes: while text.len() < MAX_HEAD {
+        if text.reserve(1).is_err() {
+            return HeadRead::refuse(WireFault::NoMemory);
+        }
+        match take_step(source, interruptions) {
+            Step::Byte(byte) => {
+                text.push_reserved(byte);
+                is_begun |= !is_line_end(byte);
+                if is_begun && byte == b'\n' {
+                    match parse(alloc, &text) {
+                        Parsed::Whole(head) => return HeadRead::Whole(head),
+                        Parsed::NoMemory(bare) => {
+                            return HeadRead::Fault {
+                                fault: WireFault::NoMemory,
+                                bare,
+                            };
+                        }
+                        Parsed::Partial => {}
+                        Parsed::Invalid => return HeadRead::refuse(WireFault::BadHead),
+                        Parsed::TooManyFields => return HeadRead::refuse(WireFault::HeadTooLarge),
+                    }
+                }
+            }
+            Step::Ended => {
+                if is_blank(&text) {
+                    return HeadRead::End;
+                }
+                return HeadRead::refuse(WireFault::BadHead);
+            }
+            Step::Failed => return HeadRead::refuse(fault_of(&text, WireFault::ReadFailed)),
+        }
+    }
+    let fault = fault_of(&text, WireFault::HeadTooLarge);
+    HeadRead::refuse(fault)
+}

@@ -1,0 +1,143 @@
+//! A reader of std as a source.
+ghost use Rattle.std.specs.Prelude.{◌≡◌, ℕ, ◌<◌, ◌≤◌, ◌⊎◌, ◌+◌, false, not, List, [], ◌++◌, Some, IfOk, OnErr, length, vec_len, vec_capacity, if◌then◌else◌};
+ghost use Rattle.std.specs.Io.KnownBytes.{Consumes, Keeps, IsAtEnd};
+ghost use Rattle.up_wire.specs.Device.{maybe_byte, IsNoneAtEnd};
+
+use crate::device::{NextByte, Run, Source};
+use std::io::{self, BufRead, ErrorKind};
+
+/// A reader of std as a source. Once the reader showed that it has no more, the source stays at its end.
+#[derive(Drop)]
+pub struct Input<R> {
+    reader: R,
+    has_ended: bool,
+    has_failed: bool,
+    interruptions: u64,
+}
+
+impl<R> Input<R> {
+    /// Whether an error of the reader was an interruption. Otherwise the source has failed for good.
+    fn is_interrupted(&mut self, error: &io::Error) -> bool
+        ensures reader { self.new.reader ≡ self.old.reader }
+        ensures ended { self.new.has_ended ≡ self.old.has_ended }
+        ensures failed { self.new.has_failed ≡ not result }
+        ensures interrupted { self.new.interruptions ≡ if result then self.old.interruptions + 1 else self.old.interruptions }
+    {
+        if error.kind() == ErrorKind::Interrupted && self.interruptions < u64::MAX {
+            self.interruptions += 1;
+            self.has_failed = false;
+            return true;
+        }
+        self.has_failed = true;
+        false
+    }
+}
+
+impl<R: BufRead> Input<R> {
+    /// A source that reads from the reader.
+    pub fn new(reader: R) -> Input<R>
+        ensures left { ⟦<Input<R> as Source>⟧.left result ≡ R.remaining reader }
+        ensures failed { ⟦<Input<R> as Source>⟧.has_failed result ≡ false }
+        ensures interruptions { ⟦<Input<R> as Source>⟧.interruptions result ≡ 0 }
+    {
+        Input {
+            reader,
+            has_ended: false,
+            has_failed: false,
+            interruptions: 0,
+        }
+    }
+
+    /// The reader. The source keeps no byte back.
+    pub fn into_inner(self) -> R
+        ensures { IsAtEnd (⟦<Input<R> as Source>⟧.left self) ⊎ (R.remaining result ≡ ⟦<Input<R> as Source>⟧.left self) }
+    {
+        self.reader
+    }
+}
+
+impl<R: BufRead> Source for Input<R> {
+    ghost left = { λ s. if s.has_ended then Some [] else R.remaining s.reader };
+
+    ghost has_failed = { λ s. s.has_failed };
+
+    ghost interruptions = { λ s. s.interruptions };
+
+    fn next_byte(&mut self) -> NextByte {
+        if self.has_failed {
+            return NextByte::Failed;
+        }
+        if self.has_ended {
+            return NextByte::End;
+        }
+        match take_shown(&mut self.reader) {
+            Ok(Some(byte)) => NextByte::Byte(byte),
+            Ok(None) => {
+                self.has_ended = true;
+                NextByte::End
+            }
+            Err(error) if self.is_interrupted(&error) => NextByte::Interrupted,
+            Err(_) => NextByte::Failed,
+        }
+    }
+
+    fn take_run(&mut self, into: &mut Vec<u8>, most: usize) -> Run {
+        if self.has_failed {
+            return Run::Failed;
+        }
+        if self.has_ended {
+            return Run::End;
+        }
+        match move_shown(&mut self.reader, into, most) {
+            Ok(0) => {
+                self.has_ended = true;
+                Run::End
+            }
+            Ok(count) => Run::Moved(count),
+            Err(error) if self.is_interrupted(&error) => Run::Interrupted,
+            Err(_) => Run::Failed,
+        }
+    }
+}
+
+/// The next byte of the reader, or None at its end.
+fn take_shown<R: BufRead>(reader: &mut R) -> io::Result<Option<u8>>
+    ensures bytes { IfOk result (λ found. Consumes (R.remaining reader.old) (R.remaining reader.new) (maybe_byte found)) }
+    ensures end { IfOk result (λ found. IsNoneAtEnd found (R.remaining reader.old)) }
+    ensures err { OnErr result (Keeps (R.remaining reader.old) (R.remaining reader.new)) }
+{
+    let available = match reader.fill_buf() {
+        Ok(available) => available,
+        Err(error) => return Err(error),
+    };
+    if available.is_empty() {
+        return Ok(None);
+    }
+    let byte = available[0];
+    reader.consume(1);
+    Ok(Some(byte))
+}
+
+/// Moves what the reader has at hand, or waits for some: at most so many bytes, and none at its end.
+fn move_shown<R: BufRead>(reader: &mut R, into: &mut Vec<u8>, most: usize) -> io::Result<usize>
+    requires some { 0 < most }
+    requires room { vec_len into.old + most ≤ vec_capacity into.old }
+    ensures bytes { IfOk result (λ count. (run : List ℕ)
+        × Consumes (R.remaining reader.old) (R.remaining reader.new) run
+        × (into.new.items ≡ into.old.items ++ run) × (length run ≡ count) × (count ≤ most)) }
+    ensures end { IfOk result (λ count. count ≡ 0 → IsAtEnd (R.remaining reader.old)) }
+    ensures err { OnErr result (Keeps (R.remaining reader.old) (R.remaining reader.new)) }
+    ensures unchanged { OnErr result (into.new.items ≡ into.old.items) }
+    ensures room { vec_capacity into.old ≤ vec_capacity into.new }
+{
+    let available = match reader.fill_buf() {
+        Ok(available) => available,
+        Err(error) => return Err(error),
+    };
+    let count = available.len().min(most);
+    if into.extend_from_slice(&available[..count]).is_err() {
+        unreachable!();
+    }
+    reader.consume(count);
+    Ok(count)
+}

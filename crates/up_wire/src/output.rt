@@ -1,0 +1,86 @@
+//! A writer of std as a sink.
+ghost use Rattle.std.specs.Prelude.{◌≡◌, ◌+◌, false};
+ghost use Rattle.up_wire.specs.Device.{IsNothing, is_failed_write, interrupted_writes};
+
+use crate::device::{Sink, WriteSome};
+use std::io::{self, ErrorKind, Write};
+
+/// A writer of std as a sink. A write that takes nothing, though it was given something, is a failed one.
+#[derive(Drop)]
+pub struct Output<W> {
+    writer: W,
+    has_failed: bool,
+    interruptions: u64,
+}
+
+impl<W> Output<W> {
+    /// Notes an error of the writer: it was interrupted, or has failed for good.
+    fn note(&mut self, error: &io::Error) -> WriteSome
+        ensures writer { self.new.writer ≡ self.old.writer }
+        ensures nothing { IsNothing result }
+        ensures failed { self.new.has_failed ≡ is_failed_write result }
+        ensures interrupted { self.new.interruptions ≡ self.old.interruptions + interrupted_writes result }
+    {
+        if error.kind() == ErrorKind::Interrupted && self.interruptions < u64::MAX {
+            self.interruptions += 1;
+            self.has_failed = false;
+            return WriteSome::Interrupted;
+        }
+        self.has_failed = true;
+        WriteSome::Failed
+    }
+}
+
+impl<W: Write> Output<W> {
+    /// A sink that writes to the writer.
+    pub fn new(writer: W) -> Output<W>
+        ensures written { ⟦<Output<W> as Sink>⟧.written result ≡ W.contents writer }
+        ensures failed { ⟦<Output<W> as Sink>⟧.has_failed result ≡ false }
+        ensures interruptions { ⟦<Output<W> as Sink>⟧.interruptions result ≡ 0 }
+    {
+        Output {
+            writer,
+            has_failed: false,
+            interruptions: 0,
+        }
+    }
+
+    /// The writer.
+    pub fn into_inner(self) -> W
+        ensures { W.contents result ≡ ⟦<Output<W> as Sink>⟧.written self }
+    {
+        self.writer
+    }
+}
+
+impl<W: Write> Sink for Output<W> {
+    ghost written = { λ s. W.contents s.writer };
+
+    ghost has_failed = { λ s. s.has_failed };
+
+    ghost interruptions = { λ s. s.interruptions };
+
+    fn write_some(&mut self, bytes: &[u8]) -> WriteSome {
+        if self.has_failed {
+            return WriteSome::Failed;
+        }
+        match self.writer.write(bytes) {
+            Ok(count) if count > 0 || bytes.is_empty() => WriteSome::Took(count),
+            Ok(_) => {
+                self.has_failed = true;
+                WriteSome::Failed
+            }
+            Err(error) => self.note(&error),
+        }
+    }
+
+    fn flush(&mut self) -> WriteSome {
+        if self.has_failed {
+            return WriteSome::Failed;
+        }
+        match self.writer.flush() {
+            Ok(()) => WriteSome::Took(0),
+            Err(error) => self.note(&error),
+        }
+    }
+}

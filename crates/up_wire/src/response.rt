@@ -1,0 +1,172 @@
+//! What is answered.
+ghost use Rattle.std.specs.Prelude.{◌≡◌, ◌+◌, ◌-◌, ◌<◌, ◌≤◌, ◌⊎◌, true, false, flat_map, OnErr};
+ghost use Rattle.up_wire.specs.Device.{GaveUp};
+ghost use Rattle.up_wire.specs.Limits.{max_interruptions};
+ghost use Rattle.up_wire.specs.Steps.{WritesIf};
+ghost use Rattle.up_wire.specs.Response.{Writes, phrase, start_text, field_line, length_line, end_text, response_text};
+
+use crate::device::Sink;
+use crate::message::Field;
+use crate::sequence::Sequence;
+use crate::text::WriteFailed;
+use crate::write::{send_on, write_each};
+use http::StatusCode;
+use itoa::Buffer;
+
+/// A response, without the lines that every response has.
+#[derive(Drop)]
+pub struct Response {
+    /// The status code (RFC 9110, section 15).
+    pub status: u16,
+    pub fields: Sequence<Field>,
+    pub body: Sequence<u8>,
+}
+
+fn write_field<W: Sink>(sink: &mut W, field: &Field, interruptions: &mut u32) -> bool
+    requires { interruptions.old < max_interruptions }
+    ensures written { WritesIf (W.written sink.old) (W.written sink.new) (field_line field.now) result }
+    ensures counted { interruptions.new + W.interruptions sink.old
+        ≡ interruptions.old + W.interruptions sink.new }
+    ensures patient { result ≡ true → interruptions.new < max_interruptions }
+    ensures failed { result ≡ false → GaveUp (W.has_failed sink.new) interruptions.new }
+{
+    let pieces: [&[u8]; 4] = [field.0.as_slice(), b": ", field.1.as_slice(), b"\r\n"];
+    write_each(sink, &pieces, interruptions)
+}
+
+/// Writes the lines of the fields.
+fn write_fields<W: Sink>(sink: &mut W, fields: &[Field], interruptions: &mut u32) -> bool
+    requires { interruptions.old < max_interruptions }
+    ensures written { WritesIf (W.written sink.old) (W.written sink.new) (flat_map field_line fields.now) result }
+    ensures counted { interruptions.new + W.interruptions sink.old
+        ≡ interruptions.old + W.interruptions sink.new }
+    ensures patient { result ≡ true → interruptions.new < max_interruptions }
+    ensures failed { result ≡ false → GaveUp (W.has_failed sink.new) interruptions.new }
+{
+    for field in fields {
+        if !write_field(sink, field, interruptions) {
+            return false;
+        }
+    }
+    true
+}
+
+/// The phrase of a status.
+fn phrase(status: u16) -> &'static str
+    ensures { result.now ≡ phrase status }
+{
+    match StatusCode::from_u16(status) {
+        Ok(code) => code.canonical_reason().unwrap_or(""),
+        Err(_) => "",
+    }
+}
+
+fn write_start<W: Sink>(sink: &mut W, status: u16, interruptions: &mut u32) -> bool
+    requires { interruptions.old < max_interruptions }
+    ensures written { WritesIf (W.written sink.old) (W.written sink.new) (start_text status) result }
+    ensures counted { interruptions.new + W.interruptions sink.old
+        ≡ interruptions.old + W.interruptions sink.new }
+    ensures patient { result ≡ true → interruptions.new < max_interruptions }
+    ensures failed { result ≡ false → GaveUp (W.has_failed sink.new) interruptions.new }
+{
+    let mut digits = Buffer::new();
+    let pieces: [&[u8]; 5] = [
+        b"HTTP/1.1 ",
+        digits.format(status).as_bytes(),
+        b" ",
+        phrase(status).as_bytes(),
+        b"\r\nTus-Resumable: 1.0.0\r\nCache-Control: no-store\r\n",
+    ];
+    write_each(sink, &pieces, interruptions)
+}
+
+fn write_length<W: Sink>(
+    sink: &mut W,
+    response: &Response,
+    bare: bool,
+    interruptions: &mut u32,
+) -> bool
+    requires { interruptions.old < max_interruptions }
+    ensures written { WritesIf (W.written sink.old) (W.written sink.new) (length_line bare response.now) result }
+    ensures counted { interruptions.new + W.interruptions sink.old
+        ≡ interruptions.old + W.interruptions sink.new }
+    ensures patient { result ≡ true → interruptions.new < max_interruptions }
+    ensures failed { result ≡ false → GaveUp (W.has_failed sink.new) interruptions.new }
+{
+    if bare || response.status == 204 {
+        return true;
+    }
+    let mut digits = Buffer::new();
+    let pieces: [&[u8]; 3] = [
+        b"Content-Length: ",
+        digits.format(response.body.as_slice().len()).as_bytes(),
+        b"\r\n",
+    ];
+    write_each(sink, &pieces, interruptions)
+}
+
+fn write_end<W: Sink>(
+    sink: &mut W,
+    body: &[u8],
+    bare: bool,
+    close: bool,
+    interruptions: &mut u32,
+) -> bool
+    requires { interruptions.old < max_interruptions }
+    ensures written { WritesIf (W.written sink.old) (W.written sink.new) (end_text bare close body.now) result }
+    ensures counted { interruptions.new + W.interruptions sink.old
+        ≡ interruptions.old + W.interruptions sink.new }
+    ensures patient { result ≡ true → interruptions.new < max_interruptions }
+    ensures failed { result ≡ false → GaveUp (W.has_failed sink.new) interruptions.new }
+{
+    let closing: &[u8] = if close { b"Connection: close\r\n" } else { b"" };
+    let sent: &[u8] = if bare { b"" } else { body };
+    let pieces: [&[u8]; 3] = [closing, b"\r\n", sent];
+    write_each(sink, &pieces, interruptions)
+}
+
+/// Writes a response. No memory is taken.
+pub fn write_response<W: Sink>(
+    sink: &mut W,
+    response: &Response,
+    bare: bool,
+    close: bool,
+) -> Result<(), WriteFailed>
+    ensures written { Writes (W.written sink.old) (W.written sink.new) (response_text response.now bare close) result }
+    ensures failed { OnErr result (GaveUp (W.has_failed sink.new) (W.interruptions sink.new - W.interruptions sink.old)) }
+{
+    let mut interruptions = 0;
+    if !write_parts(sink, response, bare, close, &mut interruptions) {
+        return Err(WriteFailed);
+    }
+    if !send_on(sink, &mut interruptions) {
+        return Err(WriteFailed);
+    }
+    Ok(())
+}
+
+fn write_parts<W: Sink>(
+    sink: &mut W,
+    response: &Response,
+    bare: bool,
+    close: bool,
+    interruptions: &mut u32,
+) -> bool
+    requires { interruptions.old < max_interruptions }
+    ensures written { WritesIf (W.written sink.old) (W.written sink.new) (response_text response.now bare close) result }
+    ensures counted { interruptions.new + W.interruptions sink.old
+        ≡ interruptions.old + W.interruptions sink.new }
+    ensures patient { result ≡ true → interruptions.new < max_interruptions }
+    ensures failed { result ≡ false → GaveUp (W.has_failed sink.new) interruptions.new }
+{
+    if !write_start(sink, response.status, interruptions) {
+        return false;
+    }
+    if !write_fields(sink, response.fields.as_slice(), interruptions) {
+        return false;
+    }
+    if !write_length(sink, response, bare, interruptions) {
+        return false;
+    }
+    write_end(sink, response.body.as_slice(), bare, close, interruptions)
+}

@@ -1,0 +1,41 @@
+//! One byte of a source, where an interrupted read is tried again.
+ghost use Rattle.std.specs.Prelude.{◌≡◌, ◌+◌, ◌<◌};
+ghost use Rattle.std.specs.Io.KnownBytes.{Consumes};
+ghost use Rattle.up_wire.specs.Limits.{max_interruptions};
+ghost use Rattle.up_wire.specs.Steps.{step_bytes, step_ending, EndsSo};
+
+use crate::device::{NextByte, Source};
+
+/// The interruption at which a call gives up.
+pub(crate) const MAX_INTERRUPTIONS: u32 = 1000;
+
+/// The next byte, or why there is none.
+#[derive(Clone, Copy)]
+pub(crate) enum Step {
+    Byte(u8),
+    Ended,
+    Failed,
+}
+
+/// The next byte, where an interrupted read is tried again.
+pub(crate) fn take_step<R: Source>(source: &mut R, interruptions: &mut u32) -> Step
+    requires { interruptions.old < max_interruptions }
+    ensures bytes { Consumes (R.left source.old) (R.left source.new) (step_bytes result) }
+    ensures counted { interruptions.new + R.interruptions source.old
+        ≡ interruptions.old + R.interruptions source.new }
+    ensures ends { EndsSo (step_ending result) (R.left source.new) (R.has_failed source.new) interruptions.new }
+{
+    'tries: loop {
+        match source.next_byte() {
+            NextByte::Byte(byte) => return Step::Byte(byte),
+            NextByte::End => return Step::Ended,
+            NextByte::Failed => return Step::Failed,
+            NextByte::Interrupted => {
+                *interruptions += 1;
+                if *interruptions == MAX_INTERRUPTIONS {
+                    return Step::Failed;
+                }
+            }
+        }
+    }
+}

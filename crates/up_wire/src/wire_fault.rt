@@ -1,0 +1,69 @@
+//! Why no message was read.
+ghost use Rattle.std.specs.Prelude.{◌≡◌};
+
+use thiserror::Error;
+
+/// Why no message was read. The conversation closes behind it.
+#[derive(Clone, Copy, Debug, PartialEq, Eq, Error)]
+pub enum WireFault {
+    /// No head of HTTP/1.0 or HTTP/1.1 begins so, or the input ends inside a head (RFC 9112, sections 2.2, 3 and 5).
+    #[error("bad head")]
+    BadHead,
+    /// A head has more than 16,384 bytes or more than 64 fields (RFC 6585, section 5).
+    #[error("head too large")]
+    HeadTooLarge,
+    /// The fields contradict each other on the length of the body, or chunks are malformed (RFC 9112, sections 6
+    /// and 7.1).
+    #[error("bad framing")]
+    BadFraming,
+    /// A transfer coding other than `chunked` (RFC 9112, section 6.1).
+    #[error("unknown transfer coding")]
+    UnknownCoding,
+    /// The body is above the limit (RFC 9110, section 15.5.14).
+    #[error("body too large")]
+    BodyTooLarge,
+    /// A read failed before a head was whole.
+    #[error("read failed")]
+    ReadFailed,
+    /// There was no memory for the message.
+    #[error("out of memory")]
+    NoMemory,
+    /// A write of `100 Continue` failed.
+    #[error("write failed")]
+    WriteFailed,
+}
+
+impl WireFault {
+    ghost use Rattle.up_wire.specs.WireFaults.{status_of, line_of};
+
+    /// The status code of the answer (RFC 9110, section 15). `ReadFailed` and `WriteFailed` are never answered, and
+    /// have that of `BadHead`.
+    pub fn status(&self) -> u16
+        ensures { result ≡ status_of self.now }
+    {
+        match self {
+            WireFault::BadHead | WireFault::BadFraming => 400,
+            WireFault::HeadTooLarge => 431,
+            WireFault::UnknownCoding => 501,
+            WireFault::BodyTooLarge => 413,
+            WireFault::NoMemory => 503,
+            WireFault::ReadFailed | WireFault::WriteFailed => 400,
+        }
+    }
+
+    /// The body of the answer: a line with the number of the fault and its name.
+    pub fn text(&self) -> &'static str
+        ensures { result.now ≡ line_of self.now }
+    {
+        match self {
+            WireFault::BadHead => "1 BadHead\n",
+            WireFault::HeadTooLarge => "2 HeadTooLarge\n",
+            WireFault::BadFraming => "3 BadFraming\n",
+            WireFault::UnknownCoding => "4 UnknownCoding\n",
+            WireFault::BodyTooLarge => "5 BodyTooLarge\n",
+            WireFault::ReadFailed => "6 ReadFailed\n",
+            WireFault::NoMemory => "7 NoMemory\n",
+            WireFault::WriteFailed => "8 WriteFailed\n",
+        }
+    }
+}
