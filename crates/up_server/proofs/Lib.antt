@@ -6,10 +6,6 @@ pub mod HandsLemmas
 pub mod FeedLemmas
 pub mod Each
 pub mod CourseLemmas
-pub mod Answering
-pub mod Heads
-pub mod Taking
-pub mod Tokens
 pub mod Writing
 pub mod TurnLemmas
 pub mod ReportLemmas

@@ -4,7 +4,7 @@ use Rattle.std.specs.List.{flat_map}
 use Rattle.std.specs.Io.KnownBytes.{Appends}
 use Rattle.up_server.specs.ReportText.{event_line, lane_line, lane_text, lanes_text}
 use Rattle.std.proofs.KnownBytes.{Appends-trans}
-use Rattle.up_server.specs.Response.{WritesFront}
+use Rattle.up_wire.specs.Response.{WritesFront}
 use Rattle.up_server.specs.declared.feed.LaneReport.{LaneReport}
 use Rattle.up_server.proofs.Writing.{front_then, front_cut}
 

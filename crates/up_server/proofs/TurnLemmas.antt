@@ -1,15 +1,19 @@
 -- What a message, and many of them, leave of a dispatcher's history, and that the last one ends a conversation.
-use Rattle.std.proofs.Common.{◌≡◌, ℕ, zero, suc, eqb, true, add-one, inl, inr, ◌+◌, ◌≤◌, Option, Some, None, List, [], ◌∷◌, ◌++◌, refl, sym, ap, ◌∙◌, subst, arith, append_assoc, append-nil}
+use Rattle.std.proofs.Common.{◌≡◌, ℕ, zero, suc, eqb, true, add-one, ◌+◌, ◌≤◌, Bool, Option, Some, None, List, [], ◌∷◌, ◌++◌, refl, sym, ap, ◌∙◌, subst, arith, append_assoc, append-nil}
 use Rattle.up_events.specs.Delivery.{IsPrefix}
 use Rattle.up_events.specs.declared.event.Accepted.{Accepted}
 use Rattle.up_server.proofs.Prefixes.{prefix_same, prefix_then}
 use Rattle.up_server.specs.Course.{Course, carried_out, last_after}
 use Rattle.up_server.specs.Decision.{change_of}
 use Rattle.up_server.specs.State.{State, after}
-use Rattle.up_server.specs.Turn.{GoesOn, IsServed, Stand, TakesTurn, Passes}
+use Rattle.up_server.specs.Turn.{GoesOn, IsFaultSent, IsServed, Sends, Stand, TakesTurn, Passes, unanswered}
 use Rattle.std.proofs.lemmas.Bool.{eq-eqb}
-use Rattle.up_server.specs.declared.reader.Taken.{Taken}
-use Rattle.up_server.specs.declared.reader.Taken.TheVariants as Taken
+use Rattle.up_wire.specs.Device.{Device}
+use Rattle.up_wire.specs.Response.{response_text}
+use Rattle.up_wire.specs.declared.wire_fault.WireFault.{WireFault}
+use Rattle.up_server.specs.declared.conversation.Ended.{Ended}
+use Rattle.up_wire.specs.declared.message.Taken.{Taken}
+use Rattle.up_wire.specs.declared.message.Taken.TheVariants as Taken
 use Rattle.up_server.specs.declared.request.Request.{Request}
 use Rattle.up_server.specs.declared.request.Request.TheVariants as request
 
@@ -71,12 +75,20 @@ unfolding Passes
 passes_more max_size turns old mid new before turn =
     subst (λ n. Passes max_size n old new) (sym (add-one turns)) (mid, before, turn)
 
+-- an answer that closes the conversation ends it
+closing_sent : (before after : Device) (text : List ℕ) → Sends before after text true None → ⊥
+closing_sent before after text sent = let closes = sent.0 in absurd (cc)
+
+fault_sent : (how : Option Ended) (fault : WireFault) (bare : Bool) (before after : Device) → IsFaultSent how fault bare before after None → ⊥
+fault_sent None fault bare before after sent = closing_sent before after (response_text sent.0 bare true) sent.2
+fault_sent (Some how) fault bare before after sent = let ended = sent.1 in absurd (cc)
+
 -- the last turn ends the conversation
-last_served : (taken : Taken) (max_size : ℕ) (old new : Course) (before after : Option (List ℕ)) → IsServed taken max_size true old new before after None → ⊥
-last_served (Taken.Message m) max_size old new before after served = absurd (let closes = served.2.0 in cc)
-last_served (Taken.Fault fault bare) max_size old new before after (same, inl unread) = absurd (let ended = unread.2 in cc)
-last_served (Taken.Fault fault bare) max_size old new before after (same, inr sent) = absurd (let closes = sent.1.2.0 in cc)
-last_served Taken.End max_size old new before after served = absurd (let ended = served.2 in cc)
+last_served : (taken : Taken) (max_size : ℕ) (old new : Course) (before after : Device) → IsServed taken max_size true old new before after None → ⊥
+last_served (Taken.Message m) max_size old new before after served = closing_sent before after (response_text served.0 m.bare true) served.2
+last_served (Taken.Cut m) max_size old new before after served = let ended = served.2 in absurd (cc)
+last_served (Taken.Fault fault bare) max_size old new before after served = fault_sent (unanswered fault) fault bare before after served.1
+last_served Taken.End max_size old new before after served = let ended = served.2 in absurd (cc)
 
 pub passes_few : (max_size turns : ℕ) (old new : Stand) → 10000 ≤ turns → turns ≤ 10000 → Passes max_size turns old new → ⊥
 unfolding Passes
@@ -84,4 +96,4 @@ passes_few max_size zero old new least most passes = absurd (omega arith)
 passes_few max_size (suc turns) old new least most passes =
     let all : turns + 1 ≡ 10000 = omega arith in
     let turn = subst (λ b. TakesTurn max_size b passes.0 new None) (eq-eqb (turns + 1) 10000 all) passes.2 in
-    last_served turn.taken max_size passes.0.course new.course passes.0.written new.written turn.is_served
+    last_served turn.taken max_size passes.0.course new.course turn.sink new.sink turn.is_served

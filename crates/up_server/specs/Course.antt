@@ -11,7 +11,7 @@ use Rattle.up_server.specs.declared.refusal.Refusal.{Refusal}
 use Rattle.up_server.specs.declared.refusal.Refusal.TheVariants as refusal
 use Rattle.up_server.specs.declared.request.Request.{Request}
 use Rattle.up_server.specs.declared.request.Request.TheVariants as request
-use Rattle.up_server.specs.declared.response.Response.{Response}
+use Rattle.up_wire.specs.declared.response.Response.{Response}
 
 pub record Course : Type 0 where
   pub book : State

@@ -13,7 +13,7 @@ use Rattle.up_server.specs.declared.refusal.Refusal.TheVariants as refusal
 use Rattle.up_server.specs.declared.request.Patch.{Patch}
 use Rattle.up_server.specs.declared.request.Request.{Request}
 use Rattle.up_server.specs.declared.request.Request.TheVariants as request
-use Rattle.up_server.specs.declared.response.Response.{Response}
+use Rattle.up_wire.specs.declared.response.Response.{Response}
 
 -- ---- refusals
 

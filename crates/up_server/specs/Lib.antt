@@ -13,16 +13,10 @@ pub mod Passage
 pub mod Course
 pub mod CourseCode
 pub mod Sound
-pub mod Digits
 pub mod HeaderFaults
 pub mod Fields
 pub mod Places
 pub mod Table
-pub mod Framing
-pub mod Message
-pub mod Reading
-pub mod Response
-pub mod WireFaults
 pub mod Replies
 pub mod Turn
 pub mod ReportText

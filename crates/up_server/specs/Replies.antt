@@ -3,14 +3,14 @@ use Rattle.std.specs.Prelude.{◌≡◌, ◌⊎◌, Bool, []}
 use Rattle.up_server.specs.Responses.{answered, refused_with, method_refused_with}
 use Rattle.up_server.specs.HeaderFaults as header
 use Rattle.up_server.specs.Refusals as refused
-use Rattle.up_server.specs.WireFaults as wire
+use Rattle.up_wire.specs.WireFaults as wire
 use Rattle.up_server.specs.declared.header_fault.HeaderFault.{HeaderFault}
 use Rattle.up_server.specs.declared.header_fault.HeaderFault.TheVariants as fault
 use Rattle.up_server.specs.declared.refusal.Refusal.{Refusal}
 use Rattle.up_server.specs.declared.refusal.Refusal.TheVariants as refusal
-use Rattle.up_server.specs.declared.wire_fault.WireFault.{WireFault}
-use Rattle.up_server.specs.declared.wire_fault.WireFault.TheVariants as unread
-use Rattle.up_server.specs.declared.response.Response.{Response}
+use Rattle.up_wire.specs.declared.wire_fault.WireFault.{WireFault}
+use Rattle.up_wire.specs.declared.wire_fault.WireFault.TheVariants as unread
+use Rattle.up_wire.specs.declared.response.Response.{Response}
 
 -- what is answered where memory is wanting
 abbrev pub out_of_memory : Response
@@ -19,8 +19,13 @@ out_of_memory = answered 503 [] []
 -- what is answered to a message that can't be read
 abbrev pub reply_to_wire_fault : WireFault → Response
 reply_to_wire_fault unread.BadHead = refused_with (wire.status_of unread.BadHead) (wire.line_of unread.BadHead)
+reply_to_wire_fault unread.HeadTooLarge = refused_with (wire.status_of unread.HeadTooLarge) (wire.line_of unread.HeadTooLarge)
+reply_to_wire_fault unread.BadFraming = refused_with (wire.status_of unread.BadFraming) (wire.line_of unread.BadFraming)
+reply_to_wire_fault unread.UnknownCoding = refused_with (wire.status_of unread.UnknownCoding) (wire.line_of unread.UnknownCoding)
+reply_to_wire_fault unread.BodyTooLarge = refused_with (wire.status_of unread.BodyTooLarge) (wire.line_of unread.BodyTooLarge)
 reply_to_wire_fault unread.ReadFailed = refused_with (wire.status_of unread.ReadFailed) (wire.line_of unread.ReadFailed)
 reply_to_wire_fault unread.NoMemory = out_of_memory
+reply_to_wire_fault unread.WriteFailed = refused_with (wire.status_of unread.WriteFailed) (wire.line_of unread.WriteFailed)
 
 -- what is answered to a message that is no request
 abbrev pub reply_to_header_fault : HeaderFault → Response

@@ -1,8 +1,8 @@
 -- The responses.
 use Rattle.std.specs.Prelude.{ℕ, ◌++◌, Bool, true, false, List, [], ◌∷◌, codes, decimal}
 use Rattle.up_events.specs.IdText.{text_of}
-use Rattle.up_server.specs.Fields.{Field}
-use Rattle.up_server.specs.declared.response.Response.{Response}
+use Rattle.up_wire.specs.Fields.{Field}
+use Rattle.up_wire.specs.declared.response.Response.{Response}
 
 abbrev pub answered : ℕ → List Field → List ℕ → Response
 answered status fields body = record { status = status; fields = fields; body = body }

@@ -5,10 +5,12 @@ use Rattle.std.specs.List.{list_any}
 use Rattle.up_events.specs.Delivery.{IsDelivered}
 use Rattle.up_server.specs.Course.{Course, AreOfTheirLanes}
 use Rattle.up_server.specs.ReportText.{report_text}
-use Rattle.up_server.specs.Response.{WritesFront}
+use Rattle.up_wire.specs.Device.{Device}
+use Rattle.up_wire.specs.Response.{WritesFront}
 use Rattle.up_server.specs.State.{empty_state}
 use Rattle.up_server.specs.Turn.{Stand, Converses}
-use Rattle.up_server.specs.declared.conversation.Ended.TheVariants.{Closed, ReadFailed, WriteFailed}
+use Rattle.up_server.specs.declared.conversation.Ended.{Ended}
+use Rattle.up_server.specs.declared.conversation.Ended.TheVariants.{Closed, Cut, ReadFailed, WriteFailed}
 use Rattle.up_server.specs.declared.feed.How.{How}
 use Rattle.up_server.specs.declared.feed.How.TheVariants.{Drained, Stopped}
 use Rattle.up_server.specs.declared.feed.LaneReport.{LaneReport}
@@ -22,9 +24,9 @@ abbrev pub new_server : ℕ → Course
 new_server lanes = record { book = empty_state lanes; last_id = 0 }
 
 -- one conversation was served on a new server, and the report tells what was accepted and what each lane handed over
-pub record IsRun (settings : Settings) (served : Served) (unread written unread_after written_after : Option (List ℕ)) : Type 0 where
+pub record IsRun (settings : Settings) (served : Served) (source source_after sink sink_after : Device) : Type 0 where
   pub course : Course
-  pub converses : Converses settings.max_size (record { course = new_server settings.lanes; unread = unread; written = written }) (record { course = course; unread = unread_after; written = written_after }) served.ended
+  pub converses : Converses settings.max_size (record { course = new_server settings.lanes; source = source; sink = sink }) (record { course = course; source = source_after; sink = sink_after }) served.ended
   pub accepted : served.report.accepted.items ≡ course.book.journal.accepted
   pub lanes : length served.report.lanes.items ≡ settings.lanes
   pub own : AreOfTheirLanes course.book.journal served.report.lanes.items
@@ -39,12 +41,16 @@ is_stopped Stopped = true
 abbrev pub any_stopped : List LaneReport → Bool
 any_stopped lanes = list_any (λ lane. is_stopped lane.how) lanes
 
+-- the input was served to its end, or to where it broke off
+abbrev pub HasEndedWell : Ended → Type 0
+HasEndedWell ended = (ended ≡ Closed) ⊎ (ended ≡ Cut)
+
 -- the report behind the replies, and what went wrong
 abbrev pub IsReported : Served → Option (List ℕ) → Option (List ℕ) → {X : Type 0} → Result X ServerFault → Type 0
 IsReported served before after (Ok done) =
-    (served.ended ≡ Closed) × Appends before after (report_text served.report) × (any_stopped served.report.lanes.items ≡ false)
+    HasEndedWell served.ended × Appends before after (report_text served.report) × (any_stopped served.report.lanes.items ≡ false)
 IsReported served before after (Err Fault.Memory) = ⊥
 IsReported served before after (Err Fault.Write) = ((served.ended ≡ WriteFailed) × (after ≡ before)) ⊎ WritesFront before after (report_text served.report)
 IsReported served before after (Err Fault.Read) = (served.ended ≡ ReadFailed) × Appends before after (report_text served.report)
 IsReported served before after (Err Fault.Stopped) =
-    (served.ended ≡ Closed) × Appends before after (report_text served.report) × (any_stopped served.report.lanes.items ≡ true)
+    HasEndedWell served.ended × Appends before after (report_text served.report) × (any_stopped served.report.lanes.items ≡ true)

@@ -5,7 +5,7 @@ use Rattle.std.specs.Option.{option_map_or}
 use Rattle.std.specs.Str.Parse.{digits_value}
 use Rattle.httparse.specs.Ascii.{semicolon}
 use Rattle.httparse.specs.Grammar.{skip_ows}
-use Rattle.up_server.specs.declared.message.Message.{Message}
+use Rattle.up_wire.specs.declared.message.Message.{Message}
 use Rattle.up_server.specs.declared.request.Request.{Request}
 use Rattle.up_server.specs.declared.request.Request.TheVariants.{Create, Patch as Append}
 use Rattle.up_server.specs.declared.request.Patch.{Patch}
@@ -13,8 +13,9 @@ use Rattle.up_server.specs.declared.header_fault.HeaderFault.{HeaderFault}
 use Rattle.up_server.specs.declared.header_fault.HeaderFault.TheVariants.{NoSuchPath, Method, BadLength, TooLong, NoMemory}
 use Rattle.up_server.specs.declared.place.Place.{Place}
 use Rattle.up_server.specs.declared.place.Place.TheVariants.{Creation, Upload, Nowhere}
-use Rattle.up_server.specs.Digits.{is_digits}
-use Rattle.up_server.specs.Fields.{Field, same_name, first_value}
+use Rattle.up_wire.specs.Digits.{is_digits}
+use Rattle.up_wire.specs.Fields.{Field, same_name}
+use Rattle.up_server.specs.Fields.{first_value}
 use Rattle.up_server.specs.Rows.{Row, first_that_holds}
 use Rattle.up_server.specs.Places.{IsAt, is_creation, is_upload, is_nowhere}
 

@@ -1,24 +1,26 @@
 -- What one message makes of a dispatcher, what is answered to it, and a conversation turn by turn.
-use Rattle.std.specs.Prelude.{◌≡◌, ◌≢◌, ◌⊎◌, ℕ, zero, suc, ◌+◌, ◌≤◌, ◌==◌, Bool, true, false, List, Option, Some, None, Result, Ok, Err}
-use Rattle.std.specs.Io.KnownBytes.{Appends, Consumes}
-use Rattle.up_server.specs.Message.{IsTaken}
-use Rattle.up_server.specs.Response.{WritesFront, response_text}
-use Rattle.up_server.specs.declared.conversation.Ended.{Ended}
-use Rattle.up_server.specs.declared.conversation.Ended.TheVariants.{Closed, ReadFailed, WriteFailed}
+use Rattle.std.specs.Prelude.{◌≡◌, ℕ, zero, suc, ◌+◌, ◌-◌, ◌≤◌, ◌==◌, ◌||◌, Bool, true, false, List, Option, Some, None, Result, Ok, Err}
+use Rattle.std.specs.Io.KnownBytes.{Appends}
 use Rattle.up_events.specs.Delivery.{IsPrefix}
+use Rattle.up_wire.specs.Device.{Device, GaveUp}
+use Rattle.up_wire.specs.Reading.{IsReading}
+use Rattle.up_wire.specs.Response.{WritesFront, response_text}
+use Rattle.up_wire.specs.declared.message.Message.{Message}
+use Rattle.up_wire.specs.declared.message.Taken.{Taken}
+use Rattle.up_wire.specs.declared.message.Taken.TheVariants as Taken
+use Rattle.up_wire.specs.declared.response.Response.{Response}
+use Rattle.up_wire.specs.declared.wire_fault.WireFault.{WireFault}
+use Rattle.up_wire.specs.declared.wire_fault.WireFault.TheVariants as Fault
 use Rattle.up_server.specs.Course.{Course, Replies, carried_out, last_after}
 use Rattle.up_server.specs.Decision.{decide}
 use Rattle.up_server.specs.Replies.{IsReply, reply_to_header_fault, reply_to_refusal, reply_to_wire_fault}
 use Rattle.up_server.specs.Table.{IsAnswer}
+use Rattle.up_server.specs.declared.conversation.Ended.{Ended}
+use Rattle.up_server.specs.declared.conversation.Ended.TheVariants.{Closed, Cut, ReadFailed, WriteFailed}
 use Rattle.up_server.specs.declared.header_fault.HeaderFault.{HeaderFault}
-use Rattle.up_server.specs.declared.message.Message.{Message}
-use Rattle.up_server.specs.declared.reader.Taken.{Taken}
-use Rattle.up_server.specs.declared.reader.Taken.TheVariants as Taken
 use Rattle.up_server.specs.declared.refusal.Refusal.{Refusal}
 use Rattle.up_server.specs.declared.request.Request.{Request}
-use Rattle.up_server.specs.declared.response.Response.{Response}
-use Rattle.up_server.specs.declared.wire_fault.WireFault.{WireFault}
-use Rattle.up_server.specs.declared.wire_fault.WireFault.TheVariants as Fault
+use Rattle.up_server.specs.declared.request.Request.TheVariants as request
 
 -- the answer to what was decided, and the book after it
 abbrev pub IsDone : Course → Course → Request → Response → Result Response Refusal → Type 0
@@ -37,6 +39,17 @@ abbrev pub IsTurn : Message → ℕ → Course → Course → Response → Type 
 IsTurn m max_size old new response =
     (read : Result Request HeaderFault) × IsAnswer m max_size read × IsAnswered old new response read
 
+-- an append is carried out, and its answer dropped; nothing else is
+abbrev pub IsCarriedOut : Course → Course → Result Request HeaderFault → Type 0
+IsCarriedOut old new (Err fault) = new ≡ old
+IsCarriedOut old new (Ok (request.Create made)) = new ≡ old
+IsCarriedOut old new (Ok (request.Patch p)) = (response : Response) × IsAnswered old new response (Ok (request.Patch p))
+
+-- a message that broke off is read as a request
+abbrev pub IsCutTurn : Message → ℕ → Course → Course → Type 0
+IsCutTurn m max_size old new =
+    (read : Result Request HeaderFault) × IsAnswer m max_size read × IsCarriedOut old new read
+
 -- so many messages later: the lanes are the same, the history has grown at its end, and each message took an id at most
 pub record GoesOn (turns : ℕ) (old new : Course) : Type 0 where
   pub lanes : new.book.journal.lanes ≡ old.book.journal.lanes
@@ -44,39 +57,54 @@ pub record GoesOn (turns : ℕ) (old new : Course) : Type 0 where
   pub ids : new.last_id ≤ old.last_id + turns
 
 -- the whole text was written, and closes the conversation or not; or some front of it was, and then no more can be
-abbrev pub Sends : Option (List ℕ) → Option (List ℕ) → List ℕ → Bool → Option Ended → Type 0
-Sends before after text close None = (close ≡ false) × Appends before after text
-Sends before after text close (Some Closed) = (close ≡ true) × Appends before after text
+abbrev pub Sends : Device → Device → List ℕ → Bool → Option Ended → Type 0
+Sends before after text close None = (close ≡ false) × Appends before.bytes after.bytes text
+Sends before after text close (Some Closed) = (close ≡ true) × Appends before.bytes after.bytes text
+Sends before after text close (Some Cut) = ⊥
 Sends before after text close (Some ReadFailed) = ⊥
-Sends before after text close (Some WriteFailed) = WritesFront before after text
+Sends before after text close (Some WriteFailed) =
+    WritesFront before.bytes after.bytes text × GaveUp after.has_failed (after.interruptions - before.interruptions)
 
--- after a failed read nothing is answered; any other fault is, and that closes the conversation
-abbrev pub IsFaultSent : WireFault → Bool → Option (List ℕ) → Option (List ℕ) → Option Ended → Type 0
-IsFaultSent fault bare before after ended =
-    ((fault ≡ Fault.ReadFailed) × (after ≡ before) × (ended ≡ Some ReadFailed))
-    ⊎ ((fault ≢ Fault.ReadFailed)
-    × ((response : Response) × IsReply (reply_to_wire_fault fault) response × Sends before after (response_text response bare true) true ended))
+-- the faults that are not answered, and how the conversation then ended
+abbrev pub unanswered : WireFault → Option Ended
+unanswered Fault.BadHead = None
+unanswered Fault.HeadTooLarge = None
+unanswered Fault.BadFraming = None
+unanswered Fault.UnknownCoding = None
+unanswered Fault.BodyTooLarge = None
+unanswered Fault.ReadFailed = Some ReadFailed
+unanswered Fault.NoMemory = None
+unanswered Fault.WriteFailed = Some WriteFailed
+
+-- the answer to a fault closes the conversation, and where there is none nothing is written
+abbrev pub IsFaultSent : Option Ended → WireFault → Bool → Device → Device → Option Ended → Type 0
+IsFaultSent None fault bare before after ended =
+    (response : Response) × IsReply (reply_to_wire_fault fault) response × Sends before after (response_text response bare true) true ended
+IsFaultSent (Some how) fault bare before after ended = (after ≡ before) × (ended ≡ Some how)
 
 -- what was taken from the input is answered, where it is to be, and only a message leaves a trace in the dispatcher
-abbrev pub IsServed : Taken → ℕ → Bool → Course → Course → Option (List ℕ) → Option (List ℕ) → Option Ended → Type 0
+abbrev pub IsServed : Taken → ℕ → Bool → Course → Course → Device → Device → Option Ended → Type 0
 IsServed (Taken.Message m) max_size is_last old new before after ended =
-    (response : Response) × IsTurn m max_size old new response × Sends before after (response_text response m.bare is_last) is_last ended
-IsServed (Taken.Fault fault bare) max_size is_last old new before after ended = (new ≡ old) × IsFaultSent fault bare before after ended
+    (response : Response) × IsTurn m max_size old new response
+    × Sends before after (response_text response m.bare (is_last || m.close)) (is_last || m.close) ended
+IsServed (Taken.Cut m) max_size is_last old new before after ended =
+    IsCutTurn m max_size old new × (after ≡ before) × (ended ≡ Some Cut)
+IsServed (Taken.Fault fault bare) max_size is_last old new before after ended =
+    (new ≡ old) × IsFaultSent (unanswered fault) fault bare before after ended
 IsServed Taken.End max_size is_last old new before after ended = (new ≡ old) × (after ≡ before) × (ended ≡ Some Closed)
 
--- where a conversation stands: the dispatcher, and what is still to be read and was written, where these bytes are known
+-- where a conversation stands: the dispatcher, the source that is read and the sink that is written
 pub record Stand : Type 0 where
   pub course : Course
-  pub unread : Option (List ℕ)
-  pub written : Option (List ℕ)
+  pub source : Device
+  pub sink : Device
 
--- a message, a fault or the end is taken from the input, and served
+-- a message, a part of one, a fault or the end is taken from the input, and served
 pub record TakesTurn (max_size : ℕ) (is_last : Bool) (old new : Stand) (ended : Option Ended) : Type 0 where
-  pub input : List ℕ
   pub taken : Taken
-  pub consumes : Consumes old.unread new.unread input
-  pub is_taken : IsTaken max_size input old.unread taken
-  pub is_served : IsServed taken max_size is_last old.course new.course old.written new.written ended
+  pub sink : Device
+  pub is_reading : IsReading max_size old.source new.source old.sink sink taken
+  pub is_served : IsServed taken max_size is_last old.course new.course sink new.sink ended
 
 -- so many turns, none of which ended the conversation, led from the one stand to the other
 unfoldable pub Passes : ℕ → ℕ → Stand → Stand → Type 0

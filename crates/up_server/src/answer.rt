@@ -2,12 +2,10 @@
 ghost use Rattle.std.specs.Prelude.{◌≡◌, ◌∷◌, [], decimal, IfOk};
 ghost use Rattle.up_server.specs.Responses.{answered, created, reached_offset, refused_with, method_refused_with};
 
-use crate::message::Field;
-use crate::response::Response;
-use crate::sequence::Sequence;
 use itoa::Buffer;
 use std::alloc::Global;
 use up_events::{Id, NoMemory};
+use up_wire::{Field, Response, Sequence};
 
 /// A copy of the bytes.
 fn copy(alloc: Global, bytes: &[u8]) -> Result<Sequence<u8>, NoMemory>

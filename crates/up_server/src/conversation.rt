@@ -1,17 +1,19 @@
 //! One conversation: each message is read, decided and answered before the next.
-ghost use Rattle.std.specs.Prelude.{◌≡◌, ◌+◌, ◌<◌, ◌≤◌, ◌^◌};
-ghost use Rattle.up_server.specs.Response.{response_text};
-ghost use Rattle.up_server.specs.Turn.{IsTurn, Converses, GoesOn, Sends, TakesTurn};
+ghost use Rattle.std.specs.Prelude.{◌≡◌, ◌+◌, ◌<◌, ◌≤◌, ◌^◌, Ok};
+ghost use Rattle.up_wire.specs.Device.{device};
+ghost use Rattle.up_wire.specs.Response.{response_text};
+ghost use Rattle.up_server.specs.State.{IsBounded};
+ghost use Rattle.up_server.specs.Turn.{IsAnswered, IsTurn, IsCutTurn, Converses, GoesOn, Sends, TakesTurn, unanswered};
 
 use crate::dispatcher::Dispatcher;
 use crate::header_checks::request_of;
-use crate::message::Message;
-use crate::reader::{Taken, read_message};
 use crate::reply::{reply_to_header_fault, reply_to_refusal, reply_to_wire_fault};
-use crate::response::{Response, WriteFailed, write_response};
-use crate::wire_fault::WireFault;
+use crate::request::Request;
 use std::alloc::Global;
-use std::io::{BufRead, Write};
+use up_wire::{
+    Limits, Message, Response, Sink, Source, Taken, WireFault, WriteFailed, read_message,
+    write_response,
+};
 
 /// The most messages of a conversation.
 const MOST_MESSAGES: u64 = 10_000;
@@ -21,10 +23,26 @@ const MOST_MESSAGES: u64 = 10_000;
 pub enum Ended {
     /// The input was at its end, or an answer closed the conversation.
     Closed,
-    /// A read failed. The message that it stood in has no answer.
+    /// The input ended, or a read failed, inside a body. An append was carried out with the bytes that came; the
+    /// message has no answer.
+    Cut,
+    /// A read failed before a head was whole.
     ReadFailed,
     /// A write failed. Changes made before it stay.
     WriteFailed,
+}
+
+/// What is answered to a request, after it was carried out.
+fn answer_to_request(alloc: Global, dispatcher: &mut Dispatcher, request: Request) -> Response
+    requires bounded { IsBounded request }
+    requires room { dispatcher.old.last_id + 1 < 2 ^ 64 }
+    ensures answered { IsAnswered dispatcher.old dispatcher.new result (Ok request) }
+    ensures goes_on { GoesOn 1 dispatcher.old dispatcher.new }
+{
+    match dispatcher.commit(alloc, request) {
+        Ok(response) => response,
+        Err(refusal) => reply_to_refusal(alloc, refusal),
+    }
 }
 
 /// What is answered to a message, after what it asks for was carried out.
@@ -40,74 +58,129 @@ fn answer_to(
     ensures goes_on { GoesOn 1 dispatcher.old dispatcher.new }
 {
     match request_of(alloc, message, max_size) {
-        Ok(request) => match dispatcher.commit(alloc, request) {
-            Ok(response) => response,
-            Err(refusal) => reply_to_refusal(alloc, refusal),
-        },
+        Ok(request) => answer_to_request(alloc, dispatcher, request),
         Err(fault) => reply_to_header_fault(alloc, fault),
     }
 }
 
-/// Writes a response, and tells how the conversation ended if it did.
-fn send<W: Write>(writer: &mut W, response: &Response, bare: bool, close: bool) -> Option<Ended>
-    ensures { Sends (W.contents writer.old) (W.contents writer.new) (response_text response.now bare close) close result }
+/// Carries out an append whose body broke off, with the bytes that came. Any other message that broke off does nothing.
+fn carry_out_cut(alloc: Global, dispatcher: &mut Dispatcher, message: Message, max_size: u64)
+    requires small { max_size ≤ 2 ^ 30 }
+    requires room { dispatcher.old.last_id + 1 < 2 ^ 64 }
+    ensures turn { IsCutTurn message max_size dispatcher.old dispatcher.new }
+    ensures goes_on { GoesOn 1 dispatcher.old dispatcher.new }
 {
-    match write_response(writer, response, bare, close) {
+    match request_of(alloc, message, max_size) {
+        Ok(request) => match request {
+            Request::Patch(patch) => {
+                answer_to_request(alloc, dispatcher, Request::Patch(patch));
+            }
+            Request::Create(_) => {}
+        },
+        Err(_) => {}
+    }
+}
+
+/// How the conversation ended, where a fault has no answer.
+fn unanswered(fault: WireFault) -> Option<Ended>
+    ensures { result ≡ unanswered fault }
+{
+    match fault {
+        WireFault::ReadFailed => Some(Ended::ReadFailed),
+        WireFault::WriteFailed => Some(Ended::WriteFailed),
+        _ => None,
+    }
+}
+
+/// Writes a response, and tells how the conversation ended if it did.
+fn send<W: Sink>(sink: &mut W, response: &Response, bare: bool, close: bool) -> Option<Ended>
+    ensures { Sends (device (W.written sink.old) (W.has_failed sink.old) (W.interruptions sink.old))
+        (device (W.written sink.new) (W.has_failed sink.new) (W.interruptions sink.new))
+        (response_text response.now bare close) close result }
+{
+    match write_response(sink, response, bare, close) {
         Ok(()) => { if close { Some(Ended::Closed) } else { None } }
         Err(WriteFailed) => Some(Ended::WriteFailed),
     }
 }
 
 /// Reads a message and answers it, and tells how the conversation ended if it did. A message that can't be read is
-/// answered and closes the conversation; after a failed read nothing is answered.
-fn take_turn<R: BufRead, W: Write>(
+/// answered and closes the conversation; after a failed read or write, or where a body broke off, nothing is answered.
+fn take_turn<R: Source, W: Sink>(
     alloc: Global,
     dispatcher: &mut Dispatcher,
     max_size: u64,
-    reader: &mut R,
-    writer: &mut W,
+    source: &mut R,
+    sink: &mut W,
     is_last: bool,
 ) -> Option<Ended>
     requires small { max_size ≤ 2 ^ 30 }
     requires room { dispatcher.old.last_id + 1 < 2 ^ 64 }
-    ensures turn { TakesTurn max_size is_last (record { course = dispatcher.old; unread = R.remaining reader.old; written = W.contents writer.old })
-        (record { course = dispatcher.new; unread = R.remaining reader.new; written = W.contents writer.new }) result }
+    ensures turn { TakesTurn max_size is_last
+        (record {
+          course = dispatcher.old;
+          source = device (R.left source.old) (R.has_failed source.old) (R.interruptions source.old);
+          sink = device (W.written sink.old) (W.has_failed sink.old) (W.interruptions sink.old);
+        })
+        (record {
+          course = dispatcher.new;
+          source = device (R.left source.new) (R.has_failed source.new) (R.interruptions source.new);
+          sink = device (W.written sink.new) (W.has_failed sink.new) (W.interruptions sink.new);
+        })
+        result }
     ensures goes_on { GoesOn 1 dispatcher.old dispatcher.new }
 {
-    match read_message(alloc, reader, max_size) {
+    let limits = Limits { max_body: max_size };
+    match read_message(alloc, source, sink, &limits) {
         Taken::End => Some(Ended::Closed),
-        Taken::Fault { fault, bare } => match fault {
-            WireFault::ReadFailed => Some(Ended::ReadFailed),
-            _ => {
+        Taken::Cut(message) => {
+            carry_out_cut(alloc, dispatcher, message, max_size);
+            Some(Ended::Cut)
+        }
+        Taken::Fault { fault, bare } => match unanswered(fault) {
+            Some(ended) => Some(ended),
+            None => {
                 let response = reply_to_wire_fault(alloc, fault);
-                send(writer, &response, bare, true)
+                send(sink, &response, bare, true)
             }
         },
         Taken::Message(message) => {
             let bare = message.bare;
+            let close = is_last | message.close;
             let response = answer_to(alloc, dispatcher, message, max_size);
-            send(writer, &response, bare, is_last)
+            send(sink, &response, bare, close)
         }
     }
 }
 
-/// Serves the messages of an input in turn. The 10,000th is the last, and its answer closes the conversation.
-pub fn converse<R: BufRead, W: Write>(
+/// Serves the messages of an input in turn. The 10,000th is the last, and its answer closes the conversation; so does
+/// the answer to a message that asks for it (RFC 9112, section 9.6), and to one of HTTP/1.0.
+pub fn converse<R: Source, W: Sink>(
     alloc: Global,
     dispatcher: &mut Dispatcher,
     max_size: u64,
-    reader: &mut R,
-    writer: &mut W,
+    source: &mut R,
+    sink: &mut W,
 ) -> Ended
     requires small { max_size ≤ 2 ^ 30 }
     requires room { dispatcher.old.last_id + 10000 < 2 ^ 64 }
-    ensures turns { Converses max_size (record { course = dispatcher.old; unread = R.remaining reader.old; written = W.contents writer.old })
-        (record { course = dispatcher.new; unread = R.remaining reader.new; written = W.contents writer.new }) result }
+    ensures turns { Converses max_size
+        (record {
+          course = dispatcher.old;
+          source = device (R.left source.old) (R.has_failed source.old) (R.interruptions source.old);
+          sink = device (W.written sink.old) (W.has_failed sink.old) (W.interruptions sink.old);
+        })
+        (record {
+          course = dispatcher.new;
+          source = device (R.left source.new) (R.has_failed source.new) (R.interruptions source.new);
+          sink = device (W.written sink.new) (W.has_failed sink.new) (W.interruptions sink.new);
+        })
+        result }
     ensures goes_on { GoesOn 10000 dispatcher.old dispatcher.new }
 {
     for turn in 0..MOST_MESSAGES {
         let is_last = turn + 1 == MOST_MESSAGES;
-        if let Some(ended) = take_turn(alloc, dispatcher, max_size, reader, writer, is_last) {
+        if let Some(ended) = take_turn(alloc, dispatcher, max_size, source, sink, is_last) {
             return ended;
         }
     }

@@ -6,10 +6,10 @@ use crate::book::Book;
 use crate::feed::{Feed, LaneReport};
 use crate::refusal::Refusal;
 use crate::request::Request;
-use crate::response::Response;
 use std::alloc::Global;
 use std::marker::Model;
 use up_events::{Accepted, Id, NoMemory};
+use up_wire::Response;
 
 /// What came of a run: the accepted changes in order, and for each lane in order what it handed over.
 #[derive(Drop)]

@@ -2,15 +2,14 @@
 ghost use Rattle.std.specs.Prelude.{◌≡◌, ℕ, IfOk};
 ghost use Rattle.up_server.specs.Table.{IsAnswer, IsAnswerAt, FitsWithin, before_semicolon, is_media, offset_of, patch_of, trim_end};
 
-use crate::digits::{is_digits, number};
-use crate::fields::{first_value, same_name};
+use crate::fields::first_value;
 use crate::header_fault::HeaderFault;
-use crate::message::Message;
 use crate::place::{Place, place_of};
 use crate::request::{NewUpload, Patch, Request};
 use httparse::is_space_or_tab;
 use std::alloc::Global;
 use up_events::Id;
+use up_wire::{Message, Sequence, is_digits, number, same_name};
 
 /// What the message asks for: a creation (tus 1.0.0, Creation) of at most `max_size` bytes, or
 /// bytes for an upload (tus 1.0.0, PATCH). The first check that fails is the fault: the path,
@@ -119,7 +118,6 @@ fn offset_of(text: &[u8]) -> Option<u64>
 #[cfg(test)]
 mod tests {
     use super::*;
-    use crate::sequence::Sequence;
     use http::Method;
     use std::process::Abort;
 
@@ -145,6 +143,7 @@ mod tests {
             fields: all,
             body: Sequence::from_slice(alloc, b"abc").ok()?,
             bare: false,
+            close: false,
         })
     }
 

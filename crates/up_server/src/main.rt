@@ -3,50 +3,40 @@
 #![tactic(auto)]
 
 mod answer;
-mod body;
 mod book;
 mod command_line;
 mod conversation;
-mod digits;
 mod dispatcher;
 mod feed;
 mod fields;
-mod framing;
-mod head;
 mod header_checks;
 mod header_fault;
 mod lane;
-mod message;
 mod patch_checks;
 mod place;
 mod queue;
-mod reader;
 mod refusal;
 mod replay;
 mod reply;
 mod report;
 mod request;
-mod response;
-mod sequence;
 mod server_fault;
 mod settings;
 mod upload;
 mod uploads;
-mod wire_fault;
-#[cfg(test)]
-mod wire_tests;
 
 use command_line::{WordsFault, words};
 use server_fault::ServerFault;
 use settings::Words;
 use std::io::{self, BufReader, BufWriter};
 use std::process::ExitCode;
+use up_wire::{Input, Output};
 
 /// Reads the words, and serves. An error is one of memory, or of a standard stream that can't be had.
 fn serve(rt: &HostRuntime, words: &Words) -> io::Result<Result<(), ServerFault>> {
-    let mut reader = BufReader::new(rt.alloc(), rt.reader())?;
-    let mut writer = BufWriter::new(rt.alloc(), io::writer(rt))?;
-    Ok(replay::replay(rt.alloc(), &words.settings, &mut reader, &mut writer))
+    let mut source = Input::new(BufReader::new(rt.alloc(), rt.reader())?);
+    let mut sink = Output::new(BufWriter::new(rt.alloc(), io::writer(rt))?);
+    Ok(replay::replay(rt.alloc(), &words.settings, &mut source, &mut sink))
 }
 
 /// The words behind the program's name.

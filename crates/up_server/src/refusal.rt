@@ -2,9 +2,9 @@
 ghost use Rattle.std.specs.Prelude.{◌≡◌};
 ghost use Rattle.up_server.specs.declared.refusal.Refusal.TheVariants.{NoMemory as out_of_memory};
 
-use crate::response::Response;
 use thiserror::Error;
 use up_events::{Accepted, Added, NoMemory};
+use up_wire::Response;
 
 /// Why a request isn't carried out (tus 1.0.0, Core Protocol; RFC 9110, section 15).
 #[derive(Clone, Copy, Debug, PartialEq, Eq, Error)]

@@ -1,5 +1,6 @@
 //! A run of the server over one input.
-ghost use Rattle.std.specs.Prelude.{◌≡◌, ◌⊎◌, ℕ, List, Option, IfOk};
+ghost use Rattle.std.specs.Prelude.{◌≡◌, ◌⊎◌, IfOk};
+ghost use Rattle.up_wire.specs.Device.{Device, device};
 ghost use Rattle.up_server.specs.Run.{IsRun, IsReported, any_stopped, is_stopped};
 ghost use Rattle.up_server.specs.declared.replay.Served.{Served};
 
@@ -10,8 +11,8 @@ use crate::report::write_report;
 use crate::server_fault::ServerFault;
 use crate::settings::Settings;
 use std::alloc::Global;
-use std::io::{BufRead, Write};
 use up_events::NoMemory;
+use up_wire::{Sink, Source};
 
 /// What came of a run: the report, and how its conversation ended.
 #[derive(Drop)]
@@ -21,16 +22,20 @@ struct Served {
 }
 
 /// Serves one conversation on a new server, and ends its lanes.
-fn run<R: BufRead, W: Write>(
+fn run<R: Source, W: Sink>(
     alloc: Global,
     settings: &Settings,
-    reader: &mut R,
-    writer: &mut W,
+    source: &mut R,
+    sink: &mut W,
 ) -> Result<Served, NoMemory>
-    ensures { IfOk result (λ served. IsRun settings.now served (R.remaining reader.old) (W.contents writer.old) (R.remaining reader.new) (W.contents writer.new)) }
+    ensures { IfOk result (λ served. IsRun settings.now served
+        (device (R.left source.old) (R.has_failed source.old) (R.interruptions source.old))
+        (device (R.left source.new) (R.has_failed source.new) (R.interruptions source.new))
+        (device (W.written sink.old) (W.has_failed sink.old) (W.interruptions sink.old))
+        (device (W.written sink.new) (W.has_failed sink.new) (W.interruptions sink.new))) }
 {
     let mut dispatcher = Dispatcher::new(alloc, settings.lanes, settings.capacity)?;
-    let ended = converse(alloc, &mut dispatcher, settings.max_size, reader, writer);
+    let ended = converse(alloc, &mut dispatcher, settings.max_size, source, sink);
     let report = dispatcher.finish(alloc)?;
     Ok(Served { report, ended })
 }
@@ -50,16 +55,16 @@ fn any_stopped(lanes: &[LaneReport]) -> bool
 }
 
 /// Writes the report behind the replies, where these were written, and tells the first thing that went wrong.
-fn tell<W: Write>(writer: &mut W, served: &Served) -> Result<(), ServerFault>
-    ensures { IsReported served.now (W.contents writer.old) (W.contents writer.new) result }
+fn tell<W: Sink>(sink: &mut W, served: &Served) -> Result<(), ServerFault>
+    ensures { IsReported served.now (W.written sink.old) (W.written sink.new) result }
 {
     match served.ended {
         Ended::WriteFailed => Err(ServerFault::Write),
-        Ended::ReadFailed => match write_report(writer, &served.report) {
+        Ended::ReadFailed => match write_report(sink, &served.report) {
             Ok(()) => Err(ServerFault::Read),
             Err(_) => Err(ServerFault::Write),
         },
-        Ended::Closed => match write_report(writer, &served.report) {
+        Ended::Closed | Ended::Cut => match write_report(sink, &served.report) {
             Ok(()) if any_stopped(served.report.lanes.as_slice()) => Err(ServerFault::Stopped),
             Ok(()) => Ok(()),
             Err(_) => Err(ServerFault::Write),
@@ -67,23 +72,27 @@ fn tell<W: Write>(writer: &mut W, served: &Served) -> Result<(), ServerFault>
     }
 }
 
-/// Serves the messages of `reader` as one conversation, with ids counted from 1, writes the replies to `writer`, ends the
+/// Serves the messages of `source` as one conversation, with ids counted from 1, writes the replies to `sink`, ends the
 /// lanes and writes the report. Of what went wrong the first in the order of `ServerFault` is answered; after `Memory`
 /// and `Write` there may be no report.
-pub fn replay<R: BufRead, W: Write>(
+pub fn replay<R: Source, W: Sink>(
     alloc: Global,
     settings: &Settings,
-    reader: &mut R,
-    writer: &mut W,
+    source: &mut R,
+    sink: &mut W,
 ) -> Result<(), ServerFault>
-    ensures { (result ≡ Err ServerFault.Memory) ⊎ ((served : Served) × (written : Option (List ℕ))
-        × IsRun settings.now served (R.remaining reader.old) (W.contents writer.old) (R.remaining reader.new) written
-        × IsReported served written (W.contents writer.new) result) }
+    ensures { (result ≡ Err ServerFault.Memory) ⊎ ((served : Served) × (replied : Device)
+        × IsRun settings.now served
+        (device (R.left source.old) (R.has_failed source.old) (R.interruptions source.old))
+        (device (R.left source.new) (R.has_failed source.new) (R.interruptions source.new))
+        (device (W.written sink.old) (W.has_failed sink.old) (W.interruptions sink.old))
+        replied
+        × IsReported served replied.bytes (W.written sink.new) result) }
 {
-    let Ok(served) = run(alloc, settings, reader, writer) else {
+    let Ok(served) = run(alloc, settings, source, sink) else {
         return Err(ServerFault::Memory);
     };
-    tell(writer, &served)
+    tell(sink, &served)
 }
 
 #[cfg(test)]

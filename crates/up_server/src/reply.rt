@@ -5,9 +5,8 @@ ghost use Rattle.up_server.specs.Replies.{IsReply, reply_to_wire_fault, reply_to
 use crate::answer::{method_refused, no_memory, refused};
 use crate::header_fault::HeaderFault;
 use crate::refusal::Refusal;
-use crate::response::Response;
-use crate::wire_fault::WireFault;
 use std::alloc::Global;
+use up_wire::{Response, WireFault};
 
 /// What is answered to a message that can't be read. Where memory is wanting, that is answered instead.
 pub fn reply_to_wire_fault(alloc: Global, fault: WireFault) -> Response

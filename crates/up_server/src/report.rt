@@ -1,54 +1,50 @@
 //! The report of a run, as text.
 ghost use Rattle.std.specs.Prelude.{◌≡◌, flat_map};
-ghost use Rattle.up_server.specs.Response.{Writes};
+ghost use Rattle.up_wire.specs.Response.{Writes};
 ghost use Rattle.up_server.specs.ReportText.{count_line, event_line, lane_line, lane_text, lanes_text, report_text, how_of};
 
 use crate::dispatcher::Report;
 use crate::feed::{How, LaneReport};
-use crate::response::{WriteFailed, write_pieces};
 use itoa::Buffer;
-use std::io::Write;
 use up_events::Event;
+use up_wire::{Sink, WriteFailed, flush, write_pieces};
 
-/// Writes the report, and flushes the writer: an empty line, `accepted` and the number of accepted changes, then for
+/// Writes the report, and has the sink send it on: an empty line, `accepted` and the number of accepted changes, then for
 /// each lane a line with its number, how it ended and how many events it handed over, and these events, a line each. An
 /// error comes where a write or the flush failed.
-pub fn write_report<W: Write>(writer: &mut W, report: &Report) -> Result<(), WriteFailed>
-    ensures { Writes (W.contents writer.old) (W.contents writer.new) (report_text report.now) result }
+pub fn write_report<W: Sink>(sink: &mut W, report: &Report) -> Result<(), WriteFailed>
+    ensures { Writes (W.written sink.old) (W.written sink.new) (report_text report.now) result }
 {
-    write_count(writer, report.accepted.len())?;
-    write_lanes(writer, report.lanes.as_slice())?;
-    match writer.flush() {
-        Ok(()) => Ok(()),
-        Err(_) => Err(WriteFailed),
-    }
+    write_count(sink, report.accepted.len())?;
+    write_lanes(sink, report.lanes.as_slice())?;
+    flush(sink)
 }
 
 /// Writes the number of accepted changes.
-fn write_count<W: Write>(writer: &mut W, count: usize) -> Result<(), WriteFailed>
-    ensures { Writes (W.contents writer.old) (W.contents writer.new) (count_line count) result }
+fn write_count<W: Sink>(sink: &mut W, count: usize) -> Result<(), WriteFailed>
+    ensures { Writes (W.written sink.old) (W.written sink.new) (count_line count) result }
 {
     let mut digits = Buffer::new();
     let pieces: [&[u8]; 3] = [b"\naccepted ", digits.format(count).as_bytes(), b"\n"];
-    write_pieces(writer, &pieces)
+    write_pieces(sink, &pieces)
 }
 
 /// Writes the lanes, with their numbers from 0 on.
-fn write_lanes<W: Write>(writer: &mut W, lanes: &[LaneReport]) -> Result<(), WriteFailed>
-    ensures { Writes (W.contents writer.old) (W.contents writer.new) (lanes_text 0 lanes.now) result }
+fn write_lanes<W: Sink>(sink: &mut W, lanes: &[LaneReport]) -> Result<(), WriteFailed>
+    ensures { Writes (W.written sink.old) (W.written sink.new) (lanes_text 0 lanes.now) result }
 {
     for (number, lane) in lanes.iter().enumerate() {
-        write_lane(writer, number, lane)?;
+        write_lane(sink, number, lane)?;
     }
     Ok(())
 }
 
 /// Writes a lane and its events.
-fn write_lane<W: Write>(writer: &mut W, number: usize, lane: &LaneReport) -> Result<(), WriteFailed>
-    ensures { Writes (W.contents writer.old) (W.contents writer.new) (lane_text number lane.now) result }
+fn write_lane<W: Sink>(sink: &mut W, number: usize, lane: &LaneReport) -> Result<(), WriteFailed>
+    ensures { Writes (W.written sink.old) (W.written sink.new) (lane_text number lane.now) result }
 {
-    write_lane_line(writer, number, lane)?;
-    write_events(writer, lane.handed.as_slice())
+    write_lane_line(sink, number, lane)?;
+    write_events(sink, lane.handed.as_slice())
 }
 
 fn how_of(how: How) -> &'static [u8]
@@ -60,12 +56,12 @@ fn how_of(how: How) -> &'static [u8]
     }
 }
 
-fn write_lane_line<W: Write>(
-    writer: &mut W,
+fn write_lane_line<W: Sink>(
+    sink: &mut W,
     number: usize,
     lane: &LaneReport,
 ) -> Result<(), WriteFailed>
-    ensures { Writes (W.contents writer.old) (W.contents writer.new) (lane_line number lane.now) result }
+    ensures { Writes (W.written sink.old) (W.written sink.new) (lane_line number lane.now) result }
 {
     let mut digits = Buffer::new();
     let mut handed = Buffer::new();
@@ -76,21 +72,21 @@ fn write_lane_line<W: Write>(
         handed.format(lane.handed.len()).as_bytes(),
         b"\n",
     ];
-    write_pieces(writer, &pieces)
+    write_pieces(sink, &pieces)
 }
 
-fn write_events<W: Write>(writer: &mut W, events: &[Event]) -> Result<(), WriteFailed>
-    ensures { Writes (W.contents writer.old) (W.contents writer.new) (flat_map event_line events.now) result }
+fn write_events<W: Sink>(sink: &mut W, events: &[Event]) -> Result<(), WriteFailed>
+    ensures { Writes (W.written sink.old) (W.written sink.new) (flat_map event_line events.now) result }
 {
     for event in events {
-        write_event(writer, event)?;
+        write_event(sink, event)?;
     }
     Ok(())
 }
 
 /// Writes an event: its id, number, hook, offset and length, and what its post-hook answered.
-fn write_event<W: Write>(writer: &mut W, event: &Event) -> Result<(), WriteFailed>
-    ensures { Writes (W.contents writer.old) (W.contents writer.new) (event_line event.now) result }
+fn write_event<W: Sink>(sink: &mut W, event: &Event) -> Result<(), WriteFailed>
+    ensures { Writes (W.written sink.old) (W.written sink.new) (event_line event.now) result }
 {
     let text = event.id.text();
     let mut number = Buffer::new();
@@ -108,5 +104,5 @@ fn write_event<W: Write>(writer: &mut W, event: &Event) -> Result<(), WriteFaile
         length.format(event.length).as_bytes(),
         b" done\n",
     ];
-    write_pieces(writer, &pieces)
+    write_pieces(sink, &pieces)
 }

@@ -1,6 +1,6 @@
 //! What a message asks for.
-use crate::sequence::Sequence;
 use up_events::Id;
+use up_wire::Sequence;
 
 /// A request of the tus protocol that is served.
 #[derive(Drop)]

@@ -1,7 +1,7 @@
 use super::*;
-use crate::sequence::Sequence;
 use std::process::Abort;
 use std::test::Fail;
+use up_wire::Sequence;
 
 /// What a PATCH says, beside its id.
 struct Sent<'a> {

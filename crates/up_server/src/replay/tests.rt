@@ -2,6 +2,7 @@
 mod command_lines;
 mod creating;
 mod failing;
+mod framed;
 mod many;
 mod patching;
 mod unreadable;
@@ -10,6 +11,7 @@ use super::*;
 use std::alloc::AllocError;
 use std::process::Abort;
 use std::test::Fail;
+use up_wire::{Input, Output};
 
 const U1: &str = "00000000000000000000000000000001";
 
@@ -22,11 +24,6 @@ const U4: &str = "00000000000000000000000000000004";
 const U5: &str = "00000000000000000000000000000005";
 
 const THIRTY_NINES: &str = "999999999999999999999999999999";
-
-/// The answer to a message that can't be read. It closes the conversation.
-const BAD_HEAD: &str =
-    "HTTP/1.1 400 Bad Request\r\nTus-Resumable: 1.0.0\r\nCache-Control: no-store\r\n\
-    Content-Type: text/plain\r\nContent-Length: 10\r\nConnection: close\r\n\r\n1 BadHead\n";
 
 /// The report of a run that changed nothing.
 const NOTHING: &str = "\naccepted 0\nlane 0 drained 0\nlane 1 drained 0\n";
@@ -106,6 +103,15 @@ impl Talk {
         )
     }
 
+    /// Wants a refusal that closes the conversation.
+    fn want_closed(&mut self, status: &str, count: &str, line: &str) -> Result<(), AllocError> {
+        write!(
+            self.wanted,
+            "HTTP/1.1 {status}\r\nTus-Resumable: 1.0.0\r\nCache-Control: no-store\r\n\
+            Content-Type: text/plain\r\nContent-Length: {count}\r\nConnection: close\r\n\r\n{line}\n"
+        )
+    }
+
     /// Serves what is asked, and compares.
     fn hold(&self, rt: &impl Abort, alloc: Global, settings: &Settings) -> Result<(), Fail> {
         let (ended, written) = served(alloc, settings, self.asked.as_bytes());
@@ -118,8 +124,8 @@ impl Talk {
 
 /// How a run over these bytes ends, and what it writes.
 fn served(alloc: Global, settings: &Settings, input: &[u8]) -> (Result<(), ServerFault>, Vec<u8>) {
-    let mut reader = input;
-    let mut written = Vec::new(alloc);
-    let ended = replay(alloc, settings, &mut reader, &mut written);
-    (ended, written)
+    let mut source = Input::new(input);
+    let mut sink = Output::new(Vec::new(alloc));
+    let ended = replay(alloc, settings, &mut source, &mut sink);
+    (ended, sink.into_inner())
 }

@@ -1,4 +1,5 @@
 use Rattle.std.proofs.Common.{◌+◌, arith}
+use Rattle.up_wire.specs.Device.{device}
 use Rattle.up_server.proofs.TurnLemmas.{goes_on_same, goes_on_then, goes_on_within, no_passes, passes_few, passes_more}
 use Rattle.up_server.proofs.conversation.converse.Goals as goal
 
@@ -11,7 +12,11 @@ returns-in-Some-clause-goes_on g c = goes_on_within (c.loop-turn.turn + 1) 10000
 pub returns-in-Some-clause-turns : goal.returns-in-Some-clause-turns
 returns-in-Some-clause-turns g c = record {
   turns = c.loop-turn.turn;
-  last = record { course = c.loop-turn.dispatcher; unread = g.R.Read.remaining c.loop-turn.reader; written = g.W.Write.contents c.loop-turn.writer };
+  last = record {
+    course = c.loop-turn.dispatcher;
+    source = device (g.R.Source.left c.loop-turn.source) (g.R.Source.has_failed c.loop-turn.source) (g.R.Source.interruptions c.loop-turn.source);
+    sink = device (g.W.Sink.written c.loop-turn.sink) (g.W.Sink.has_failed c.loop-turn.sink) (g.W.Sink.interruptions c.loop-turn.sink);
+  };
   passes = c.loop-turn.invariant.passes;
   ends = c.in-Some.ensures.turn;
 }

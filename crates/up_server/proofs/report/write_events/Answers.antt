@@ -1,6 +1,6 @@
 use Rattle.std.proofs.Common.{get_or, ap, subst}
 use Rattle.std.specs.List.{flat_map}
-use Rattle.up_server.specs.Response.{WritesFront}
+use Rattle.up_wire.specs.Response.{WritesFront}
 use Rattle.up_server.specs.ReportText.{event_line}
 use Rattle.up_server.proofs.Writing.{each_cut, writes_err}
 use Rattle.up_server.proofs.report.write_events.Goals as goal

@@ -1,7 +1,7 @@
 use Rattle.std.proofs.Common.{sym, subst}
 use Rattle.std.specs.List.{flat_map}
 use Rattle.up_server.specs.ReportText.{event_line, lane_line, lane_text}
-use Rattle.up_server.specs.Response.{Writes}
+use Rattle.up_wire.specs.Response.{Writes}
 use Rattle.up_server.proofs.Writing.{front_cut, writes_err, writes_then}
 use Rattle.up_server.proofs.report.write_lane.Goals as goal
 
@@ -15,4 +15,4 @@ pub returns : goal.returns
 returns g c =
     let lane = c.args.lane.now in
     writes_then _ _ _ (lane_line c.args.number lane) (flat_map event_line lane.handed.items) c.write_events.result c.in_ok-write_lane_line.ensures
-    (subst (λ events. Writes (g.W.Write.contents c.write_lane_line.new.writer) (g.W.Write.contents c.write_events.new.writer) (flat_map event_line events) c.write_events.result) c.as_slice.ensures.value c.write_events.ensures)
+    (subst (λ events. Writes (g.W.Sink.written c.write_lane_line.new.sink) (g.W.Sink.written c.write_events.new.sink) (flat_map event_line events) c.write_events.result) c.as_slice.ensures.value c.write_events.ensures)

@@ -2,7 +2,7 @@ use Rattle.std.proofs.Common.{ap, subst, add-one, ◌∙◌, sym, zero-add, ◌+
 use Rattle.std.specs.Io.KnownBytes.{Appends}
 use Rattle.std.proofs.KnownBytes.{Appends-trans}
 use Rattle.up_server.specs.ReportText.{lane_text, lanes_text}
-use Rattle.up_server.specs.Response.{WritesFront}
+use Rattle.up_wire.specs.Response.{WritesFront}
 use Rattle.up_server.proofs.ReportLemmas.{lanes_cut, lanes_more}
 use Rattle.up_server.proofs.Writing.{writes_err}
 use Rattle.up_server.proofs.report.write_lanes.Goals as goal

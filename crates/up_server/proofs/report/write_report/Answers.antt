@@ -1,9 +1,9 @@
 use Rattle.std.proofs.Common.{length, ap, subst, ◌∙◌}
 use Rattle.std.specs.Io.KnownBytes.{Appends}
-use Rattle.std.proofs.KnownBytes.{Appends-kept, Appends-trans}
+use Rattle.std.proofs.KnownBytes.{Appends-trans}
 use Rattle.up_server.specs.ReportText.{count_line, lanes_text, report_text}
-use Rattle.up_server.specs.Response.{WritesFront}
-use Rattle.up_server.proofs.Writing.{front_cut, front_then, front_whole, writes_err}
+use Rattle.up_wire.specs.Response.{WritesFront}
+use Rattle.up_server.proofs.Writing.{front_cut, front_then, writes_err, writes_kept}
 use Rattle.up_server.proofs.report.write_report.Goals as goal
 
 pub returns-in_err-write_count : goal.returns-in_err-write_count
@@ -21,12 +21,10 @@ returns-in_err-write_lanes g c =
     writes_err _ _ (report_text r) c.from_residual-in_err-write_lanes.result c.from_residual-in_err-write_lanes.ensures.0
     (front_then _ _ _ (count_line (length r.accepted.items)) (lanes_text 0 r.lanes.items) count lanes)
 
-pub returns-in-Err : goal.returns-in-Err
-returns-in-Err g c =
+pub returns : goal.returns
+returns g c =
     let r = c.args.report.now in
     let count = subst (Appends _ _) (ap count_line (c.len.ensures ∙ r.accepted.ok.0)) c.in_ok-write_count.ensures in
     let lanes = subst (Appends _ _) (ap (lanes_text 0) c.as_slice.ensures.value) c.in_ok-write_lanes.ensures in
-    front_whole _ _ (report_text r)
-    (Appends-kept _ _ _ (report_text r)
-    (Appends-trans _ _ _ (count_line (length r.accepted.items)) (lanes_text 0 r.lanes.items) count lanes)
-    c.flush.ensures.bytes)
+    writes_kept _ _ _ (report_text r) c.flush.result
+    (Appends-trans _ _ _ (count_line (length r.accepted.items)) (lanes_text 0 r.lanes.items) count lanes) c.flush.ensures.kept

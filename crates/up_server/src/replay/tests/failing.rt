@@ -1,6 +1,6 @@
 //! Readers and writers that fail in mid-stream.
 use super::*;
-use std::io::{self, BufReader, ErrorKind, Read};
+use std::io::{self, BufReader, ErrorKind, Read, Write};
 
 /// Gives its bytes, then fails, and would give more.
 #[derive(Drop)]
@@ -46,63 +46,72 @@ impl Write for FullWriter {
     }
 }
 
-/// Serves a POST and then this much of a message, behind which the reader fails.
-fn cut_after(rt: &impl Abort, alloc: Global, front: &str) -> Result<(), Fail> {
+/// A POST of 75 bytes, and a PATCH whose head ends behind 249 bytes and whose body ends behind 260, with two replies and
+/// a report.
+fn small_talk(alloc: Global) -> Result<Talk, AllocError> {
     let mut talk = Talk::new(alloc);
-    talk.ask_post("3")?;
+    talk.ask_post("11")?;
     talk.want_created(U1)?;
-    talk.asked.push_str(front)?;
+    talk.ask_patch(U1, "0", "hello world")?;
+    talk.want_reached("11")?;
     talk.want(
-        "\naccepted 1\nlane 0 drained 0\nlane 1 drained 1\n\
-        00000000000000000000000000000001 1 post-create 0/3 done\n",
+        "\naccepted 2\nlane 0 drained 0\nlane 1 drained 3\n\
+        00000000000000000000000000000001 1 post-create 0/11 done\n\
+        00000000000000000000000000000001 2 post-receive 11/11 done\n\
+        00000000000000000000000000000001 3 post-finish 11/11 done\n",
     )?;
-    let fake = CutReader {
-        bytes: talk.asked.as_bytes(),
-        late: b"POST /files/ HTTP/1.1\r\nUpload-Length: 1\r\n\r\n",
-    };
-    let mut reader = BufReader::new(alloc, fake)?;
-    let mut written = Vec::new(alloc);
-    let ended = replay(alloc, &Settings::default(), &mut reader, &mut written);
-    assert_eq!(rt; ended, Err(ServerFault::Read));
-    assert_eq!(rt; str::from_utf8(&written)?, talk.wanted.as_str());
-    Ok(())
+    Ok(talk)
 }
 
-#[test]
-fn reports_after_a_read_that_fails_between_messages(rt: HostRuntime) -> Result<(), Fail> {
-    cut_after(&rt, rt.alloc(), "")
-}
-
-#[test]
-fn reports_after_a_read_that_fails_in_a_head(rt: HostRuntime) -> Result<(), Fail> {
-    cut_after(&rt, rt.alloc(), "POST /files/ HTTP/1.1\r\nHost: a\r\nUp")
-}
-
-#[test]
-fn reports_after_a_read_that_fails_in_a_body(rt: HostRuntime) -> Result<(), Fail> {
-    cut_after(
-        &rt,
-        rt.alloc(),
-        "PATCH /files/00000000000000000000000000000001 HTTP/1.1\r\nHost: a\r\n\
-        Tus-Resumable: 1.0.0\r\nContent-Type: application/offset+octet-stream\r\n\
-        Upload-Offset: 0\r\nContent-Length: 3\r\n\r\nab",
+/// The report where the POST was served, and so many bytes of the body came.
+fn report_of_part(alloc: Global, count: usize) -> Result<String, AllocError> {
+    if count == 0 {
+        return String::from_str(
+            alloc,
+            "\naccepted 1\nlane 0 drained 0\nlane 1 drained 1\n\
+            00000000000000000000000000000001 1 post-create 0/11 done\n",
+        );
+    }
+    format!(in alloc;
+        "\naccepted 2\nlane 0 drained 0\nlane 1 drained 2\n\
+        {U1} 1 post-create 0/11 done\n{U1} 2 post-receive {count}/11 done\n"
     )
 }
 
-/// A conversation of two replies and a report.
-fn small_talk(alloc: Global) -> Result<Talk, AllocError> {
+/// What is written where the reader fails behind so many bytes, fewer than 260.
+fn written_after(alloc: Global, count: usize) -> Result<String, AllocError> {
     let mut talk = Talk::new(alloc);
-    talk.ask_post("3")?;
+    if count < 75 {
+        talk.want(NOTHING)?;
+        return Ok(talk.wanted);
+    }
     talk.want_created(U1)?;
-    talk.ask_patch(U1, "0", "abc")?;
-    talk.want_reached("3")?;
-    talk.want(
-        "\naccepted 2\nlane 0 drained 0\nlane 1 drained 3\n\
-        00000000000000000000000000000001 1 post-create 0/3 done\n\
-        00000000000000000000000000000001 2 post-receive 3/3 done\n\
-        00000000000000000000000000000001 3 post-finish 3/3 done\n",
-    )?;
-    Ok(talk)
+    let report = report_of_part(alloc, count.saturating_sub(249))?;
+    talk.want(report.as_str())?;
+    Ok(talk.wanted)
+}
+
+#[test]
+fn keeps_what_came_before_any_read_that_fails(rt: HostRuntime) -> Result<(), Fail> {
+    let talk = small_talk(rt.alloc())?;
+    for count in 0..talk.asked.len() {
+        let reader = CutReader {
+            bytes: &talk.asked.as_bytes()[..count],
+            late: b"POST /files/ HTTP/1.1\r\nUpload-Length: 1\r\n\r\n",
+        };
+        let mut source = Input::new(BufReader::new(rt.alloc(), reader)?);
+        let mut sink = Output::new(Vec::new(rt.alloc()));
+        let ended = replay(rt.alloc(), &Settings::default(), &mut source, &mut sink);
+        let wanted = if count < 249 {
+            Err(ServerFault::Read)
+        } else {
+            Ok(())
+        };
+        assert_eq!(rt; ended, wanted, "after {count} bytes");
+        let written = written_after(rt.alloc(), count)?;
+        assert_eq!(rt; str::from_utf8(&sink.into_inner())?, written.as_str());
+    }
+    Ok(())
 }
 
 #[test]
@@ -110,16 +119,17 @@ fn stops_at_any_write_that_fails(rt: HostRuntime) -> Result<(), Fail> {
     let talk = small_talk(rt.alloc())?;
     talk.hold(&rt, rt.alloc(), &Settings::default())?;
     for room in 0..talk.wanted.len() {
-        let mut reader = talk.asked.as_bytes();
-        let mut writer = FullWriter {
+        let mut source = Input::new(talk.asked.as_bytes());
+        let mut sink = Output::new(FullWriter {
             taken: Vec::new(rt.alloc()),
             room,
-        };
-        let ended = replay(rt.alloc(), &Settings::default(), &mut reader, &mut writer);
+        });
+        let ended = replay(rt.alloc(), &Settings::default(), &mut source, &mut sink);
         assert_eq!(rt; ended, Err(ServerFault::Write), "after {room} bytes");
-        assert_eq!(rt; writer.taken.len(), room);
+        let taken = sink.into_inner().taken;
+        assert_eq!(rt; taken.len(), room);
         assert!(rt;
-            talk.wanted.as_bytes().starts_with(&writer.taken),
+            talk.wanted.as_bytes().starts_with(&taken),
             "after {room} bytes"
         );
     }

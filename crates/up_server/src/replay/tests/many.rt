@@ -15,12 +15,12 @@ fn closes_with_the_ten_thousandth_answer(rt: HostRuntime) -> Result<(), Fail> {
         Content-Type: text/plain\r\nContent-Length: 14\r\nConnection: close\r\n\r\n11 NoSuchPath\n",
     )?;
     talk.want(NOTHING)?;
-    let mut reader = talk.asked.as_bytes();
-    let mut written = Vec::new(rt.alloc());
-    let ended = replay(rt.alloc(), &Settings::default(), &mut reader, &mut written);
+    let mut source = Input::new(talk.asked.as_bytes());
+    let mut sink = Output::new(Vec::new(rt.alloc()));
+    let ended = replay(rt.alloc(), &Settings::default(), &mut source, &mut sink);
     assert_eq!(rt; ended, Ok(()));
-    assert!(rt; written.as_slice() == talk.wanted.as_bytes());
+    assert!(rt; sink.into_inner().as_slice() == talk.wanted.as_bytes());
     let unread = "GET / HTTP/1.1\r\nHost: a\r\nTus-Resumable: 1.0.0\r\n\r\n";
-    assert_eq!(rt; str::from_utf8(reader)?, unread);
+    assert_eq!(rt; str::from_utf8(source.into_inner())?, unread);
     Ok(())
 }

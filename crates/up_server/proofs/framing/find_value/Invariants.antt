@@ -1,7 +1,0 @@
-use Rattle.std.proofs.Common.{take}
-use Rattle.up_server.specs.Fields.{values}
-use Rattle.up_server.specs.Framing.{IsOneOf}
-use Rattle.up_server.proofs.framing.find_value.Given as goal
-
-abbrev pub invariant-loop-field : goal.invariant-loop-field
-invariant-loop-field l = IsOneOf l.found (values l.name (take l.field-index l.fields))
