@@ -8,11 +8,14 @@ ghost use Rattle.up_wire.specs.Framing.{closes, is_continue, asks_to_continue};
 use crate::message::Field;
 use httparse::is_space_or_tab;
 
-/// The values of the fields of one name.
+/// The values of the fields of one name (RFC 9110, section 5.3).
 #[derive(Clone, Copy)]
-pub(crate) enum Values<'a> {
+pub enum Values<'a> {
+    /// No field has the name.
     Absent,
+    /// Just one field has it, with this value.
     One(&'a [u8]),
+    /// More than one field has it.
     Several,
 }
 
@@ -24,8 +27,8 @@ pub fn same_name(a: &[u8], b: &[u8]) -> bool
     a.eq_ignore_ascii_case(b)
 }
 
-/// The value of the fields with that name, where there is just one.
-pub(crate) fn find_value<'a>(fields: &'a [Field], name: &[u8]) -> Values<'a>
+/// The value of the fields with that name, where there is just one. Names are compared without regard to case.
+pub fn find_value<'a>(fields: &'a [Field], name: &[u8]) -> Values<'a>
     ensures { IsOneOf result (values name.now fields.now) }
 {
     let mut found = Values::Absent;
@@ -51,7 +54,8 @@ fn trim_start(mut text: &[u8]) -> &[u8]
     text
 }
 
-fn trim_end(mut text: &[u8]) -> &[u8]
+/// The text without the spaces and tabs at its end (RFC 9110, section 5.6.3).
+pub fn trim_end(mut text: &[u8]) -> &[u8]
     ensures { result.now ≡ reverse (skip_ows (reverse text.now)) }
 {
     while let [rest @ .., last] = text

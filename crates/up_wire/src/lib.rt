@@ -25,7 +25,7 @@ mod write;
 
 pub use device::{NextByte, Run, Sink, Source, WriteSome};
 pub use digits::{is_digits, number};
-pub use fields::same_name;
+pub use fields::{Values, find_value, same_name, trim_end};
 pub use input::Input;
 pub use law::an_input_has_one_answer;
 pub use message::{Field, Limits, Message, Taken};

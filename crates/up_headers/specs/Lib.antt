@@ -1,0 +1,12 @@
+-- The definitions that the contracts cite.
+pub mod HeaderFaults
+pub mod Metadata
+pub mod Reading
+pub mod Rows
+pub mod Fields
+pub mod Verbs
+pub mod Places
+pub mod Patches
+pub mod Creations
+pub mod Table
+pub mod Steps

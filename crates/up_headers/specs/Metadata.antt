@@ -1,0 +1,121 @@
+-- The text of `Upload-Metadata`, and the pairs that it reads as (tus 1.0.0, Upload-Metadata).
+use Rattle.std.specs.Prelude.{◌≡◌, ℕ, ◌<◌, ◌==◌, Bool, true, false, not, List, [], ◌∷◌, ◌++◌, length, bytes_eq, IsTrue}
+use Rattle.std.specs.List.{list_all, list_any}
+use Rattle.httparse.specs.Ascii.{space, comma}
+use Rattle.base64.specs.Engines.{standard}
+use Rattle.base64.specs.GeneralPurpose.{encode_of, IsBytes}
+use Rattle.up_headers.specs.declared.metadata_fault.MetadataFault.{MetadataFault}
+use Rattle.up_headers.specs.declared.metadata_fault.MetadataFault.TheVariants as Fault
+
+-- a key and a value
+abbrev pub Pair : Type 0
+Pair = List ℕ × List ℕ
+
+-- the one blank that metadata knows
+abbrev pub is_space : ℕ → Bool
+is_space b = b == space
+
+-- any byte but a space
+abbrev pub is_no_space : ℕ → Bool
+is_no_space b = not (b == space)
+
+-- any byte but a comma
+abbrev pub is_no_comma : ℕ → Bool
+is_no_comma b = not (b == comma)
+
+-- spaces alone, or nothing
+abbrev pub AreSpaces : List ℕ → Type 0
+AreSpaces text = IsTrue (list_all is_space text)
+
+-- what can stand between two commas
+abbrev pub HasNoComma : List ℕ → Type 0
+HasNoComma text = IsTrue (list_all is_no_comma text)
+
+-- each part is without commas
+abbrev pub HaveNoCommas : List (List ℕ) → Type 0
+HaveNoCommas [] = Unit {0}
+HaveNoCommas (part ∷ parts) = HasNoComma part × HaveNoCommas parts
+
+-- the parts with a comma between each two
+abbrev pub with_commas : List (List ℕ) → List ℕ
+with_commas [] = []
+with_commas (part ∷ []) = part
+with_commas (part ∷ next ∷ parts) = part ++ comma ∷ with_commas (next ∷ parts)
+
+-- the text, cut at its commas; the empty text may also be cut into no parts
+abbrev pub AreParts : List ℕ → List (List ℕ) → Type 0
+AreParts text parts = (text ≡ with_commas parts) × HaveNoCommas parts
+
+-- not empty, and without spaces
+abbrev pub IsKey : List ℕ → Type 0
+IsKey key = (0 < length key) × IsTrue (list_all is_no_space key)
+
+-- spaces, the key, perhaps one or more spaces and the value's encoding, spaces; an empty value has the empty encoding
+pub record IsPart (part : List ℕ) (pair : Pair) : Type 0 where
+  pub left : List ℕ
+  pub gap : List ℕ
+  pub right : List ℕ
+  pub spelled : part ≡ left ++ (pair.0 ++ (gap ++ (encode_of standard pair.1 ++ right)))
+  pub spaces : AreSpaces left × AreSpaces gap × AreSpaces right
+  pub is_key : IsKey pair.0
+  pub is_value : IsBytes pair.1
+  pub apart : 0 < length pair.1 → 0 < length gap
+
+-- one of the pairs has the key, byte for byte
+abbrev pub has_key : List ℕ → List Pair → Bool
+has_key key pairs = list_any (λ (pair : Pair). bytes_eq pair.0 key) pairs
+
+-- behind the pairs `before`, each part is one pair, whose key no pair before it has
+abbrev pub ArePairs : List Pair → List (List ℕ) → List Pair → Type 0
+ArePairs before [] [] = Unit {0}
+ArePairs before (part ∷ parts) (pair ∷ pairs) = IsPart part pair × (has_key pair.0 before ≡ false) × ArePairs (before ++ pair ∷ []) parts pairs
+ArePairs before [] (pair ∷ pairs) = ⊥
+ArePairs before (part ∷ parts) [] = ⊥
+
+-- the text reads as the pairs; the empty text as none, since an empty part is no pair
+abbrev pub ReadsPairs : List ℕ → List Pair → Type 0
+ReadsPairs text pairs = (parts : List (List ℕ)) × AreParts text parts × ArePairs [] parts pairs
+
+-- nothing, or a text that begins with a space
+abbrev pub EndsKey : List ℕ → Type 0
+EndsKey [] = Unit {0}
+EndsKey (b ∷ bs) = b ≡ space
+
+-- behind spaces, the part begins with the key, which is all up to the next space
+pub record HasKey (part key : List ℕ) : Type 0 where
+  pub left : List ℕ
+  pub rest : List ℕ
+  pub spelled : part ≡ left ++ (key ++ rest)
+  pub spaces : AreSpaces left
+  pub is_key : IsKey key
+  pub ends : EndsKey rest
+
+-- the fault of a part behind the pairs `before`: it has no key, or one that stands before, or a new one and is no pair
+abbrev pub IsPartFault : List Pair → List ℕ → MetadataFault → Type 0
+IsPartFault before part Fault.EmptyKey = AreSpaces part
+IsPartFault before part Fault.KeyTwice = (key : List ℕ) × HasKey part key × (has_key key before ≡ true)
+IsPartFault before part Fault.BadValue = (key : List ℕ) × HasKey part key × (has_key key before ≡ false) × ((pair : Pair) → ¬ (IsPart part pair))
+IsPartFault before part Fault.NoMemory = ⊥
+
+-- some parts of the text are pairs, and the one behind them has the fault
+pub record HasFault (text : List ℕ) (fault : MetadataFault) : Type 0 where
+  pub before : List (List ℕ)
+  pub part : List ℕ
+  pub behind : List (List ℕ)
+  pub are_parts : AreParts text (before ++ part ∷ behind)
+  pub pairs : List Pair
+  pub are_pairs : ArePairs [] before pairs
+  pub is_fault : IsPartFault pairs part fault
+
+-- the text has the fault and reads as no pairs; want of memory says nothing of the text
+abbrev pub IsRefusal : List ℕ → MetadataFault → Type 0
+IsRefusal text Fault.NoMemory = Unit {0}
+IsRefusal text fault = HasFault text fault × ((pairs : List Pair) → ¬ (ReadsPairs text pairs))
+
+-- a text reads as at most one list of pairs
+abbrev pub ReadsOnce : Type 0
+ReadsOnce = (text : List ℕ) (one other : List Pair) → ReadsPairs text one → ReadsPairs text other → one ≡ other
+
+-- a text of bytes has at most one fault
+abbrev pub FaultsOnce : Type 0
+FaultsOnce = (text : List ℕ) (one other : MetadataFault) → IsBytes text → HasFault text one → HasFault text other → one ≡ other

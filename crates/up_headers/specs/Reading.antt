@@ -1,0 +1,80 @@
+-- How a metadata text is read, step by step: the same as `ReadsPairs` and `HasFault`, as functions.
+use Rattle.std.specs.Borrow.{Bor}
+use Rattle.std.specs.Prelude.{◌≡◌, ℕ, ◌-◌, ◌==◌, Bool, Option, None, Some, List, [], ◌∷◌, ◌++◌, length, take, reverse, Result, Ok, Err, MatchResult, if◌then◌else◌}
+use Rattle.base64.specs.Engines.{standard}
+use Rattle.base64.specs.GeneralPurpose.{decode_of, IsBytes}
+use Rattle.base64.specs.declared.decode.DecodeError.{DecodeError}
+use Rattle.up_wire.specs.Fields.{split_commas}
+use Rattle.up_headers.specs.declared.metadata_fault.MetadataFault.{MetadataFault}
+use Rattle.up_headers.specs.declared.metadata_fault.MetadataFault.TheVariants as Fault
+use Rattle.up_headers.specs.Metadata.{Pair, is_space, is_no_space, has_key, ReadsPairs, HasFault}
+
+-- the text behind its first bytes that pass the test
+abbrev pub drop_while : (ℕ → Bool) → List ℕ → List ℕ
+drop_while test [] = []
+drop_while test (b ∷ bs) = if test b then drop_while test bs else b ∷ bs
+
+-- without the spaces at the front
+abbrev pub skip_spaces : List ℕ → List ℕ
+skip_spaces text = drop_while is_space text
+
+-- from the first space on
+abbrev pub from_space : List ℕ → List ℕ
+from_space text = drop_while is_no_space text
+
+-- without the spaces at the end
+abbrev pub trim_end : List ℕ → List ℕ
+trim_end text = reverse (skip_spaces (reverse text))
+
+-- up to the first space
+abbrev pub until_space : List ℕ → List ℕ
+until_space text = take (length text - length (from_space text)) text
+
+-- the key of a part, which may be empty
+abbrev pub key_of : List ℕ → List ℕ
+key_of part = until_space (skip_spaces part)
+
+-- what stands for a part's value
+abbrev pub value_of : List ℕ → List ℕ
+value_of part = trim_end (skip_spaces (from_space (skip_spaces part)))
+
+-- the pair of a key and what its value decodes to
+abbrev pub with_value : List ℕ → Result (List ℕ) DecodeError → Result Pair MetadataFault
+with_value key (Ok value) = Ok (key, value)
+with_value key (Err e) = Err Fault.BadValue
+
+-- the pair that a part is behind the pairs `before`, or its fault
+abbrev pub part_reading : List Pair → List ℕ → Result Pair MetadataFault
+part_reading before part =
+    if length (key_of part) == 0 then Err Fault.EmptyKey
+    else (if has_key (key_of part) before then Err Fault.KeyTwice else with_value (key_of part) (decode_of standard (value_of part)))
+
+-- more is read behind a pair, and nothing behind a fault
+abbrev pub and_then : Result Pair MetadataFault → (Pair → Result (List Pair) MetadataFault) → Result (List Pair) MetadataFault
+and_then (Ok pair) more = more pair
+and_then (Err fault) more = Err fault
+
+-- the pairs `before` and those of the parts behind them, or the first fault
+abbrev pub parts_reading : List Pair → List (List ℕ) → Result (List Pair) MetadataFault
+parts_reading before [] = Ok before
+parts_reading before (part ∷ parts) = and_then (part_reading before part) (λ pair. parts_reading (before ++ pair ∷ []) parts)
+
+-- the parts of a text, if there is one
+abbrev pub parts_of : Option (Bor (List ℕ)) → List (List ℕ)
+parts_of None = []
+parts_of (Some text) = split_commas text.now
+
+-- the pairs of a text, or its fault
+abbrev pub reading : List ℕ → Result (List Pair) MetadataFault
+reading [] = Ok []
+reading (b ∷ bs) = parts_reading [] (split_commas (b ∷ bs))
+
+-- the answer is what was read, or want of memory
+abbrev pub Answers : {T : Type 0} → Result T MetadataFault → Result T MetadataFault → Type 0
+Answers (Ok x) right = right ≡ Ok x
+Answers (Err Fault.NoMemory) right = Unit {0}
+Answers (Err fault) right = right ≡ Err fault
+
+-- a text of bytes that is read as pairs reads as them, and one that is read as a fault has it
+abbrev pub ReadingTells : Type 0
+ReadingTells = (text : List ℕ) → IsBytes text → MatchResult (reading text) (ReadsPairs text) (HasFault text)

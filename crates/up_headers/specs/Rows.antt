@@ -1,0 +1,11 @@
+-- Tables of which the first row that holds is answered.
+use Rattle.std.specs.Prelude.{Bool, List, [], ◌∷◌, Option, Some, None, if◌then◌else◌}
+
+-- a row: whether it holds, and what is answered then
+abbrev pub Row : Type 0 → Type 0
+Row X = Bool × X
+
+-- what the first row that holds answers
+abbrev pub first_that_holds : {X : Type 0} → List (Row X) → Option X
+first_that_holds [] = None
+first_that_holds (row ∷ rows) = if row.0 then Some row.1 else first_that_holds rows

@@ -1,0 +1,38 @@
+-- What the steps of the checks answer.
+use Rattle.std.specs.Prelude.{◌≡◌, ℕ, ◌≤◌, ◌⊎◌, List, Option, Some, None, Result, Ok, Err, ⊤}
+use Rattle.up_wire.specs.Fields.{Field}
+use Rattle.up_headers.specs.declared.request.Request.{Request}
+use Rattle.up_headers.specs.declared.request.NewUpload.{NewUpload}
+use Rattle.up_headers.specs.declared.header_fault.HeaderFault.{HeaderFault}
+use Rattle.up_headers.specs.declared.header_fault.HeaderFault.TheVariants as fault
+use Rattle.up_headers.specs.declared.verb.Verb.{Verb}
+use Rattle.up_headers.specs.declared.place.Place.{Place}
+use Rattle.up_headers.specs.Rows.{first_that_holds}
+use Rattle.up_headers.specs.Verbs.{chosen_verb}
+use Rattle.up_headers.specs.Creations.{length_rows, length_in, creation_rows, new_upload_of}
+use Rattle.up_headers.specs.Table.{early_rows, Then, IsAnswerAt}
+
+-- a check that fails answers this fault, one that doesn't has none
+abbrev pub Passes : Result ⊤ HeaderFault → Option HeaderFault → Type 0
+Passes (Ok done) first = first ≡ None
+Passes (Err found) first = first ≡ Some found
+
+-- the method that counts, where no check before the target fails
+abbrev pub IsChosen : List ℕ → List Field → Result Verb HeaderFault → Type 0
+IsChosen name fields (Ok verb) = (first_that_holds (early_rows name fields) ≡ None) × (verb ≡ chosen_verb name fields)
+IsChosen name fields (Err found) = first_that_holds (early_rows name fields) ≡ Some found
+
+-- the length, where none of its checks fails
+abbrev pub IsLength : List Field → ℕ → Result ℕ HeaderFault → Type 0
+IsLength fields max_size (Ok length) = (first_that_holds (length_rows fields max_size) ≡ None) × (length ≡ length_in fields) × (length ≤ max_size)
+IsLength fields max_size (Err found) = first_that_holds (length_rows fields max_size) ≡ Some found
+
+-- the upload that is to be made, where none of its checks fails; want of memory may stand in its place
+abbrev pub IsCreation : List Field → ℕ → Result NewUpload HeaderFault → Type 0
+IsCreation fields max_size result =
+    (result ≡ Err fault.NoMemory)
+    ⊎ Then (first_that_holds (creation_rows fields max_size)) result (result ≡ Ok (new_upload_of fields))
+
+-- what the checks say at a place; want of memory may stand in its place
+abbrev pub IsStep : Verb → Place → List Field → List ℕ → ℕ → Result Request HeaderFault → Type 0
+IsStep verb at fields body max_size result = (result ≡ Err fault.NoMemory) ⊎ IsAnswerAt verb at fields body max_size result

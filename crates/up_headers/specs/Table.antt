@@ -1,0 +1,116 @@
+-- What a message asks for: the checks in their one order, and the request where none fails.
+use Rattle.std.specs.Prelude.{◌≡◌, ℕ, ◌≤◌, ◌⊎◌, Bool, true, false, not, ◌&&◌, ◌||◌, List, [], ◌∷◌, codes, bytes_eq, Option, Some, None, Result, Ok, Err}
+use Rattle.std.specs.List.{list_any}
+use Rattle.up_wire.specs.Fields.{Field}
+use Rattle.up_wire.specs.declared.message.Message.{Message}
+use Rattle.up_headers.specs.declared.request.Request.{Request}
+use Rattle.up_headers.specs.declared.request.Request.TheVariants as request
+use Rattle.up_headers.specs.declared.header_fault.HeaderFault.{HeaderFault}
+use Rattle.up_headers.specs.declared.header_fault.HeaderFault.TheVariants as fault
+use Rattle.up_headers.specs.declared.verb.Verb.{Verb}
+use Rattle.up_headers.specs.declared.verb.Verb.TheVariants as method
+use Rattle.up_headers.specs.declared.place.Place.{Place}
+use Rattle.up_headers.specs.declared.place.Place.TheVariants as place
+use Rattle.up_headers.specs.Rows.{Row, first_that_holds}
+use Rattle.up_headers.specs.Verbs.{chosen_verb}
+use Rattle.up_headers.specs.Places.{IsAt, is_creation, is_upload, is_nowhere}
+use Rattle.up_headers.specs.Fields.{stands, is_repeated, value_in}
+use Rattle.up_headers.specs.Creations.{creation_rows, new_upload_of}
+use Rattle.up_headers.specs.Patches.{patch_of}
+
+-- whether the version that was sent is 1.0.0
+abbrev pub is_version : List Field → Bool
+is_version fields = bytes_eq (value_in (codes "tus-resumable") fields) (codes "1.0.0")
+
+-- the checks of the version, where one must stand or may
+abbrev pub version_rows : Bool → List Field → List (Row HeaderFault)
+version_rows must fields =
+    (is_repeated (codes "tus-resumable") fields, fault.Repeated)
+    ∷ ((must || stands (codes "tus-resumable") fields) && not (is_version fields), fault.Version)
+    ∷ []
+
+-- the checks of the version, by the method
+abbrev pub method_rows : Verb → List Field → List (Row HeaderFault)
+method_rows method.Post fields = version_rows true fields
+method_rows method.Patch fields = version_rows true fields
+method_rows method.Delete fields = version_rows true fields
+method_rows method.Head fields = version_rows false fields
+method_rows verb fields = []
+
+-- the checks before the target is looked at
+abbrev pub early_rows : List ℕ → List Field → List (Row HeaderFault)
+early_rows name fields =
+    (is_repeated (codes "x-http-method-override") fields, fault.Repeated)
+    ∷ method_rows (chosen_verb name fields) fields
+
+-- whether the place serves the method
+abbrev pub is_served : Verb → Place → Bool
+is_served method.Post at = is_creation at
+is_served method.Head at = is_upload at
+is_served method.Patch at = is_upload at
+is_served method.Delete at = is_upload at
+is_served method.Get at = is_upload at
+is_served verb at = false
+
+-- the fields that a request of the method reads and that may stand once
+abbrev pub single_fields : Verb → List (List ℕ)
+single_fields method.Post = codes "upload-length" ∷ codes "upload-defer-length" ∷ codes "upload-metadata" ∷ codes "upload-concat" ∷ []
+single_fields method.Patch = codes "content-type" ∷ codes "upload-offset" ∷ []
+single_fields verb = []
+
+-- whether one of them is repeated
+abbrev pub repeats : Verb → List Field → Bool
+repeats verb fields = list_any (λ name. is_repeated name fields) (single_fields verb)
+
+-- the checks at the place where the target leads
+abbrev pub place_rows : Verb → Place → List Field → List (Row HeaderFault)
+place_rows verb at fields =
+    (is_nowhere at, fault.NoSuchPath)
+    ∷ (not (is_served verb at), fault.Method (is_upload at))
+    ∷ (repeats verb fields, fault.Repeated)
+    ∷ []
+
+-- the first fault, or what holds where there is none
+abbrev pub Then : {X : Type 0} → Option HeaderFault → Result X HeaderFault → Type 0 → Type 0
+Then (Some found) result more = result ≡ Err found
+Then None result more = more
+
+-- the request where no check before has failed
+abbrev pub Asks : Verb → Place → List Field → List ℕ → ℕ → Result Request HeaderFault → Type 0
+Asks method.Post place.Creation fields body max_size result =
+    Then (first_that_holds (creation_rows fields max_size)) result (result ≡ Ok (request.Create (new_upload_of fields)))
+Asks method.Head (place.Upload id) fields body max_size result = result ≡ Ok (request.Head id)
+Asks method.Patch (place.Upload id) fields body max_size result = result ≡ Ok (request.Patch (patch_of id fields body))
+Asks method.Delete (place.Upload id) fields body max_size result = result ≡ Ok (request.Delete id)
+Asks method.Get (place.Upload id) fields body max_size result = result ≡ Ok (request.Get id)
+Asks verb at fields body max_size result = ⊥
+
+-- what the checks say of a message whose target leads there
+abbrev pub IsAnswerAt : Verb → Place → List Field → List ℕ → ℕ → Result Request HeaderFault → Type 0
+IsAnswerAt verb at fields body max_size result =
+    Then (first_that_holds (place_rows verb at fields)) result (Asks verb at fields body max_size result)
+
+-- what they say from the target on; want of memory may stand in its place
+abbrev pub IsRouted : Verb → Message → ℕ → Result Request HeaderFault → Type 0
+IsRouted verb m max_size result =
+    (result ≡ Err fault.NoMemory)
+    ⊎ ((at : Place) × IsAt m.target at × IsAnswerAt verb at m.fields m.body max_size result)
+
+-- what they say where no check before the target has failed; the target of OPTIONS isn't looked at
+abbrev pub Routes : Verb → Message → ℕ → Result Request HeaderFault → Type 0
+Routes method.Options m max_size result = result ≡ Ok request.Options
+Routes verb m max_size result = IsRouted verb m max_size result
+
+-- what the checks say of a message
+abbrev pub IsAnswer : Message → ℕ → Result Request HeaderFault → Type 0
+IsAnswer m max_size result =
+    Then (first_that_holds (early_rows m.method m.fields)) result (Routes (chosen_verb m.method m.fields) m max_size result)
+
+-- an upload that is to be made is no longer than that
+abbrev pub FitsWithin : ℕ → Request → Type 0
+FitsWithin max_size request.Options = Unit {0}
+FitsWithin max_size (request.Create new) = new.length ≤ max_size
+FitsWithin max_size (request.Head id) = Unit {0}
+FitsWithin max_size (request.Patch patch) = Unit {0}
+FitsWithin max_size (request.Delete id) = Unit {0}
+FitsWithin max_size (request.Get id) = Unit {0}

@@ -1,0 +1,143 @@
+//! The checks that turn a message into a request.
+ghost use Rattle.std.specs.Prelude.{◌≡◌, ℕ, List, IfOk};
+ghost use Rattle.up_headers.specs.Rows.{first_that_holds};
+ghost use Rattle.up_headers.specs.Table.{FitsWithin, IsAnswer, IsAnswerAt, IsRouted, method_rows, repeats, version_rows};
+ghost use Rattle.up_headers.specs.Steps.{IsChosen, IsStep, Passes};
+
+use crate::creation::new_upload;
+use crate::fields::is_repeated;
+use crate::header_fault::HeaderFault;
+use crate::patch::patch_of;
+use crate::place::{Place, place_of};
+use crate::request::Request;
+use crate::verb::{Verb, verb_of};
+use std::alloc::Global;
+use up_events::Id;
+use up_wire::{Field, Message, Values, find_value};
+
+/// What the message asks for (tus 1.0.0, Core protocol, Creation and Termination). The checks come
+/// in this order, and the first that fails is the fault:
+///
+/// 1. `X-HTTP-Method-Override` twice. Where it stands once, its value is the method. OPTIONS is
+///    then a request, whatever its target, and nothing more is checked.
+/// 2. The version: it must stand for POST, PATCH and DELETE and may for HEAD, once and as 1.0.0.
+/// 3. The path of the target: `/files` or `/files/`, the creation URL, or `/files/` and the text
+///    of an id, an upload's.
+/// 4. The method: POST for the creation URL, HEAD, PATCH, DELETE and GET for an upload.
+/// 5. A field that the request reads and that stands twice.
+/// 6. For a creation its length, a number of at most `max_size`, then `Upload-Concat`, which must
+///    be empty or absent, then its metadata.
+///
+/// 1 and 2 need no memory. From 3 on `NoMemory` stands in place of the answer where memory is refused.
+pub fn request_of(alloc: Global, message: Message, max_size: u64) -> Result<Request, HeaderFault>
+    ensures answer { IsAnswer message max_size result }
+    ensures bounded { IfOk result (FitsWithin max_size) }
+{
+    let verb = choose(&message)?;
+    match verb {
+        Verb::Options => Ok(Request::Options),
+        _ => route(alloc, verb, message, max_size),
+    }
+}
+
+/// The method that counts, after the checks that need no target.
+fn choose(message: &Message) -> Result<Verb, HeaderFault>
+    ensures { IsChosen message.now.method message.now.fields result }
+{
+    let fields = message.fields.as_slice();
+    let verb = match find_value(fields, b"x-http-method-override") {
+        Values::Absent => verb_of(message.method.as_str().as_bytes()),
+        Values::One(name) => verb_of(name),
+        Values::Several => return Err(HeaderFault::Repeated),
+    };
+    check_version(verb, fields)?;
+    Ok(verb)
+}
+
+/// The checks of the version of the protocol (tus 1.0.0, Tus-Resumable), by the method.
+fn check_version(verb: Verb, fields: &[Field]) -> Result<(), HeaderFault>
+    ensures { Passes result (first_that_holds (method_rows verb fields.now)) }
+{
+    match verb {
+        Verb::Post | Verb::Patch | Verb::Delete => check_sent_version(true, fields),
+        Verb::Head => check_sent_version(false, fields),
+        Verb::Options | Verb::Get | Verb::Other => Ok(()),
+    }
+}
+
+/// The checks of the version, which must stand or may.
+fn check_sent_version(must: bool, fields: &[Field]) -> Result<(), HeaderFault>
+    ensures { Passes result (first_that_holds (version_rows must fields.now)) }
+{
+    match find_value(fields, b"tus-resumable") {
+        Values::Several => Err(HeaderFault::Repeated),
+        Values::One(version) if version == b"1.0.0".as_slice() => Ok(()),
+        Values::Absent if !must => Ok(()),
+        _ => Err(HeaderFault::Version),
+    }
+}
+
+/// What a message asks for, by the place where its target leads.
+fn route(alloc: Global, verb: Verb, message: Message, max_size: u64) -> Result<Request, HeaderFault>
+    ensures answer { IsRouted verb message max_size result }
+    ensures bounded { IfOk result (FitsWithin max_size) }
+{
+    let place = place_of(alloc, message.target.as_slice())?;
+    match place {
+        Place::Nowhere => Err(HeaderFault::NoSuchPath),
+        Place::Creation => at_creation(alloc, verb, message.fields.as_slice(), max_size),
+        Place::Upload(id) => at_upload(verb, id, message),
+    }
+}
+
+/// What a message to the creation URL asks for.
+fn at_creation(
+    alloc: Global,
+    verb: Verb,
+    fields: &[Field],
+    max_size: u64,
+) -> Result<Request, HeaderFault>
+    ensures answer { (body : List ℕ) → IsStep verb Place.Creation fields.now body max_size result }
+    ensures bounded { IfOk result (FitsWithin max_size) }
+{
+    match verb {
+        Verb::Post if repeats(verb, fields) => Err(HeaderFault::Repeated),
+        Verb::Post => match new_upload(alloc, fields, max_size) {
+            Ok(new) => Ok(Request::Create(new)),
+            Err(fault) => Err(fault),
+        },
+        _ => Err(HeaderFault::Method { of_upload: false }),
+    }
+}
+
+/// What a message to an upload asks for.
+fn at_upload(verb: Verb, id: Id, message: Message) -> Result<Request, HeaderFault>
+    ensures answer { (max_size : ℕ) → IsAnswerAt verb (Place.Upload id) message.fields message.body max_size result }
+    ensures bounded { (max_size : ℕ) → IfOk result (FitsWithin max_size) }
+{
+    match verb {
+        Verb::Head => Ok(Request::Head(id)),
+        Verb::Get => Ok(Request::Get(id)),
+        Verb::Delete => Ok(Request::Delete(id)),
+        Verb::Patch if repeats(verb, message.fields.as_slice()) => Err(HeaderFault::Repeated),
+        Verb::Patch => Ok(Request::Patch(patch_of(id, message))),
+        _ => Err(HeaderFault::Method { of_upload: true }),
+    }
+}
+
+/// Whether a field that a request of the method reads stands twice.
+fn repeats(verb: Verb, fields: &[Field]) -> bool
+    ensures { result ≡ repeats verb fields.now }
+{
+    match verb {
+        Verb::Post => {
+            is_repeated(fields, b"upload-length")
+                || is_repeated(fields, b"upload-defer-length")
+                || is_repeated(fields, b"upload-metadata")
+                || is_repeated(fields, b"upload-concat")
+        }
+        Verb::Patch => is_repeated(fields, b"content-type")
+            || is_repeated(fields, b"upload-offset"),
+        Verb::Options | Verb::Head | Verb::Delete | Verb::Get | Verb::Other => false,
+    }
+}

@@ -1,0 +1,73 @@
+//! An upload that is to be made.
+ghost use Rattle.std.specs.Prelude.{◌≡◌, ◌≤◌, IfOk};
+ghost use Rattle.up_headers.specs.Creations.{some_text, is_joined};
+ghost use Rattle.up_headers.specs.Steps.{IsCreation, IsLength};
+
+use crate::fields::{stands, value_in};
+use crate::header_fault::HeaderFault;
+use crate::metadata::read_pairs;
+use crate::metadata_fault::MetadataFault;
+use crate::request::NewUpload;
+use std::alloc::{AllocError, Global};
+use up_events::Kind;
+use up_wire::{Field, Sequence, is_digits, number};
+
+/// The upload that a creation asks for (tus 1.0.0, Creation), of at most `max_size` bytes. Its
+/// length is checked first, then that it is no part and is not made of parts, then its metadata.
+pub(crate) fn new_upload(
+    alloc: Global,
+    fields: &[Field],
+    max_size: u64,
+) -> Result<NewUpload, HeaderFault>
+    ensures answer { IsCreation fields.now max_size result }
+    ensures bounded { IfOk result (λ new. new.length ≤ max_size) }
+{
+    let length = length_of(fields, max_size)?;
+    if is_joined(fields) {
+        return Err(HeaderFault::BadConcat);
+    }
+    let text = value_in(fields, b"upload-metadata");
+    let pairs = match read_pairs(alloc, text) {
+        Ok(pairs) => pairs,
+        Err(MetadataFault::NoMemory) => return Err(HeaderFault::NoMemory),
+        Err(_) => return Err(HeaderFault::BadMetadata),
+    };
+    Ok(NewUpload {
+        kind: Kind::Plain,
+        length,
+        pairs,
+        metadata: some_text(alloc, text)?,
+    })
+}
+
+/// The length of an upload that is to be made.
+fn length_of(fields: &[Field], max_size: u64) -> Result<u64, HeaderFault>
+    ensures { IsLength fields.now max_size result }
+{
+    let text = value_in(fields, b"upload-length");
+    if !is_digits(text) || stands(fields, b"upload-defer-length") {
+        return Err(HeaderFault::BadLength);
+    }
+    match number(text) {
+        Some(length) if length <= max_size => Ok(length),
+        _ => Err(HeaderFault::TooLong),
+    }
+}
+
+/// Whether the upload is to be made of others, or to become a part of one (tus 1.0.0,
+/// Concatenation).
+fn is_joined(fields: &[Field]) -> bool
+    ensures { result ≡ is_joined fields.now }
+{
+    !value_in(fields, b"upload-concat").is_empty()
+}
+
+/// A copy of the text, where it isn't empty.
+fn some_text(alloc: Global, text: &[u8]) -> Result<Option<Sequence<u8>>, AllocError>
+    ensures { IfOk result (λ copy. copy ≡ some_text text.now) }
+{
+    if text.is_empty() {
+        return Ok(None);
+    }
+    Ok(Some(Sequence::from_slice(alloc, text)?))
+}

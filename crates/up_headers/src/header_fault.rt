@@ -1,0 +1,88 @@
+//! Why a message asks for nothing, and what is answered to it.
+ghost use Rattle.std.specs.Prelude.{◌≡◌};
+
+use std::alloc::AllocError;
+use thiserror::Error;
+
+/// Why a message is no request of the tus protocol.
+#[derive(Clone, Copy, Debug, PartialEq, Eq, Error)]
+pub enum HeaderFault {
+    /// The version of the protocol is missing or isn't 1.0.0 (tus 1.0.0, Tus-Resumable).
+    #[error("version not supported")]
+    Version,
+    /// The target is neither the creation URL nor an upload's (RFC 9110, section 15.5.5).
+    #[error("no such path")]
+    NoSuchPath,
+    /// The place that the target names does not serve the method (RFC 9110, section 15.5.6).
+    #[error("method not allowed")]
+    Method {
+        /// Whether the target is an upload's, and not the creation URL.
+        of_upload: bool,
+    },
+    /// A field that the request reads stands twice (RFC 9110, section 5.3).
+    #[error("field repeated")]
+    Repeated,
+    /// A creation without a length that is a number, or with one that is to come later (tus 1.0.0, Creation).
+    #[error("bad length")]
+    BadLength,
+    /// A creation of more bytes than an upload may have (tus 1.0.0, Creation).
+    #[error("too long")]
+    TooLong,
+    /// An `Upload-Concat` that isn't served (tus 1.0.0, Concatenation).
+    #[error("bad concatenation")]
+    BadConcat,
+    /// Metadata that reads as no list of pairs (tus 1.0.0, Upload-Metadata).
+    #[error("bad metadata")]
+    BadMetadata,
+    /// There was no memory for the request.
+    #[error("out of memory")]
+    NoMemory,
+}
+
+impl From<AllocError> for HeaderFault {
+    ghost use Rattle.up_headers.specs.declared.header_fault.HeaderFault.TheVariants as Fault;
+
+    ghost from_gives = { λ _ fault. fault ≡ Fault.NoMemory };
+
+    fn from(_: AllocError) -> Self {
+        HeaderFault::NoMemory
+    }
+}
+
+impl HeaderFault {
+    ghost use Rattle.up_headers.specs.HeaderFaults.{status_of, line_of};
+
+    /// The status code of the answer (RFC 9110, section 15; for `Version` tus 1.0.0, Tus-Version).
+    pub fn status(&self) -> u16
+        ensures { result ≡ status_of self.now }
+    {
+        match self {
+            HeaderFault::Version => 412,
+            HeaderFault::NoSuchPath => 404,
+            HeaderFault::Method { .. } => 405,
+            HeaderFault::TooLong => 413,
+            HeaderFault::Repeated
+            | HeaderFault::BadLength
+            | HeaderFault::BadConcat
+            | HeaderFault::BadMetadata => 400,
+            HeaderFault::NoMemory => 503,
+        }
+    }
+
+    /// The body of the answer: a line with the number of the fault and its name.
+    pub fn text(&self) -> &'static str
+        ensures { result.now ≡ line_of self.now }
+    {
+        match self {
+            HeaderFault::Version => "10 Version\n",
+            HeaderFault::NoSuchPath => "11 NoSuchPath\n",
+            HeaderFault::Method { .. } => "12 Method\n",
+            HeaderFault::Repeated => "13 Repeated\n",
+            HeaderFault::BadLength => "14 BadLength\n",
+            HeaderFault::TooLong => "15 TooLong\n",
+            HeaderFault::BadConcat => "16 BadConcat\n",
+            HeaderFault::BadMetadata => "17 BadMetadata\n",
+            HeaderFault::NoMemory => "18 NoMemory\n",
+        }
+    }
+}

@@ -1,0 +1,23 @@
+//! From a message to a request of the tus protocol 1.0.0: the table of header checks in its one order, and metadata.
+#![tactic(auto)]
+
+mod checks;
+mod creation;
+mod fields;
+mod header_fault;
+mod law;
+mod metadata;
+mod metadata_fault;
+mod patch;
+mod place;
+mod request;
+#[cfg(test)]
+mod tests;
+mod verb;
+
+pub use checks::request_of;
+pub use header_fault::HeaderFault;
+pub use law::metadata_reads_once;
+pub use metadata::pairs_of;
+pub use metadata_fault::MetadataFault;
+pub use request::{NewUpload, Pairs, Patch, Request};

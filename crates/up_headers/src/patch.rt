@@ -1,0 +1,54 @@
+//! The PATCH of an upload.
+ghost use Rattle.std.specs.Prelude.{◌≡◌};
+ghost use Rattle.up_headers.specs.Patches.{before_semicolon, is_media, offset_of, patch_of};
+
+use crate::fields::value_in;
+use crate::request::Patch;
+use up_events::Id;
+use up_wire::{Message, is_digits, number, same_name, trim_end};
+
+/// The PATCH of an upload (tus 1.0.0, PATCH). Its bytes are the message's own, not a copy.
+pub(crate) fn patch_of(id: Id, message: Message) -> Patch
+    ensures { result ≡ patch_of id message.fields message.body }
+{
+    let fields = message.fields.as_slice();
+    let media = is_media(value_in(fields, b"content-type"));
+    let offset = offset_of(value_in(fields, b"upload-offset"));
+    Patch {
+        id,
+        media,
+        offset,
+        bytes: message.body,
+    }
+}
+
+/// Whether a content type, whatever its parameters (RFC 9110, section 8.3.1), is the one of a
+/// PATCH.
+fn is_media(text: &[u8]) -> bool
+    ensures { result ≡ is_media text.now }
+{
+    same_name(
+        trim_end(before_semicolon(text)),
+        b"application/offset+octet-stream",
+    )
+}
+
+fn before_semicolon(text: &[u8]) -> &[u8]
+    ensures { result.now ≡ before_semicolon text.now }
+{
+    match text.iter().position(|b| *b == b';') {
+        Some(end) => &text[..end],
+        None => text,
+    }
+}
+
+/// The offset that was sent, if it is a number; one past 2^64 - 1 counts as 2^64 - 1.
+fn offset_of(text: &[u8]) -> Option<u64>
+    ensures { result ≡ offset_of text.now }
+{
+    if is_digits(text) {
+        Some(number(text).unwrap_or(u64::MAX))
+    } else {
+        None
+    }
+}

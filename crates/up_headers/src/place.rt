@@ -1,0 +1,48 @@
+//! Where a target leads.
+ghost use Rattle.std.specs.Prelude.{◌≡◌, IfOk};
+ghost use Rattle.up_headers.specs.Places.{IsPlace, IsAt};
+
+use http_uri::{Uri, UriError};
+use std::alloc::{AllocError, Global};
+use up_events::Id;
+
+/// Where a target leads.
+#[derive(Clone, Copy, Debug, PartialEq, Eq)]
+pub(crate) enum Place {
+    /// The creation URL, `/files` or `/files/` (tus 1.0.0, Creation).
+    Creation,
+    /// The URL of an upload, `/files/` and the text of its id. No upload need be there.
+    Upload(Id),
+    /// Any other.
+    Nowhere,
+}
+
+/// Where a path leads.
+fn place_in(path: &[u8]) -> Place
+    ensures { IsPlace path.now result }
+{
+    if path == b"/files".as_slice() || path == b"/files/".as_slice() {
+        return Place::Creation;
+    }
+    let Some(text) = path.strip_prefix(b"/files/") else {
+        return Place::Nowhere;
+    };
+    match Id::parse(text) {
+        Some(id) => Place::Upload(id),
+        None => Place::Nowhere,
+    }
+}
+
+/// Where the path of a request target leads, whatever its query (RFC 9112, section 3.2).
+/// A target that is no URI leads nowhere.
+pub(crate) fn place_of(alloc: Global, target: &[u8]) -> Result<Place, AllocError>
+    ensures { IfOk result (IsAt target.now) }
+{
+    match Uri::from_bytes(alloc, target) {
+        Ok(uri) => Ok(place_in(uri.path().as_bytes())),
+        Err(error) => match error {
+            UriError::Invalid(_) => Ok(Place::Nowhere),
+            UriError::OutOfMemory => Err(AllocError),
+        },
+    }
+}

@@ -1,0 +1,45 @@
+//! What a message asks for.
+use up_events::{Id, Kind};
+use up_wire::Sequence;
+
+/// The pairs of a metadata text: each key with its value (tus 1.0.0, Upload-Metadata).
+pub type Pairs = Sequence<(Sequence<u8>, Sequence<u8>)>;
+
+/// A request of the tus protocol.
+#[derive(Drop)]
+pub enum Request {
+    /// What the server can do is asked (tus 1.0.0, OPTIONS).
+    Options,
+    /// An upload is to be made (tus 1.0.0, Creation).
+    Create(NewUpload),
+    /// The offset of an upload is asked (tus 1.0.0, HEAD).
+    Head(Id),
+    /// Bytes for an upload (tus 1.0.0, PATCH).
+    Patch(Patch),
+    /// An upload is to be removed (tus 1.0.0, Termination).
+    Delete(Id),
+    /// The bytes of an upload are asked.
+    Get(Id),
+}
+
+/// An upload that is to be made.
+#[derive(Drop)]
+pub struct NewUpload {
+    pub kind: Kind,
+    /// In bytes.
+    pub length: u64,
+    pub pairs: Pairs,
+    /// The metadata text as it was sent, where it isn't empty.
+    pub metadata: Option<Sequence<u8>>,
+}
+
+/// Bytes for an upload.
+#[derive(Drop)]
+pub struct Patch {
+    pub id: Id,
+    /// Whether the media type is the one that a PATCH must have.
+    pub media: bool,
+    /// Where the bytes belong, if a number was sent; one past 2^64 - 1 counts as 2^64 - 1.
+    pub offset: Option<u64>,
+    pub bytes: Sequence<u8>,
+}
