@@ -1,5 +1,5 @@
 -- A dispatcher's fields after one more request.
-use Rattle.std.proofs.Common.{◌≡◌, ℕ, ◌+◌, ◌<◌, ◌≤◌, ◌%◌, Bool, true, false, Option, Some, None, is_some, Result, Ok, Err, List, [], ◌∷◌, ◌++◌, length, drop, take, inl, inr, zero, suc, refl, sym, ap, ◌∙◌, subst, arith, Vec, slice_get, slice_set, length-append, eqb, cond, get_or, append_assoc, Contains}
+use Rattle.std.proofs.Common.{◌≡◌, ℕ, ◌+◌, ◌<◌, ◌≤◌, ◌%◌, true, false, Option, Some, None, is_some, Result, Ok, Err, List, [], ◌∷◌, ◌++◌, length, drop, take, inl, inr, zero, suc, refl, sym, ap, ◌∙◌, subst, arith, Vec, slice_get, length-append, eqb, cond, Contains}
 use Rattle.std.proofs.Math.ListN.{length-set}
 use Rattle.std.specs.Vec.{with_item}
 use Rattle.std.proofs.lemmas.List.{take-append-drop}
@@ -7,8 +7,7 @@ use Rattle.std.proofs.lemmas.List.Elements.{Contains-append_left, Contains-appen
 use Rattle.std.specs.declared.alloc.Global.{Global}
 use Rattle.up_events.specs.declared.event.Accepted.{Accepted}
 use Rattle.up_events.specs.declared.event.Event.{Event}
-use Rattle.up_events.specs.History.{id_of, creation_of, is_known, events_of, steps_of, CanFollow}
-use Rattle.up_events.specs.Lists.{EachFollows}
+use Rattle.up_events.specs.History.{id_of, creation_of, is_known, events_of, steps_of}
 use Rattle.up_events.specs.Log.{log_of, numbered}
 use Rattle.up_events.specs.Records.{Records, lane_log, noted, ArePlaces}
 use Rattle.up_events.specs.declared.journal.Added.{Added}
@@ -26,11 +25,11 @@ use Rattle.up_events.specs.Delivery.{IsWithin}
 use Rattle.up_server.specs.Passage.{Passage, IsFrom}
 use Rattle.up_server.specs.Course.{AreNew, AreOfTheirLanes}
 use Rattle.up_server.proofs.Each.{AreOfLanes}
-use Rattle.up_server.specs.Sound.{IsSound, AreFed, AreFreshAbove}
-use Rattle.up_server.specs.State.{State, empty_state, after, AreAdded, IsFresh}
-use Rattle.up_server.specs.Course.{last_after, Replies, carried_out}
-use Rattle.up_server.specs.Decision.{Outcome, Answers, decide, outcome_of, unless, change_of, appended, rows_of}
-use Rattle.up_server.specs.Rows.{first_that_holds}
+use Rattle.up_server.specs.Sound.{IsSound, AreFed}
+use Rattle.up_server.specs.State.{State, empty_state, after, AreAdded}
+use Rattle.up_server.specs.Course.{last_after, Replies}
+use Rattle.up_server.specs.Decision.{Outcome, Answers, decide, unless, change_of, appended, rows_of}
+use Rattle.up_headers.specs.Rows.{first_that_holds}
 use Rattle.up_events.proofs.JournalLemmas.{each_set, get-push}
 use Rattle.up_server.specs.declared.dispatcher.Dispatcher.TheInside.{Inside}
 

@@ -3,11 +3,11 @@ use Rattle.std.proofs.Common.{◌≡◌, ℕ, ◌+◌, Bool, true, false, Option
 use Rattle.std.specs.FinMap as map
 use Rattle.std.proofs.lemmas.Bool.{ltb-false}
 use Rattle.up_server.specs.Content.{Content, HasRoom}
-use Rattle.up_server.specs.Rows.{Row, first_that_holds}
+use Rattle.up_headers.specs.Rows.{Row, first_that_holds}
 use Rattle.up_server.specs.State.{Contents}
 use Rattle.up_server.specs.Decision.{unless, rows_at, upload_rows, patch_rows}
 use Rattle.up_server.specs.declared.refusal.Refusal.{Refusal}
-use Rattle.up_server.specs.declared.request.Patch.{Patch}
+use Rattle.up_headers.specs.declared.request.Patch.{Patch}
 
 unless_ok : {T : Type 0} (o : Option Refusal) (n m : T) → Ok n ≡ unless o m → o ≡ None
 unless_ok None n m e = refl

@@ -1,13 +1,9 @@
 -- A lane's lists after one more event.
-use Rattle.std.proofs.Common.{◌≡◌, ℕ, ◌+◌, ◌<◌, inl, inr, Bool, true, false, cond, eqb, Some, unwrap_or, List, [], ◌∷◌, ◌++◌, length, filter, suc, refl, sym, ap, ◌∙◌, subst, arith, Contains, length-append, append-nil, get_or}
-use Rattle.std.proofs.lemmas.Bool.{eqb-true, eq-eqb, false≢true}
+use Rattle.std.proofs.Common.{◌≡◌, ℕ, ◌+◌, ◌<◌, inl, inr, true, false, cond, eqb, Some, unwrap_or, List, [], ◌∷◌, ◌++◌, length, filter, suc, refl, sym, ap, ◌∙◌, subst, arith, Contains, length-append, append-nil, get_or}
+use Rattle.std.proofs.lemmas.Bool.{eqb-true, eq-eqb}
 use Rattle.std.proofs.lemmas.List.Elements.{Contains-push_cases, Contains-append_right, filter-append}
-use Rattle.std.proofs.lemmas.Map.Lookups.{exact_unsigned}
-use Rattle.std.specs.Ordering.{nat_cmp, is_eq}
-use Rattle.std.specs.Cmp.{nat_cmp_total}
+use Rattle.std.specs.Ordering.{nat_cmp}
 use Rattle.std.specs.BTreeMap.{BTreeMap, get, is_at, Updates}
-use Rattle.std.specs.declared.cmp.Ordering.{Ordering}
-use Rattle.std.specs.declared.cmp.Ordering.TheVariants.{Less, Equal, Greater}
 use Rattle.up_events.specs.declared.event.Event.{Event}
 use Rattle.up_events.specs.Log.{is_of, CountsFrom}
 use Rattle.up_events.proofs.JournalLemmas.{same_id, other_id}

@@ -1,8 +1,7 @@
 -- The report written one lane after another.
 use Rattle.std.proofs.Common.{◌≡◌, ℕ, ◌+◌, ◌<◌, List, [], ◌∷◌, ◌++◌, length, take, drop, get_or, zero, suc, append-nil, Option, refl, sym, ap, ◌∙◌, subst, append_assoc, arith}
-use Rattle.std.specs.List.{flat_map}
 use Rattle.std.specs.Io.KnownBytes.{Appends}
-use Rattle.up_server.specs.ReportText.{event_line, lane_line, lane_text, lanes_text}
+use Rattle.up_server.specs.ReportText.{lane_text, lanes_text}
 use Rattle.std.proofs.KnownBytes.{Appends-trans}
 use Rattle.up_wire.specs.Response.{WritesFront}
 use Rattle.up_server.specs.declared.feed.LaneReport.{LaneReport}

@@ -1,5 +1,5 @@
 -- What a message, and many of them, leave of a dispatcher's history, and that the last one ends a conversation.
-use Rattle.std.proofs.Common.{◌≡◌, ℕ, zero, suc, eqb, true, add-one, ◌+◌, ◌≤◌, Bool, Option, Some, None, List, [], ◌∷◌, ◌++◌, refl, sym, ap, ◌∙◌, subst, arith, append_assoc, append-nil}
+use Rattle.std.proofs.Common.{◌≡◌, ℕ, zero, suc, eqb, true, add-one, ◌+◌, ◌≤◌, Bool, Option, Some, None, List, [], ◌∷◌, refl, sym, ap, ◌∙◌, subst, arith}
 use Rattle.up_events.specs.Delivery.{IsPrefix}
 use Rattle.up_events.specs.declared.event.Accepted.{Accepted}
 use Rattle.up_server.proofs.Prefixes.{prefix_same, prefix_then}
@@ -13,7 +13,6 @@ use Rattle.up_wire.specs.Response.{response_text}
 use Rattle.up_wire.specs.declared.wire_fault.WireFault.{WireFault}
 use Rattle.up_server.specs.declared.conversation.Ended.{Ended}
 use Rattle.up_wire.specs.declared.message.Taken.{Taken}
-use Rattle.up_wire.specs.declared.message.Taken.TheVariants as Taken
 use Rattle.up_server.specs.declared.request.Request.{Request}
 use Rattle.up_server.specs.declared.request.Request.TheVariants as request
 

@@ -3,7 +3,7 @@ use Rattle.std.specs.Prelude.{◌≡◌, ◌++◌, ◌+◌, ◌≤◌, ℕ, Bool
 use Rattle.std.specs.Coded.{Coded, code_by, coded×, coded_ℕ, coded_list, coded_bool}
 use Rattle.up_events.specs.declared.event.Kind.{Kind}
 use Rattle.up_events.specs.declared.event.Kind.TheVariants.{Plain}
-use Rattle.up_server.specs.declared.request.NewUpload.{NewUpload}
+use Rattle.up_headers.specs.declared.request.NewUpload.{NewUpload}
 
 pub record Content : Type 0 where
   pub kind : Kind

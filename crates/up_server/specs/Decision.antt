@@ -5,12 +5,12 @@ use Rattle.up_events.specs.declared.event.Accepted.{Accepted}
 use Rattle.up_events.specs.declared.event.Accepted.TheVariants.{Created, Appended}
 use Rattle.up_server.specs.Content.{Content, made_of}
 use Rattle.up_server.specs.Responses.{created, reached_offset}
-use Rattle.up_server.specs.Rows.{Row, first_that_holds}
+use Rattle.up_headers.specs.Rows.{Row, first_that_holds}
 use Rattle.up_server.specs.State.{Contents, State, bytes_of}
 use Rattle.up_server.specs.declared.refusal.Done.{Done}
 use Rattle.up_server.specs.declared.refusal.Refusal.{Refusal}
 use Rattle.up_server.specs.declared.refusal.Refusal.TheVariants as refusal
-use Rattle.up_server.specs.declared.request.Patch.{Patch}
+use Rattle.up_headers.specs.declared.request.Patch.{Patch}
 use Rattle.up_server.specs.declared.request.Request.{Request}
 use Rattle.up_server.specs.declared.request.Request.TheVariants as request
 use Rattle.up_wire.specs.declared.response.Response.{Response}

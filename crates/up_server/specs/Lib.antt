@@ -4,7 +4,6 @@ pub mod Refusals
 pub mod Responses
 pub mod State
 pub mod StateCode
-pub mod Rows
 pub mod Decision
 pub mod Fits
 pub mod Hands
@@ -13,10 +12,6 @@ pub mod Passage
 pub mod Course
 pub mod CourseCode
 pub mod Sound
-pub mod HeaderFaults
-pub mod Fields
-pub mod Places
-pub mod Table
 pub mod Replies
 pub mod Turn
 pub mod ReportText

@@ -1,11 +1,11 @@
 -- What is answered where a message is refused.
-use Rattle.std.specs.Prelude.{◌≡◌, ◌⊎◌, Bool, []}
-use Rattle.up_server.specs.Responses.{answered, refused_with, method_refused_with}
-use Rattle.up_server.specs.HeaderFaults as header
+use Rattle.std.specs.Prelude.{◌≡◌, ◌⊎◌, []}
+use Rattle.up_server.specs.Responses.{answered, refused_with, version_refused_with, method_refused_with}
+use Rattle.up_headers.specs.HeaderFaults as header
 use Rattle.up_server.specs.Refusals as refused
 use Rattle.up_wire.specs.WireFaults as wire
-use Rattle.up_server.specs.declared.header_fault.HeaderFault.{HeaderFault}
-use Rattle.up_server.specs.declared.header_fault.HeaderFault.TheVariants as fault
+use Rattle.up_headers.specs.declared.header_fault.HeaderFault.{HeaderFault}
+use Rattle.up_headers.specs.declared.header_fault.HeaderFault.TheVariants as fault
 use Rattle.up_server.specs.declared.refusal.Refusal.{Refusal}
 use Rattle.up_server.specs.declared.refusal.Refusal.TheVariants as refusal
 use Rattle.up_wire.specs.declared.wire_fault.WireFault.{WireFault}
@@ -29,10 +29,14 @@ reply_to_wire_fault unread.WriteFailed = refused_with (wire.status_of unread.Wri
 
 -- what is answered to a message that is no request
 abbrev pub reply_to_header_fault : HeaderFault → Response
+reply_to_header_fault fault.Version = version_refused_with (header.status_of fault.Version) (header.line_of fault.Version)
 reply_to_header_fault fault.NoSuchPath = refused_with (header.status_of fault.NoSuchPath) (header.line_of fault.NoSuchPath)
 reply_to_header_fault (fault.Method of_upload) = method_refused_with (header.status_of (fault.Method of_upload)) (header.line_of (fault.Method of_upload)) of_upload
+reply_to_header_fault fault.Repeated = refused_with (header.status_of fault.Repeated) (header.line_of fault.Repeated)
 reply_to_header_fault fault.BadLength = refused_with (header.status_of fault.BadLength) (header.line_of fault.BadLength)
 reply_to_header_fault fault.TooLong = refused_with (header.status_of fault.TooLong) (header.line_of fault.TooLong)
+reply_to_header_fault fault.BadConcat = refused_with (header.status_of fault.BadConcat) (header.line_of fault.BadConcat)
+reply_to_header_fault fault.BadMetadata = refused_with (header.status_of fault.BadMetadata) (header.line_of fault.BadMetadata)
 reply_to_header_fault fault.NoMemory = out_of_memory
 
 -- what is answered to a request that is refused

@@ -8,7 +8,7 @@ use Rattle.up_server.specs.ReportText.{report_text}
 use Rattle.up_wire.specs.Device.{Device}
 use Rattle.up_wire.specs.Response.{WritesFront}
 use Rattle.up_server.specs.State.{empty_state}
-use Rattle.up_server.specs.Turn.{Stand, Converses}
+use Rattle.up_server.specs.Turn.{Converses}
 use Rattle.up_server.specs.declared.conversation.Ended.{Ended}
 use Rattle.up_server.specs.declared.conversation.Ended.TheVariants.{Closed, Cut, ReadFailed, WriteFailed}
 use Rattle.up_server.specs.declared.feed.How.{How}

@@ -1,6 +1,6 @@
 //! The responses, each made before anything is changed.
 ghost use Rattle.std.specs.Prelude.{◌≡◌, ◌∷◌, [], decimal, IfOk};
-ghost use Rattle.up_server.specs.Responses.{answered, created, reached_offset, refused_with, method_refused_with};
+ghost use Rattle.up_server.specs.Responses.{answered, created, reached_offset, can_do, refused_with, version_refused_with, method_refused_with};
 
 use itoa::Buffer;
 use std::alloc::Global;
@@ -60,11 +60,38 @@ pub fn to_patch(alloc: Global, offset: u64) -> Result<Response, NoMemory>
     Ok(bare(alloc, 204, fields))
 }
 
+/// To a question for what the server can do (tus 1.0.0, OPTIONS): the version, the extensions, and how large an upload may
+/// be, in bytes.
+pub fn to_options(alloc: Global, max_size: u64) -> Result<Response, NoMemory>
+    ensures { IfOk result (λ made. made ≡ can_do max_size) }
+{
+    let mut fields = one(alloc, b"Tus-Version", copy(alloc, b"1.0.0")?)?;
+    let extensions = copy(alloc, b"creation,termination,concatenation")?;
+    fields.push((copy(alloc, b"Tus-Extension")?, extensions))?;
+    let size = number(alloc, max_size)?;
+    fields.push((copy(alloc, b"Tus-Max-Size")?, size))?;
+    Ok(bare(alloc, 204, fields))
+}
+
 /// To a request that was refused: why, as plain text.
 pub fn refused(alloc: Global, status: u16, text: &str) -> Result<Response, NoMemory>
     ensures { IfOk result (λ made. made ≡ refused_with status text.now) }
 {
     let fields = one(alloc, b"Content-Type", copy(alloc, b"text/plain")?)?;
+    Ok(Response {
+        status,
+        fields,
+        body: copy(alloc, text.as_bytes())?,
+    })
+}
+
+/// To a request of another version of the protocol: which version there is (tus 1.0.0, Tus-Version), and why, as plain text.
+pub fn version_refused(alloc: Global, status: u16, text: &str) -> Result<Response, NoMemory>
+    ensures { IfOk result (λ made. made ≡ version_refused_with status text.now) }
+{
+    let mut fields = one(alloc, b"Tus-Version", copy(alloc, b"1.0.0")?)?;
+    let plain = copy(alloc, b"text/plain")?;
+    fields.push((copy(alloc, b"Content-Type")?, plain))?;
     Ok(Response {
         status,
         fields,

@@ -7,12 +7,13 @@ ghost use Rattle.up_events.specs.History.{is_known, CanFollow};
 use crate::answer;
 use crate::patch_checks::check_patch;
 use crate::refusal::{Done, Refusal};
-use crate::request::{NewUpload, Patch, Request};
+use crate::request::Request;
 use crate::upload::Upload;
 use crate::uploads::Uploads;
 use std::alloc::Global;
 use std::marker::Model;
 use up_events::{Accepted, Id, Journal, Kind, NoMemory};
+use up_headers::{NewUpload, Patch};
 
 /// The uploads, and the journal of the changes that made them what they are.
 #[derive(Drop)]

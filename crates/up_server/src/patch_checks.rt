@@ -1,14 +1,14 @@
 //! The checks of a PATCH against its upload, in their order.
 ghost use Rattle.std.specs.Prelude.{◌≡◌, ◌+◌, length};
 ghost use Rattle.std.specs.FinMap as map;
-ghost use Rattle.up_server.specs.Rows.{first_that_holds};
+ghost use Rattle.up_headers.specs.Rows.{first_that_holds};
 ghost use Rattle.up_server.specs.State.{bytes_of};
 ghost use Rattle.up_server.specs.Decision.{unless, patch_rows, upload_rows};
 
 use crate::refusal::Refusal;
-use crate::request::Patch;
 use crate::upload::Upload;
 use crate::uploads::Uploads;
+use up_headers::Patch;
 
 /// The offset that the upload has after the request.
 pub fn check_patch(uploads: &Uploads, patch: &Patch) -> Result<u64, Refusal>

@@ -1,10 +1,10 @@
 //! One upload, with its bytes.
 ghost use Rattle.std.specs.Prelude.{◌≡◌, ◌+◌, ◌*◌, ◌<◌, ◌≤◌, length, max, min, vec_len, vec_capacity, IfOk, OnOk, OnErr};
 
-use crate::request::NewUpload;
 use std::alloc::{AllocError, Global};
 use std::marker::Model;
 use up_events::{Accepted, Added, Id, Journal, Kind, NoMemory};
+use up_headers::NewUpload;
 
 /// An upload: its kind, its length, and the bytes that have come so far, never more than the length says.
 #[derive(Drop)]

@@ -49,7 +49,13 @@ fn append(alloc: Global, book: &mut Book, id: Id, offset: u64, bytes: &[u8]) -> 
 /// Makes an upload of three bytes.
 fn create(rt: &impl Abort, alloc: Global, book: &mut Book, id: Id) -> Result<Done, Fail> {
     assert!(rt; !book.journal().knows(id));
-    Ok(book.commit(alloc, Request::Create(NewUpload { length: 3 }), id)?)
+    let new = NewUpload {
+        kind: Kind::Plain,
+        length: 3,
+        pairs: Sequence::new(alloc),
+        metadata: None,
+    };
+    Ok(book.commit(alloc, Request::Create(new), id)?)
 }
 
 /// A book of two lanes with an upload of three bytes.

@@ -3,6 +3,7 @@ mod command_lines;
 mod creating;
 mod failing;
 mod framed;
+mod headed;
 mod many;
 mod patching;
 mod unreadable;

@@ -1,4 +1,4 @@
-use Rattle.std.proofs.Common.{get_or, ap, subst}
+use Rattle.std.proofs.Common.{ap, subst}
 use Rattle.std.specs.List.{flat_map}
 use Rattle.up_wire.specs.Response.{WritesFront}
 use Rattle.up_server.specs.ReportText.{event_line}

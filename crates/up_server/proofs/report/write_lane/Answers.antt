@@ -1,4 +1,4 @@
-use Rattle.std.proofs.Common.{sym, subst}
+use Rattle.std.proofs.Common.{subst}
 use Rattle.std.specs.List.{flat_map}
 use Rattle.up_server.specs.ReportText.{event_line, lane_line, lane_text}
 use Rattle.up_wire.specs.Response.{Writes}

@@ -1,6 +1,5 @@
-use Rattle.std.proofs.Common.{ap, subst, add-one, ◌∙◌, sym, zero-add, ◌+◌}
+use Rattle.std.proofs.Common.{ap, subst}
 use Rattle.std.specs.Io.KnownBytes.{Appends}
-use Rattle.std.proofs.KnownBytes.{Appends-trans}
 use Rattle.up_server.specs.ReportText.{lane_text, lanes_text}
 use Rattle.up_wire.specs.Response.{WritesFront}
 use Rattle.up_server.proofs.ReportLemmas.{lanes_cut, lanes_more}

@@ -1,12 +1,11 @@
-use Rattle.std.proofs.Common.{◌≡◌, ◌<◌, ◌+◌, ◌%◌, ℕ, Ok, Some, sym, subst, ap, ◌∙◌, drop, take, length, ◌-◌, mod-lt, arith, slice_get}
+use Rattle.std.proofs.Common.{◌≡◌, ◌<◌, ◌+◌, Ok, sym, subst, ap, ◌∙◌, drop, take, length, ◌-◌, mod-lt}
 use Rattle.std.proofs.lemmas.Option.{slice_get_read}
 use Rattle.up_events.specs.History.{id_of}
 use Rattle.up_events.specs.Delivery.{IsWithin}
 use Rattle.up_events.specs.Records.{Records, lane_log}
 use Rattle.up_server.specs.Course.{Course, Replies}
 use Rattle.up_server.specs.Decision.{Answers, decide}
-use Rattle.up_server.specs.Sound.{IsSound}
-use Rattle.up_server.specs.State.{State, after, AreAdded}
+use Rattle.up_server.specs.State.{after, AreAdded}
 use Rattle.up_server.proofs.CourseLemmas.{sound_kept, sound_unchanged, sound_changed, change_there, replies_done, within_slice}
 use Rattle.up_server.proofs.dispatcher.Dispatcher.commit.Goals as goal
 
