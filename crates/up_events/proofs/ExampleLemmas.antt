@@ -1,7 +1,7 @@
 -- The histories of the tests are legal.
 use Rattle.std.proofs.Common.{◌≡◌, ℕ, ◌<◌, ◌++◌, List, [], ◌∷◌, length, drop, get_or, refl, sym, ap, ◌∙◌, subst, lit≤, drop-cons, suc}
 use Rattle.up_events.specs.declared.event.Accepted.{Accepted}
-use Rattle.up_events.specs.declared.event.Accepted.TheVariants.{Created, Appended}
+use Rattle.up_events.specs.declared.event.Accepted.TheVariants.{Created, Appended, Terminated}
 use Rattle.up_events.specs.declared.event.Kind.TheVariants.{Plain}
 use Rattle.up_events.specs.Lists.{EachFollows}
 use Rattle.up_events.specs.History.{CanFollow, IsLegal, creation_of, received, offset_of, is_terminated}
@@ -17,6 +17,10 @@ no_appends_legal = ((refl, lit≤ tt), tt)
 pub no_bytes_legal : IsLegal (Created 1 0 Plain ∷ [])
 unfolding EachFollows creation_of
 no_bytes_legal = ((refl, lit≤ tt), tt)
+
+pub two_ends_legal : IsLegal (Created 1 5 Plain ∷ Created 2 3 Plain ∷ Appended 2 3 ∷ Terminated 1 ∷ Terminated 2 ∷ [])
+unfolding EachFollows creation_of received offset_of is_terminated
+two_ends_legal = ((refl, lit≤ tt), ((refl, lit≤ tt), ((refl, lit≤ tt, lit≤ tt), (refl, (refl, tt)))))
 
 pub five_uploads_legal : IsLegal (Created 1 2 Plain ∷ Created 2 2 Plain ∷ Created 3 2 Plain ∷ Created 4 2 Plain ∷ Created 5 2 Plain ∷ Appended 1 1 ∷ Appended 2 1 ∷ Appended 3 1 ∷ Appended 4 1 ∷ Appended 5 1 ∷ Appended 1 1 ∷ Appended 2 1 ∷ Appended 3 1 ∷ Appended 4 1 ∷ Appended 5 1 ∷ [])
 unfolding EachFollows creation_of received offset_of is_terminated

@@ -7,7 +7,7 @@ use Rattle.up_events.specs.Lists.{gather, EachFollows}
 use Rattle.up_events.specs.History.{id_of, creation_in, bytes_in, ends, or_else, creation_of, received, offset_of, is_terminated, CanFollow, IsLegal, steps_of, events_of}
 use Rattle.up_events.specs.Log.{numbered, log_of}
 use Rattle.up_events.specs.declared.event.Accepted.{Accepted}
-use Rattle.up_events.specs.declared.event.Accepted.TheVariants.{Created, Appended}
+use Rattle.up_events.specs.declared.event.Accepted.TheVariants.{Created, Appended, Terminated}
 
 pub append_nil : {X : Type 0} (xs : List X) → xs ++ [] ≡ xs
 append_nil [] = refl
@@ -72,14 +72,17 @@ log_of-snoc lanes changes c k = gather-snoc _ [] changes c
 creation_in-other : (c : Accepted) (u : ℕ) → eqb (id_of c) u ≡ false → creation_in u c ≡ None
 creation_in-other (Created id length kind) u e = ap (λ b. cond b (Some (length, kind)) None) e
 creation_in-other (Appended id count) u e = refl
+creation_in-other (Terminated id) u e = refl
 
 bytes_in-other : (c : Accepted) (u : ℕ) → eqb (id_of c) u ≡ false → bytes_in u c ≡ 0
 bytes_in-other (Created id length kind) u e = refl
 bytes_in-other (Appended id count) u e = ap (λ b. cond b count 0) e
+bytes_in-other (Terminated id) u e = refl
 
 ends-other : (c : Accepted) (u : ℕ) → eqb (id_of c) u ≡ false → ends u c ≡ false
 ends-other (Created id length kind) u e = refl
 ends-other (Appended id count) u e = refl
+ends-other (Terminated id) u e = e
 
 pub creation_of-other : (changes : List Accepted) (c : Accepted) (u : ℕ) → eqb (id_of c) u ≡ false → creation_of (changes ++ c ∷ []) u ≡ creation_of changes u
 creation_of-other changes c u e = creation_of-snoc changes c u ∙ ap (or_else (creation_of changes u)) (creation_in-other c u e) ∙ or_else_none _

@@ -12,7 +12,7 @@ use Rattle.std.specs.declared.cmp.Ordering.{Ordering}
 use Rattle.std.specs.declared.cmp.Ordering.TheVariants.{Less, Equal, Greater}
 use Rattle.std.specs.declared.alloc.Global.{Global}
 use Rattle.up_events.specs.declared.event.Accepted.{Accepted}
-use Rattle.up_events.specs.declared.event.Accepted.TheVariants.{Created, Appended}
+use Rattle.up_events.specs.declared.event.Accepted.TheVariants.{Created, Appended, Terminated}
 use Rattle.up_events.specs.declared.event.Event.{Event}
 use Rattle.up_events.specs.declared.track.Track.{Track}
 use Rattle.up_events.specs.declared.journal.Journal.TheInside.{Inside}
@@ -23,7 +23,7 @@ use Rattle.up_events.specs.Records.{ArePlaces, AreEmpty}
 use Rattle.up_events.specs.Reached.{reached, bytes_of}
 use Rattle.up_events.specs.Kept.{IsKept, track_of}
 use Rattle.up_events.proofs.HistoryLemmas.{append_nil, EachFollows-snoc, log_of-snoc, creation_of-other, offset_of-other, events_of-other}
-use Rattle.up_events.proofs.Sound.{IsSound, sound, alive_known, creation_of-created, creation_of-appended, offset_of-received, track_of-unknown, steps_of-reached, track_of-reached}
+use Rattle.up_events.proofs.Sound.{IsSound, sound, alive_known, creation_of-created, creation_of-appended, creation_of-terminated, offset_of-received, track_of-unknown, steps_of-reached, track_of-reached}
 
 -- ---- numbers fit
 
@@ -35,10 +35,12 @@ few_events changes u s =
 pub bytes_fit : (changes : List Accepted) (c : Accepted) → IsSound changes (id_of c) → CanFollow changes c → offset_of changes (id_of c) + bytes_of c < 2 ^ 64
 bytes_fit changes (Created u n kind) s can = omega (arith, s.within, s.small)
 bytes_fit changes (Appended u n) s can = omega (arith, can.2, s.small)
+bytes_fit changes (Terminated u) s can = omega (arith, s.within, s.small)
 
 pub events-reached : (t : Track) (c : Accepted) → (reached t c).events ≡ t.events
 events-reached t (Created u n kind) = refl
 events-reached t (Appended u n) = refl
+events-reached t (Terminated u) = refl
 
 -- ---- the table of tracks
 
@@ -63,6 +65,7 @@ other_id k u e = elim (eqb k u) as (λ b. eqb k u ≡ b → b ≡ false) [ true 
 pub known_after : (changes : List Accepted) (c : Accepted) → CanFollow changes c → is_known (changes ++ c ∷ []) (id_of c) ≡ true
 known_after changes (Created u n kind) can = ap is_some (creation_of-created changes u n kind can.0)
 known_after changes (Appended u n) can = ap is_some (creation_of-appended changes u n u) ∙ (alive_known (is_known changes u) (is_terminated changes u) can.0).0
+known_after changes (Terminated u) can = ap is_some (creation_of-terminated changes u u) ∙ (alive_known (is_known changes u) (is_terminated changes u) can).0
 
 unmoved : (changes : List Accepted) (c : Accepted) (u : ℕ) → eqb (id_of c) u ≡ false → cond (is_known changes u) (Some (track_of changes u)) None ≡ cond (is_known (changes ++ c ∷ []) u) (Some (track_of (changes ++ c ∷ []) u)) None
 unmoved changes c u e = rw (creation_of-other changes c u e, events_of-other changes c u e, offset_of-other changes c u e) refl

@@ -1,9 +1,9 @@
 -- The events of an upload of a legal list begin with Create, have at most one Finish, and end with Terminate.
-use Rattle.std.proofs.Common.{◌≡◌, ◌≢◌, ℕ, ◌+◌, ◌≤◌, Bool, true, false, cond, eqb, unwrap_or, List, [], ◌∷◌, ◌++◌, refl, sym, ap, ◌∙◌, subst, arith, count_by, filter, ◌%◌}
+use Rattle.std.proofs.Common.{◌≡◌, ◌≢◌, ℕ, ◌+◌, ◌≤◌, Bool, true, false, cond, eqb, option_map, unwrap_or, List, [], ◌∷◌, ◌++◌, refl, sym, ap, ◌∙◌, subst, arith, count_by, filter, ◌%◌}
 use Rattle.std.proofs.lemmas.Bool.{eqb-true, false≢true}
 use Rattle.std.proofs.lemmas.List.Sums.{sum_by-append}
 use Rattle.up_events.specs.declared.event.Accepted.{Accepted}
-use Rattle.up_events.specs.declared.event.Accepted.TheVariants.{Created, Appended}
+use Rattle.up_events.specs.declared.event.Accepted.TheVariants.{Created, Appended, Terminated}
 use Rattle.up_events.specs.declared.event.Hook.{Hook}
 use Rattle.up_events.specs.declared.event.Hook.TheVariants.{Create, Receive, Finish, Terminate}
 use Rattle.up_events.specs.declared.event.Kind.{Kind}
@@ -13,7 +13,7 @@ use Rattle.up_events.specs.declared.event.Event.{Event}
 use Rattle.up_events.specs.Log.{is_finish, numbered, log_of, is_of, IsLawfulRun, IsLawful}
 use Rattle.up_events.proofs.LogLemmas.{own_is, own_away, counts-numbered}
 use Rattle.up_events.proofs.HistoryLemmas.{legal_induction, creation_of-other, offset_of-other, is_terminated-other, events_of-other}
-use Rattle.up_events.proofs.Sound.{IsSound, sound, sound_empty, sound_more, alive_known, events_of-own, creation_of-appended}
+use Rattle.up_events.proofs.Sound.{IsSound, sound, sound_empty, sound_more, alive_known, events_of-own, creation_of-appended, creation_of-terminated, offset_of-terminated, is_terminated-terminated}
 
 abbrev pub Begins : List Step → Type 0
 Begins [] = Unit {0}
@@ -127,9 +127,30 @@ run_appended changes u n r can =
       ends = subst EndsOnce (sym events) (ends_append (events_of changes u) (steps_at c o m) goes (goes_ends (steps_at c o m) (refl, finish_goes o m)));
     }
 
+run_terminated : (changes : List Accepted) (u : ℕ) → IsRun changes u → CanFollow changes (Terminated u) → IsRun (changes ++ Terminated u ∷ []) u
+run_terminated changes u r can =
+    let c : Accepted = Terminated u in
+    let o = offset_of (changes ++ c ∷ []) u in
+    let m = unwrap_or (length_of (changes ++ c ∷ []) u) 0 in
+    let alive = alive_known (is_known changes u) (is_terminated changes u) can in
+    let known = creation_of-terminated changes u u in
+    let offset = offset_of-terminated changes u u in
+    let events : events_of (changes ++ c ∷ []) u ≡ events_of changes u ++ steps_at c o m = events_of-own changes c in
+    let f : Step = (Terminate, o, m) in
+    let goes = r.goes alive.1 in
+    let ended = is_terminated-terminated changes u in
+    record {
+      begins = subst Begins (sym events) (begins_append (events_of changes u) (steps_at c o m) r.begins (λ none. absurd (r.some alive.0 none)));
+      some = λ _ none. absurd (append_some (events_of changes u) f [] (sym events ∙ none));
+      count = λ _. ap finishes events ∙ sum_by-append (λ (s : Step). cond (is_finish s.0) 1 0) (events_of changes u) (steps_at c o m) ∙ (omega arith ∙ r.count alive.0) ∙ ap (λ k. cond (eqb k (unwrap_or (length_of changes u) 0)) 1 0) (sym offset) ∙ ap (λ q. cond (eqb o (unwrap_or (option_map (λ (p : ℕ × Kind). p.0) q) 0)) 1 0) (sym known);
+      goes = λ h. absurd (false≢true (sym h ∙ ended));
+      ends = subst EndsOnce (sym events) (ends_append (events_of changes u) (steps_at c o m) goes (λ _. refl, tt));
+    }
+
 run_own : (changes : List Accepted) (c : Accepted) → IsSound changes (id_of c) → IsRun changes (id_of c) → CanFollow changes c → IsRun (changes ++ c ∷ []) (id_of c)
 run_own changes (Created u n kind) s r can = run_created changes u n kind s can
 run_own changes (Appended u n) s r can = run_appended changes u n r can
+run_own changes (Terminated u) s r can = run_terminated changes u r can
 
 run_more : (changes : List Accepted) (c : Accepted) → ((u : ℕ) → IsSound changes u) → ((u : ℕ) → IsRun changes u) → CanFollow changes c → (u : ℕ) → IsRun (changes ++ c ∷ []) u
 run_more changes c sounds runs can u =

@@ -3,7 +3,7 @@ use Rattle.std.proofs.Common.{◌≡◌, ℕ, ◌+◌, ◌*◌, ◌^◌, ◌≤�
 use Rattle.std.proofs.lemmas.Bool.{eqb-true, eq-eqb, false≢true}
 use Rattle.up_events.specs.History.{id_of, or_else, creation_of, length_of, received, offset_of, is_known, is_terminated, CanFollow, IsLegal, finish_at, steps_at, steps_of, events_of}
 use Rattle.up_events.specs.declared.event.Accepted.{Accepted}
-use Rattle.up_events.specs.declared.event.Accepted.TheVariants.{Created, Appended}
+use Rattle.up_events.specs.declared.event.Accepted.TheVariants.{Created, Appended, Terminated}
 use Rattle.up_events.specs.declared.event.Hook.TheVariants.{Finish}
 use Rattle.up_events.specs.Lists.{gather}
 use Rattle.up_events.specs.declared.event.Kind.{Kind}
@@ -29,21 +29,34 @@ creation_of-created changes u n kind new =
 pub creation_of-appended : (changes : List Accepted) (v n u : ℕ) → creation_of (changes ++ Appended v n ∷ []) u ≡ creation_of changes u
 creation_of-appended changes v n u = creation_of-snoc changes (Appended v n) u ∙ or_else_none _
 
+pub creation_of-terminated : (changes : List Accepted) (v u : ℕ) → creation_of (changes ++ Terminated v ∷ []) u ≡ creation_of changes u
+creation_of-terminated changes v u = creation_of-snoc changes (Terminated v) u ∙ or_else_none _
+
 pub received-appended : (changes : List Accepted) (u n : ℕ) → received (changes ++ Appended u n ∷ []) u ≡ received changes u + n
 received-appended changes u n = received-snoc changes (Appended u n) u ∙ ap (λ b. received changes u + cond b n 0) (eqb-same u)
 
 pub received-created : (changes : List Accepted) (v n u : ℕ) (kind : Kind) → received (changes ++ Created v n kind ∷ []) u ≡ received changes u
 received-created changes v n u kind = omega (arith, received-snoc changes (Created v n kind) u)
 
+pub received-terminated : (changes : List Accepted) (v u : ℕ) → received (changes ++ Terminated v ∷ []) u ≡ received changes u
+received-terminated changes v u = omega (arith, received-snoc changes (Terminated v) u)
+
 or_false : (b : Bool) → (b || false) ≡ b
 or_false true = refl
 or_false false = refl
+
+or_true : (b : Bool) → (b || true) ≡ true
+or_true true = refl
+or_true false = refl
 
 pub is_terminated-created : (changes : List Accepted) (v n u : ℕ) (kind : Kind) → is_terminated (changes ++ Created v n kind ∷ []) u ≡ is_terminated changes u
 is_terminated-created changes v n u kind = is_terminated-snoc changes (Created v n kind) u ∙ or_false _
 
 pub is_terminated-appended : (changes : List Accepted) (v n u : ℕ) → is_terminated (changes ++ Appended v n ∷ []) u ≡ is_terminated changes u
 is_terminated-appended changes v n u = is_terminated-snoc changes (Appended v n) u ∙ or_false _
+
+pub is_terminated-terminated : (changes : List Accepted) (u : ℕ) → is_terminated (changes ++ Terminated u ∷ []) u ≡ true
+is_terminated-terminated changes u = is_terminated-snoc changes (Terminated u) u ∙ ap (λ b. is_terminated changes u || b) (eqb-same u) ∙ or_true _
 
 pub events_of-own : (changes : List Accepted) (c : Accepted) → events_of (changes ++ c ∷ []) (id_of c) ≡ events_of changes (id_of c) ++ steps_of changes c
 events_of-own changes c = events_of-snoc changes c (id_of c) ∙ ap (λ b. events_of changes (id_of c) ++ cond b (steps_of changes c) []) (eqb-same (id_of c))
@@ -57,6 +70,10 @@ offset_of-created changes u n kind none = received-created changes u n u kind �
 pub offset_of-appended : (changes : List Accepted) (u n : ℕ) → offset_of (changes ++ Appended u n ∷ []) u ≡ offset_of changes u + n
 unfolding offset_of
 offset_of-appended changes u n = received-appended changes u n
+
+pub offset_of-terminated : (changes : List Accepted) (v u : ℕ) → offset_of (changes ++ Terminated v ∷ []) u ≡ offset_of changes u
+unfolding offset_of
+offset_of-terminated changes v u = received-terminated changes v u
 
 pub offset_of-received : (changes : List Accepted) (u : ℕ) → offset_of changes u ≡ received changes u
 unfolding offset_of
@@ -102,6 +119,7 @@ finish_le offset n = one_at_most (eqb offset n) (Finish, offset, n)
 steps_le : (c : Accepted) (offset n : ℕ) → length (steps_at c offset n) ≤ 2
 steps_le (Created u m kind) offset n = omega (arith, finish_le offset n)
 steps_le (Appended u m) offset n = omega (arith, finish_le offset n)
+steps_le (Terminated u) offset n = omega arith
 
 -- an upload that has a creation is known
 known_some : (o : Option (ℕ × Kind)) (p : ℕ × Kind) → o ≡ Some p → is_some o ≡ false → ⊥
@@ -150,9 +168,31 @@ sound_appended changes u n s can =
       small = rw known s.small;
     }
 
+one_more_event : (changes : List Accepted) (u : ℕ) → length (events_of (changes ++ Terminated u ∷ []) u) ≡ length (events_of changes u) + 1
+one_more_event changes u = ap length (events_of-own changes (Terminated u)) ∙ length-append (events_of changes u) (steps_of changes (Terminated u))
+
+sound_terminated : (changes : List Accepted) (u : ℕ) → IsSound changes u → CanFollow changes (Terminated u) → IsSound (changes ++ Terminated u ∷ []) u
+sound_terminated changes u s can =
+    let alive = alive_known (is_known changes u) (is_terminated changes u) can in
+    let known = creation_of-terminated changes u u in
+    let bytes = received-terminated changes u u in
+    let ended = is_terminated-terminated changes u in
+    let offset = offset_of-terminated changes u u in
+    let few : length (events_of changes u) ≤ 2 * received changes u + 2 = rw alive.1 at s.few in
+    let still : is_known (changes ++ Terminated u ∷ []) u ≡ true = ap is_some known ∙ alive.0 in
+    record {
+      no_events = λ h. absurd (false≢true (sym h ∙ still));
+      no_bytes = λ h. absurd (false≢true (sym h ∙ still));
+      not_ended = λ h. absurd (false≢true (sym h ∙ still));
+      few = rw (bytes, ended) (omega (arith, one_more_event changes u));
+      within = rw (offset, known) s.within;
+      small = rw known s.small;
+    }
+
 sound_own : (changes : List Accepted) (c : Accepted) → IsSound changes (id_of c) → CanFollow changes c → IsSound (changes ++ c ∷ []) (id_of c)
 sound_own changes (Created u n kind) s can = sound_created changes u n kind s can
 sound_own changes (Appended u n) s can = sound_appended changes u n s can
+sound_own changes (Terminated u) s can = sound_terminated changes u s can
 
 pub sound_more : (changes : List Accepted) (c : Accepted) → ((u : ℕ) → IsSound changes u) → CanFollow changes c → (u : ℕ) → IsSound (changes ++ c ∷ []) u
 sound_more changes c all can u =
@@ -175,6 +215,7 @@ track_of-unknown changes u s new =
 pub steps_of-reached : (changes : List Accepted) (c : Accepted) → IsSound changes (id_of c) → CanFollow changes c → steps_of changes c ≡ steps_at c (reached (track_of changes (id_of c)) c).offset (reached (track_of changes (id_of c)) c).length
 steps_of-reached changes (Created u n kind) s can = rw (offset_of-created changes u n kind (s.no_bytes can.0), creation_of-created changes u n kind can.0) refl
 steps_of-reached changes (Appended u n) s can = rw (offset_of-appended changes u n, creation_of-appended changes u n u) refl
+steps_of-reached changes (Terminated u) s can = rw (offset_of-terminated changes u u, creation_of-terminated changes u u) refl
 
 events-more : (changes : List Accepted) (c : Accepted) → length (events_of (changes ++ c ∷ []) (id_of c)) ≡ length (events_of changes (id_of c)) + length (steps_of changes c)
 events-more changes c = ap length (events_of-own changes c) ∙ length-append (events_of changes (id_of c)) (steps_of changes c)
@@ -182,3 +223,4 @@ events-more changes c = ap length (events_of-own changes c) ∙ length-append (e
 pub track_of-reached : (changes : List Accepted) (c : Accepted) → IsSound changes (id_of c) → CanFollow changes c → track_of (changes ++ c ∷ []) (id_of c) ≡ record (reached (track_of changes (id_of c)) c) { events = length (events_of changes (id_of c)) + length (steps_of changes c) }
 track_of-reached changes (Created u n kind) s can = rw (events-more changes (Created u n kind), offset_of-created changes u n kind (s.no_bytes can.0), creation_of-created changes u n kind can.0) refl
 track_of-reached changes (Appended u n) s can = rw (events-more changes (Appended u n), offset_of-appended changes u n, creation_of-appended changes u n u) refl
+track_of-reached changes (Terminated u) s can = rw (events-more changes (Terminated u), offset_of-terminated changes u u, creation_of-terminated changes u u) refl

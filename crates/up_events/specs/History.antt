@@ -3,30 +3,34 @@ use Rattle.std.specs.Prelude.{◌≡◌, ℕ, ◌+◌, ◌≤◌, ◌^◌, Bool,
 use Rattle.std.specs.List.{list_any}
 use Rattle.up_events.specs.Lists.{gather, EachFollows}
 use Rattle.up_events.specs.declared.event.Accepted.{Accepted}
-use Rattle.up_events.specs.declared.event.Accepted.TheVariants.{Created, Appended}
+use Rattle.up_events.specs.declared.event.Accepted.TheVariants.{Created, Appended, Terminated}
 use Rattle.up_events.specs.declared.event.Hook.{Hook}
-use Rattle.up_events.specs.declared.event.Hook.TheVariants.{Create, Receive, Finish}
+use Rattle.up_events.specs.declared.event.Hook.TheVariants.{Create, Receive, Finish, Terminate}
 use Rattle.up_events.specs.declared.event.Kind.{Kind}
 
 -- the upload that a change is of
 abbrev pub id_of : Accepted → ℕ
 id_of (Created id length kind) = id
 id_of (Appended id count) = id
+id_of (Terminated id) = id
 
 -- the length and the kind of this upload, where the change creates it
 abbrev pub creation_in : ℕ → Accepted → Option (ℕ × Kind)
 creation_in u (Created id length kind) = if id == u then Some (length, kind) else None
 creation_in u (Appended id count) = None
+creation_in u (Terminated id) = None
 
 -- how many bytes the change adds to this upload
 abbrev pub bytes_in : ℕ → Accepted → ℕ
 bytes_in u (Created id length kind) = 0
 bytes_in u (Appended id count) = if id == u then count else 0
+bytes_in u (Terminated id) = 0
 
 -- whether the change ends this upload
 abbrev pub ends : ℕ → Accepted → Bool
 ends u (Created id length kind) = false
 ends u (Appended id count) = false
+ends u (Terminated id) = id == u
 
 -- the first of two options that is there
 abbrev pub or_else : {X : Type 0} → Option X → Option X → Option X
@@ -66,12 +70,13 @@ is_terminated changes u = list_any (ends u) changes
 abbrev pub is_alive : List Accepted → ℕ → Bool
 is_alive changes u = is_known changes u && not (is_terminated changes u)
 
--- what may be accepted after these changes: the creation of a new upload of at most 2^30 bytes, or
--- at least one more byte of an upload that is there, up to its length
+-- what may be accepted after these changes: the creation of a new upload of at most 2^30 bytes, at
+-- least one more byte of an upload that is there, up to its length, or the end of one that is there
 abbrev pub CanFollow : List Accepted → Accepted → Type 0
 CanFollow before (Created id length kind) = (is_known before id ≡ false) × (length ≤ 2 ^ 30)
 CanFollow before (Appended id count) =
     (is_alive before id ≡ true) × (1 ≤ count) × (offset_of before id + count ≤ unwrap_or (length_of before id) 0)
+CanFollow before (Terminated id) = is_alive before id ≡ true
 
 -- each change could follow those before it
 abbrev pub IsLegal : List Accepted → Type 0
@@ -91,6 +96,7 @@ finish_at offset length = if offset == length then (Finish, offset, length) ∷ 
 abbrev pub steps_at : Accepted → ℕ → ℕ → List Step
 steps_at (Created id _ kind) offset length = (Create, offset, length) ∷ finish_at offset length
 steps_at (Appended id count) offset length = (Receive, offset, length) ∷ finish_at offset length
+steps_at (Terminated id) offset length = (Terminate, offset, length) ∷ []
 
 -- the events of a change that comes after these
 abbrev pub steps_of : List Accepted → Accepted → List Step

@@ -26,6 +26,10 @@ pub enum Accepted {
         /// How many bytes.
         count: u64,
     },
+    /// The upload was ended. Its id stays known, and nothing follows (tus 1.0.0, Termination).
+    Terminated {
+        id: Id,
+    },
 }
 
 /// What an event tells of its upload.
@@ -37,7 +41,7 @@ pub enum Hook {
     Receive,
     /// It is complete: the offset is the length.
     Finish,
-    /// It was ended. No accepted change gives this event yet.
+    /// It was ended. This is its last event.
     Terminate,
 }
 
@@ -79,7 +83,9 @@ impl Accepted {
         ensures { result ≡ id_of self.now }
     {
         match *self {
-            Accepted::Created { id, .. } | Accepted::Appended { id, .. } => id,
+            Accepted::Created { id, .. }
+            | Accepted::Appended { id, .. }
+            | Accepted::Terminated { id } => id,
         }
     }
 }

@@ -102,8 +102,9 @@ impl Journal {
 
     /// Puts a change behind those before it, and its events behind those of the log of its lane.
     /// The change must be one that can follow: a creation has a new id and a length of at most
-    /// 2^30 bytes, and an append has at least one byte and stays within the length of an upload
-    /// that is there. `NoMemory` where memory was refused; the journal is then as it was.
+    /// 2^30 bytes, an append has at least one byte and stays within the length of an upload that
+    /// is there, and a termination is of an upload that is there. `NoMemory` where memory was
+    /// refused; the journal is then as it was.
     pub fn note(&mut self, change: Accepted) -> Result<Added, NoMemory>
         requires { CanFollow self.old.accepted change }
         ensures ok { OnOk result (self.new ≡ noted self.old change) }

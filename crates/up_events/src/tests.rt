@@ -2,7 +2,7 @@
 ghost use Rattle.std.specs.Prelude.{◌≡◌, ◌<◌, ◌≤◌};
 ghost use Rattle.up_events.specs.Lists.{EachFollows};
 ghost use Rattle.up_events.specs.History.{CanFollow, IsLegal};
-ghost use Rattle.up_events.specs.declared.event.Accepted.TheVariants.{Created as IsCreated, Appended as IsAppended};
+ghost use Rattle.up_events.specs.declared.event.Accepted.TheVariants.{Created as IsCreated, Appended as IsAppended, Terminated as IsTerminated};
 ghost use Rattle.up_events.specs.declared.event.Kind.TheVariants.{Plain as IsPlain};
 
 use crate::{Accepted, Added, Event, Hook, Id, Journal, Kind, NoMemory};
@@ -26,6 +26,14 @@ fn appended(number: u128, count: u64) -> Accepted
     Accepted::Appended {
         id: Id::new(number),
         count,
+    }
+}
+
+fn terminated(number: u128) -> Accepted
+    ensures { result ≡ IsTerminated number }
+{
+    Accepted::Terminated {
+        id: Id::new(number),
     }
 }
 
@@ -55,6 +63,18 @@ fn no_bytes() -> [Accepted; 1]
     ensures { IsLegal result }
 {
     [created(1, 0)]
+}
+
+fn two_ends() -> [Accepted; 5]
+    ensures { IsLegal result }
+{
+    [
+        created(1, 5),
+        created(2, 3),
+        appended(2, 3),
+        terminated(1),
+        terminated(2),
+    ]
 }
 
 fn five_uploads() -> [Accepted; 15]
@@ -122,9 +142,10 @@ fn events_of(
         let hook = match change {
             Accepted::Created { .. } => Hook::Create,
             Accepted::Appended { .. } => Hook::Receive,
+            Accepted::Terminated { .. } => Hook::Terminate,
         };
         events.push((hook, offset, length))?;
-        if offset == length {
+        if offset == length && hook != Hook::Terminate {
             events.push((Hook::Finish, offset, length))?;
         }
     }
@@ -231,6 +252,25 @@ fn an_upload_of_no_bytes(rt: HostRuntime) -> Result<(), Fail> {
     assert!(rt; journal.lane_log(0).is_empty());
     assert!(rt; journal.lane_log(2).is_empty());
     agrees(&rt, rt.alloc(), &no_bytes(), 2)?;
+    Ok(())
+}
+
+#[test]
+fn uploads_that_were_ended(rt: HostRuntime) -> Result<(), Fail> {
+    let journal = agrees(&rt, rt.alloc(), &two_ends(), 2)?;
+    let expected = [
+        event(2, 1, Hook::Create, 0, 3),
+        event(2, 2, Hook::Receive, 3, 3),
+        event(2, 3, Hook::Finish, 3, 3),
+        event(2, 4, Hook::Terminate, 3, 3),
+    ];
+    assert_eq!(rt; journal.lane_log(0), expected.as_slice());
+    let expected = [
+        event(1, 1, Hook::Create, 0, 5),
+        event(1, 2, Hook::Terminate, 0, 5),
+    ];
+    assert_eq!(rt; journal.lane_log(1), expected.as_slice());
+    assert!(rt; journal.knows(Id::new(1)));
     Ok(())
 }
 

@@ -46,6 +46,7 @@ impl Track {
                 offset: self.offset + count,
                 length: self.length,
             },
+            Accepted::Terminated { .. } => self,
         }
     }
 }
@@ -57,6 +58,7 @@ fn first_hook(change: &Accepted) -> Hook
     match change {
         Accepted::Created { .. } => Hook::Create,
         Accepted::Appended { .. } => Hook::Receive,
+        Accepted::Terminated { .. } => Hook::Terminate,
     }
 }
 
@@ -66,6 +68,7 @@ fn is_completing(change: &Accepted, track: Track) -> bool
 {
     match change {
         Accepted::Created { .. } | Accepted::Appended { .. } => track.offset == track.length,
+        Accepted::Terminated { .. } => false,
     }
 }
 

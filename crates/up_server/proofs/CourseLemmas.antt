@@ -11,9 +11,9 @@ use Rattle.up_events.specs.History.{id_of, creation_of, is_known, events_of, ste
 use Rattle.up_events.specs.Log.{log_of, numbered}
 use Rattle.up_events.specs.Records.{Records, lane_log, noted, ArePlaces}
 use Rattle.up_events.specs.declared.journal.Added.{Added}
-use Rattle.up_events.specs.declared.event.Accepted.TheVariants.{Created, Appended}
+use Rattle.up_events.specs.declared.event.Accepted.TheVariants.{Created, Appended, Terminated}
 use Rattle.std.proofs.lemmas.Bool.{eqb-true}
-use Rattle.up_events.proofs.Sound.{creation_of-appended}
+use Rattle.up_events.proofs.Sound.{creation_of-appended, creation_of-terminated}
 use Rattle.up_server.specs.Content.{made_of}
 use Rattle.up_server.specs.declared.refusal.Done.{Done}
 use Rattle.up_server.specs.declared.refusal.Refusal.{Refusal}
@@ -132,6 +132,7 @@ nothing_there j (Some c) none = absurd none
 abbrev pub IsOlder : Accepted → ℕ → Type 0
 IsOlder (Created id n kind) u = id < u
 IsOlder (Appended id n) u = Unit {0}
+IsOlder (Terminated id) u = Unit {0}
 
 older_appended : (id n : ℕ) (c : Accepted) (u : ℕ) → appended id n ≡ Some c → IsOlder c u
 older_appended id n c u = elim (eqb n 0) as (λ b. cond b None (Some (Appended id n)) ≡ Some c → IsOlder c u) [
@@ -151,6 +152,7 @@ apart id u below = elim (eqb id u) as (λ b. eqb id u ≡ b → b ≡ false) [ t
 unknown_after : (changes : List Accepted) (c : Accepted) (u : ℕ) → is_known changes u ≡ false → IsOlder c u → is_known (changes ++ c ∷ []) u ≡ false
 unknown_after changes (Created id n kind) u new older = ap is_some (creation_of-other changes (Created id n kind) u (apart id u older)) ∙ new
 unknown_after changes (Appended id n) u new older = ap is_some (creation_of-appended changes id n u) ∙ new
+unknown_after changes (Terminated id) u new older = ap is_some (creation_of-terminated changes id u) ∙ new
 
 last_rises : (last : ℕ) (asks : Request) → last ≤ last_after last asks
 last_rises last (request.Create new) = omega arith
