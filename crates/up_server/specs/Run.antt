@@ -1,11 +1,11 @@
 -- A run of the server over one input, from its first message to the report.
-use Rattle.std.specs.Prelude.{◌≡◌, ◌⊎◌, ℕ, Bool, true, false, List, length, All, Option, Result, Ok, Err}
+use Rattle.std.specs.Prelude.{◌≡◌, ◌⊎◌, ℕ, Bool, true, false, List, length, All, Result, Ok, Err}
 use Rattle.std.specs.Io.KnownBytes.{Appends}
 use Rattle.std.specs.List.{list_any}
 use Rattle.up_events.specs.Delivery.{IsDelivered}
 use Rattle.up_server.specs.Course.{Course, AreOfTheirLanes}
 use Rattle.up_server.specs.ReportText.{report_text}
-use Rattle.up_wire.specs.Device.{Device}
+use Rattle.up_wire.specs.Device.{Device, GaveUp}
 use Rattle.up_wire.specs.Response.{WritesFront}
 use Rattle.up_server.specs.State.{empty_state}
 use Rattle.up_server.specs.Turn.{Converses}
@@ -45,12 +45,14 @@ any_stopped lanes = list_any (λ lane. is_stopped lane.how) lanes
 abbrev pub HasEndedWell : Ended → Type 0
 HasEndedWell ended = (ended ≡ Closed) ⊎ (ended ≡ Cut)
 
--- the report behind the replies, and what went wrong
-abbrev pub IsReported : Served → Option (List ℕ) → Option (List ℕ) → {X : Type 0} → Result X ServerFault → Type 0
+-- the report behind the replies, and what went wrong; where a write of it failed, the sink failed, or was interrupted
+-- too often
+abbrev pub IsReported : Served → Device → Device → {X : Type 0} → Result X ServerFault → Type 0
 IsReported served before after (Ok done) =
-    HasEndedWell served.ended × Appends before after (report_text served.report) × (any_stopped served.report.lanes.items ≡ false)
+    HasEndedWell served.ended × Appends before.bytes after.bytes (report_text served.report) × (any_stopped served.report.lanes.items ≡ false)
 IsReported served before after (Err Fault.Memory) = ⊥
-IsReported served before after (Err Fault.Write) = ((served.ended ≡ WriteFailed) × (after ≡ before)) ⊎ WritesFront before after (report_text served.report)
-IsReported served before after (Err Fault.Read) = (served.ended ≡ ReadFailed) × Appends before after (report_text served.report)
+IsReported served before after (Err Fault.Write) =
+    ((served.ended ≡ WriteFailed) × (after ≡ before)) ⊎ (WritesFront before.bytes after.bytes (report_text served.report) × GaveUp after.has_failed after.interruptions)
+IsReported served before after (Err Fault.Read) = (served.ended ≡ ReadFailed) × Appends before.bytes after.bytes (report_text served.report)
 IsReported served before after (Err Fault.Stopped) =
-    HasEndedWell served.ended × Appends before after (report_text served.report) × (any_stopped served.report.lanes.items ≡ true)
+    HasEndedWell served.ended × Appends before.bytes after.bytes (report_text served.report) × (any_stopped served.report.lanes.items ≡ true)

@@ -56,7 +56,10 @@ fn any_stopped(lanes: &[LaneReport]) -> bool
 
 /// Writes the report behind the replies, where these were written, and tells the first thing that went wrong.
 fn tell<W: Sink>(sink: &mut W, served: &Served) -> Result<(), ServerFault>
-    ensures { IsReported served.now (W.written sink.old) (W.written sink.new) result }
+    ensures { IsReported served.now
+        (device (W.written sink.old) (W.has_failed sink.old) (W.interruptions sink.old))
+        (device (W.written sink.new) (W.has_failed sink.new) (W.interruptions sink.new))
+        result }
 {
     match served.ended {
         Ended::WriteFailed => Err(ServerFault::Write),
@@ -87,7 +90,9 @@ pub fn replay<R: Source, W: Sink>(
         (device (R.left source.new) (R.has_failed source.new) (R.interruptions source.new))
         (device (W.written sink.old) (W.has_failed sink.old) (W.interruptions sink.old))
         replied
-        × IsReported served replied.bytes (W.written sink.new) result) }
+        × IsReported served replied
+        (device (W.written sink.new) (W.has_failed sink.new) (W.interruptions sink.new))
+        result) }
 {
     let Ok(served) = run(alloc, settings, source, sink) else {
         return Err(ServerFault::Memory);

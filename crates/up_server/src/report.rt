@@ -1,5 +1,6 @@
 //! The report of a run, as text.
-ghost use Rattle.std.specs.Prelude.{◌≡◌, flat_map};
+ghost use Rattle.std.specs.Prelude.{◌≡◌, flat_map, OnErr};
+ghost use Rattle.up_wire.specs.Device.{GaveUp};
 ghost use Rattle.up_wire.specs.Response.{Writes};
 ghost use Rattle.up_server.specs.ReportText.{count_line, event_line, lane_line, lane_text, lanes_text, report_text, how_of};
 
@@ -11,9 +12,10 @@ use up_wire::{Sink, WriteFailed, flush, write_pieces};
 
 /// Writes the report, and has the sink send it on: an empty line, `accepted` and the number of accepted changes, then for
 /// each lane a line with its number, how it ended and how many events it handed over, and these events, a line each. An
-/// error comes where a write or the flush failed.
+/// error comes where a write or the flush gave up on the sink.
 pub fn write_report<W: Sink>(sink: &mut W, report: &Report) -> Result<(), WriteFailed>
-    ensures { Writes (W.written sink.old) (W.written sink.new) (report_text report.now) result }
+    ensures written { Writes (W.written sink.old) (W.written sink.new) (report_text report.now) result }
+    ensures failed { OnErr result (GaveUp (W.has_failed sink.new) (W.interruptions sink.new)) }
 {
     write_count(sink, report.accepted.len())?;
     write_lanes(sink, report.lanes.as_slice())?;
@@ -22,7 +24,8 @@ pub fn write_report<W: Sink>(sink: &mut W, report: &Report) -> Result<(), WriteF
 
 /// Writes the number of accepted changes.
 fn write_count<W: Sink>(sink: &mut W, count: usize) -> Result<(), WriteFailed>
-    ensures { Writes (W.written sink.old) (W.written sink.new) (count_line count) result }
+    ensures written { Writes (W.written sink.old) (W.written sink.new) (count_line count) result }
+    ensures failed { OnErr result (GaveUp (W.has_failed sink.new) (W.interruptions sink.new)) }
 {
     let mut digits = Buffer::new();
     let pieces: [&[u8]; 3] = [b"\naccepted ", digits.format(count).as_bytes(), b"\n"];
@@ -31,7 +34,8 @@ fn write_count<W: Sink>(sink: &mut W, count: usize) -> Result<(), WriteFailed>
 
 /// Writes the lanes, with their numbers from 0 on.
 fn write_lanes<W: Sink>(sink: &mut W, lanes: &[LaneReport]) -> Result<(), WriteFailed>
-    ensures { Writes (W.written sink.old) (W.written sink.new) (lanes_text 0 lanes.now) result }
+    ensures written { Writes (W.written sink.old) (W.written sink.new) (lanes_text 0 lanes.now) result }
+    ensures failed { OnErr result (GaveUp (W.has_failed sink.new) (W.interruptions sink.new)) }
 {
     for (number, lane) in lanes.iter().enumerate() {
         write_lane(sink, number, lane)?;
@@ -41,7 +45,8 @@ fn write_lanes<W: Sink>(sink: &mut W, lanes: &[LaneReport]) -> Result<(), WriteF
 
 /// Writes a lane and its events.
 fn write_lane<W: Sink>(sink: &mut W, number: usize, lane: &LaneReport) -> Result<(), WriteFailed>
-    ensures { Writes (W.written sink.old) (W.written sink.new) (lane_text number lane.now) result }
+    ensures written { Writes (W.written sink.old) (W.written sink.new) (lane_text number lane.now) result }
+    ensures failed { OnErr result (GaveUp (W.has_failed sink.new) (W.interruptions sink.new)) }
 {
     write_lane_line(sink, number, lane)?;
     write_events(sink, lane.handed.as_slice())
@@ -61,7 +66,8 @@ fn write_lane_line<W: Sink>(
     number: usize,
     lane: &LaneReport,
 ) -> Result<(), WriteFailed>
-    ensures { Writes (W.written sink.old) (W.written sink.new) (lane_line number lane.now) result }
+    ensures written { Writes (W.written sink.old) (W.written sink.new) (lane_line number lane.now) result }
+    ensures failed { OnErr result (GaveUp (W.has_failed sink.new) (W.interruptions sink.new)) }
 {
     let mut digits = Buffer::new();
     let mut handed = Buffer::new();
@@ -76,7 +82,8 @@ fn write_lane_line<W: Sink>(
 }
 
 fn write_events<W: Sink>(sink: &mut W, events: &[Event]) -> Result<(), WriteFailed>
-    ensures { Writes (W.written sink.old) (W.written sink.new) (flat_map event_line events.now) result }
+    ensures written { Writes (W.written sink.old) (W.written sink.new) (flat_map event_line events.now) result }
+    ensures failed { OnErr result (GaveUp (W.has_failed sink.new) (W.interruptions sink.new)) }
 {
     for event in events {
         write_event(sink, event)?;
@@ -86,7 +93,8 @@ fn write_events<W: Sink>(sink: &mut W, events: &[Event]) -> Result<(), WriteFail
 
 /// Writes an event: its id, number, hook, offset and length, and what its post-hook answered.
 fn write_event<W: Sink>(sink: &mut W, event: &Event) -> Result<(), WriteFailed>
-    ensures { Writes (W.written sink.old) (W.written sink.new) (event_line event.now) result }
+    ensures written { Writes (W.written sink.old) (W.written sink.new) (event_line event.now) result }
+    ensures failed { OnErr result (GaveUp (W.has_failed sink.new) (W.interruptions sink.new)) }
 {
     let text = event.id.text();
     let mut number = Buffer::new();

@@ -5,14 +5,14 @@ use Rattle.up_wire.specs.Response.{Writes}
 use Rattle.up_server.proofs.Writing.{front_cut, writes_err, writes_then}
 use Rattle.up_server.proofs.report.write_lane.Goals as goal
 
-pub returns-in_err-write_lane_line : goal.returns-in_err-write_lane_line
-returns-in_err-write_lane_line g c =
+pub returns-in_err-write_lane_line-clause-written : goal.returns-in_err-write_lane_line-clause-written
+returns-in_err-write_lane_line-clause-written g c =
     let lane = c.args.lane.now in
     writes_err _ _ (lane_text c.args.number lane) c.from_residual.result c.from_residual.ensures.0
-    (front_cut _ _ (lane_line c.args.number lane) (flat_map event_line lane.handed.items) c.in_err-write_lane_line.ensures)
+    (front_cut _ _ (lane_line c.args.number lane) (flat_map event_line lane.handed.items) c.in_err-write_lane_line.ensures.written)
 
-pub returns : goal.returns
-returns g c =
+pub returns-clause-written : goal.returns-clause-written
+returns-clause-written g c =
     let lane = c.args.lane.now in
-    writes_then _ _ _ (lane_line c.args.number lane) (flat_map event_line lane.handed.items) c.write_events.result c.in_ok-write_lane_line.ensures
-    (subst (λ events. Writes (g.W.Sink.written c.write_lane_line.new.sink) (g.W.Sink.written c.write_events.new.sink) (flat_map event_line events) c.write_events.result) c.as_slice.ensures.value c.write_events.ensures)
+    writes_then _ _ _ (lane_line c.args.number lane) (flat_map event_line lane.handed.items) c.write_events.result c.in_ok-write_lane_line.ensures.written
+    (subst (λ events. Writes (g.W.Sink.written c.write_lane_line.new.sink) (g.W.Sink.written c.write_events.new.sink) (flat_map event_line events) c.write_events.result) c.as_slice.ensures.value c.write_events.ensures.written)
