@@ -1,5 +1,5 @@
 //! What is answered.
-ghost use Rattle.std.specs.Prelude.{◌≡◌, ◌+◌, ◌-◌, ◌<◌, ◌≤◌, ◌⊎◌, true, false, flat_map, OnErr};
+ghost use Rattle.std.specs.Prelude.{◌≡◌, ◌+◌, ◌-◌, ◌<◌, ◌≤◌, ◌⊎◌, ◌++◌, ◌∷◌, [], true, false, flat_map, IfOk, OnErr};
 ghost use Rattle.up_wire.specs.Device.{GaveUp};
 ghost use Rattle.up_wire.specs.Limits.{max_interruptions};
 ghost use Rattle.up_wire.specs.Steps.{WritesIf};
@@ -10,8 +10,10 @@ use crate::message::Field;
 use crate::sequence::Sequence;
 use crate::text::WriteFailed;
 use crate::write::{send_on, write_each};
+use bytes::Bytes;
 use http::StatusCode;
 use itoa::Buffer;
+use std::alloc::{AllocError, Global};
 
 /// A response, without the lines that every response has.
 #[derive(Drop)]
@@ -19,7 +21,44 @@ pub struct Response {
     /// The status code (RFC 9110, section 15).
     pub status: u16,
     pub fields: Sequence<Field>,
-    pub body: Sequence<u8>,
+    /// The bytes of the content, which other owners may share (RFC 9110, section 6.4).
+    pub body: Bytes,
+}
+
+impl Response {
+    /// A response with no fields and no body. Takes no memory.
+    pub fn new(alloc: Global, status: u16) -> Self
+        ensures { result ≡ record { status = status; fields = []; body = [] } }
+    {
+        Response {
+            status,
+            fields: Sequence::new(alloc),
+            body: Bytes::new(),
+        }
+    }
+
+    /// With one field more, behind those before it. `AllocError` where memory for it was refused.
+    pub fn with_field(
+        mut self,
+        alloc: Global,
+        name: &[u8],
+        value: &[u8],
+    ) -> Result<Self, AllocError>
+        ensures { IfOk result (λ made. made ≡ record self { fields = self.fields ++ (name.now, value.now) ∷ [] }) }
+    {
+        let name = Sequence::from_slice(alloc, name)?;
+        self.fields
+            .push((name, Sequence::from_slice(alloc, value)?))?;
+        Ok(self)
+    }
+
+    /// With this body, which is not copied. Takes no memory.
+    pub fn with_body(mut self, body: Bytes) -> Self
+        ensures { result ≡ record self { body = body } }
+    {
+        self.body = body;
+        self
+    }
 }
 
 fn write_field<W: Sink>(sink: &mut W, field: &Field, interruptions: &mut u32) -> bool

@@ -1,23 +1,16 @@
 //! What is written.
 use super::*;
-use crate::message::Field;
 use crate::response::{Response, write_response};
 use crate::sequence::Sequence;
 use crate::text::WriteFailed;
+use bytes::Bytes;
 
 /// A response with two fields.
 pub(crate) fn response(alloc: Global, status: u16, body: &[u8]) -> Result<Response, AllocError> {
-    let mut fields: Sequence<Field> = Sequence::new(alloc);
-    for (name, value) in [("X", "1"), ("Y", "")] {
-        let name = Sequence::from_slice(alloc, name.as_bytes())?;
-        fields.push((name, Sequence::from_slice(alloc, value.as_bytes())?))?;
-    }
-    let body = Sequence::from_slice(alloc, body)?;
-    Ok(Response {
-        status,
-        fields,
-        body,
-    })
+    let made = Response::new(alloc, status)
+        .with_field(alloc, b"X", b"1")?
+        .with_field(alloc, b"Y", b"")?;
+    Ok(made.with_body(Bytes::copy_from_slice(alloc, body)?))
 }
 
 /// Responses by status, body, whether they are bare and whether they close.
@@ -86,6 +79,27 @@ fn writes_responses(rt: HostRuntime) -> Result<(), Fail> {
         assert_eq!(rt; write_response(&mut slot, &made, bare, close), Ok(()));
         assert_eq!(rt; slot.taken.as_slice(), wanted, "at {status}");
     }
+    Ok(())
+}
+
+#[test]
+fn makes_responses(rt: HostRuntime) -> Result<(), Fail> {
+    let bare = Response::new(rt.alloc(), 204);
+    assert_eq!(rt;
+        (bare.status, bare.fields.len(), bare.body.len()),
+        (204, 0, 0)
+    );
+    let body = Bytes::copy_from_slice(rt.alloc(), b"hello")?;
+    let made = response(rt.alloc(), 200, b"x")?.with_body(body.clone()?);
+    assert_eq!(rt; made.status, 200);
+    let fields = made.fields.as_slice();
+    assert_eq!(rt; fields.len(), 2);
+    assert_eq!(rt; fields[0].0.as_slice(), b"X".as_slice());
+    assert_eq!(rt; fields[0].1.as_slice(), b"1".as_slice());
+    assert_eq!(rt; fields[1].0.as_slice(), b"Y".as_slice());
+    assert_eq!(rt; fields[1].1.as_slice(), b"".as_slice());
+    assert!(rt; !body.is_unique());
+    assert_eq!(rt; made.body.as_slice(), b"hello".as_slice());
     Ok(())
 }
 
