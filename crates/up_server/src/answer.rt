@@ -1,45 +1,19 @@
 //! The responses, each made before anything is changed.
-ghost use Rattle.std.specs.Prelude.{◌≡◌, ◌∷◌, [], decimal, IfOk};
-ghost use Rattle.up_server.specs.Responses.{answered, created, reached_offset, can_do, refused_with, version_refused_with, method_refused_with};
+ghost use Rattle.std.specs.Prelude.{◌≡◌, ◌++◌, ◌∷◌, [], IfOk};
+ghost use Rattle.up_server.specs.Responses.{answered, created, reached_offset, can_do, plain_text, refused_with, version_refused_with, method_refused_with};
 
+use bytes::Bytes;
 use itoa::Buffer;
 use std::alloc::Global;
 use up_events::{Id, NoMemory};
-use up_wire::{Field, Response, Sequence};
+use up_wire::Response;
 
-/// A copy of the bytes.
-fn copy(alloc: Global, bytes: &[u8]) -> Result<Sequence<u8>, NoMemory>
-    ensures { IfOk result (λ made. made ≡ bytes.now) }
+/// The response with a text as its body, and the field that says so. The text is not copied.
+fn with_text(alloc: Global, response: Response, text: &'static str) -> Result<Response, NoMemory>
+    ensures { IfOk result (λ made. made ≡ answered response.status (response.fields ++ plain_text ∷ []) text.now) }
 {
-    Ok(Sequence::from_slice(alloc, bytes)?)
-}
-
-/// The number's digits.
-fn number(alloc: Global, n: u64) -> Result<Sequence<u8>, NoMemory>
-    ensures { IfOk result (λ made. made ≡ decimal n) }
-{
-    let mut buffer = Buffer::new();
-    copy(alloc, buffer.format(n).as_bytes())
-}
-
-/// A response with no body.
-fn bare(alloc: Global, status: u16, fields: Sequence<Field>) -> Response
-    ensures { result ≡ answered status fields [] }
-{
-    Response {
-        status,
-        fields,
-        body: Sequence::new(alloc),
-    }
-}
-
-/// One field.
-fn one(alloc: Global, name: &[u8], value: Sequence<u8>) -> Result<Sequence<Field>, NoMemory>
-    ensures { IfOk result (λ fields. fields ≡ (name.now, value) ∷ []) }
-{
-    let mut fields = Sequence::new(alloc);
-    fields.push((copy(alloc, name)?, value))?;
-    Ok(fields)
+    let response = response.with_field(alloc, b"Content-Type", b"text/plain")?;
+    Ok(response.with_body(Bytes::from_static(text.as_bytes())))
 }
 
 /// To a POST that made an upload: its URL (tus 1.0.0, Creation).
@@ -48,16 +22,16 @@ pub fn to_create(alloc: Global, id: Id) -> Result<Response, NoMemory>
 {
     let mut path = Vec::from_slice(alloc, b"/files/")?;
     path.extend_from_slice(&id.text())?;
-    let fields = one(alloc, b"Location", Sequence::from_vec(path))?;
-    Ok(bare(alloc, 201, fields))
+    Ok(Response::new(alloc, 201).with_field(alloc, b"Location", &path)?)
 }
 
 /// To a PATCH that was taken: the offset then reached (tus 1.0.0, PATCH).
 pub fn to_patch(alloc: Global, offset: u64) -> Result<Response, NoMemory>
     ensures { IfOk result (λ made. made ≡ reached_offset offset) }
 {
-    let fields = one(alloc, b"Upload-Offset", number(alloc, offset)?)?;
-    Ok(bare(alloc, 204, fields))
+    let mut buffer = Buffer::new();
+    let digits = buffer.format(offset).as_bytes();
+    Ok(Response::new(alloc, 204).with_field(alloc, b"Upload-Offset", digits)?)
 }
 
 /// To a question for what the server can do (tus 1.0.0, OPTIONS): the version, the extensions, and how large an upload may
@@ -65,38 +39,29 @@ pub fn to_patch(alloc: Global, offset: u64) -> Result<Response, NoMemory>
 pub fn to_options(alloc: Global, max_size: u64) -> Result<Response, NoMemory>
     ensures { IfOk result (λ made. made ≡ can_do max_size) }
 {
-    let mut fields = one(alloc, b"Tus-Version", copy(alloc, b"1.0.0")?)?;
-    let extensions = copy(alloc, b"creation,termination,concatenation")?;
-    fields.push((copy(alloc, b"Tus-Extension")?, extensions))?;
-    let size = number(alloc, max_size)?;
-    fields.push((copy(alloc, b"Tus-Max-Size")?, size))?;
-    Ok(bare(alloc, 204, fields))
+    let mut buffer = Buffer::new();
+    let digits = buffer.format(max_size).as_bytes();
+    let extensions = b"creation,termination,concatenation";
+    let response = Response::new(alloc, 204)
+        .with_field(alloc, b"Tus-Version", b"1.0.0")?
+        .with_field(alloc, b"Tus-Extension", extensions)?
+        .with_field(alloc, b"Tus-Max-Size", digits)?;
+    Ok(response)
 }
 
 /// To a request that was refused: why, as plain text.
-pub fn refused(alloc: Global, status: u16, text: &str) -> Result<Response, NoMemory>
+pub fn refused(alloc: Global, status: u16, text: &'static str) -> Result<Response, NoMemory>
     ensures { IfOk result (λ made. made ≡ refused_with status text.now) }
 {
-    let fields = one(alloc, b"Content-Type", copy(alloc, b"text/plain")?)?;
-    Ok(Response {
-        status,
-        fields,
-        body: copy(alloc, text.as_bytes())?,
-    })
+    with_text(alloc, Response::new(alloc, status), text)
 }
 
 /// To a request of another version of the protocol: which version there is (tus 1.0.0, Tus-Version), and why, as plain text.
-pub fn version_refused(alloc: Global, status: u16, text: &str) -> Result<Response, NoMemory>
+pub fn version_refused(alloc: Global, status: u16, text: &'static str) -> Result<Response, NoMemory>
     ensures { IfOk result (λ made. made ≡ version_refused_with status text.now) }
 {
-    let mut fields = one(alloc, b"Tus-Version", copy(alloc, b"1.0.0")?)?;
-    let plain = copy(alloc, b"text/plain")?;
-    fields.push((copy(alloc, b"Content-Type")?, plain))?;
-    Ok(Response {
-        status,
-        fields,
-        body: copy(alloc, text.as_bytes())?,
-    })
+    let response = Response::new(alloc, status).with_field(alloc, b"Tus-Version", b"1.0.0")?;
+    with_text(alloc, response, text)
 }
 
 /// To a request whose method was refused: which methods there are at an upload or at the creation URL (RFC 9110,
@@ -104,7 +69,7 @@ pub fn version_refused(alloc: Global, status: u16, text: &str) -> Result<Respons
 pub fn method_refused(
     alloc: Global,
     status: u16,
-    text: &str,
+    text: &'static str,
     of_upload: bool,
 ) -> Result<Response, NoMemory>
     ensures { IfOk result (λ made. made ≡ method_refused_with status text.now of_upload) }
@@ -114,21 +79,15 @@ pub fn method_refused(
     } else {
         b"OPTIONS, POST"
     };
-    let mut fields = one(alloc, b"Allow", copy(alloc, methods)?)?;
-    let plain = copy(alloc, b"text/plain")?;
-    fields.push((copy(alloc, b"Content-Type")?, plain))?;
-    Ok(Response {
-        status,
-        fields,
-        body: copy(alloc, text.as_bytes())?,
-    })
+    let response = Response::new(alloc, status).with_field(alloc, b"Allow", methods)?;
+    with_text(alloc, response, text)
 }
 
 /// To a request for which there was no memory (RFC 9110, section 15.6.4). Takes no memory itself.
 pub fn no_memory(alloc: Global) -> Response
     ensures { result ≡ answered 503 [] [] }
 {
-    bare(alloc, 503, Sequence::new(alloc))
+    Response::new(alloc, 503)
 }
 
 #[cfg(test)]
