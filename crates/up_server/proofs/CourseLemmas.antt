@@ -1,36 +1,33 @@
 -- A dispatcher's fields after one more request.
-use Rattle.std.proofs.Common.{◌≡◌, ℕ, ◌+◌, ◌<◌, ◌≤◌, ◌%◌, true, false, Option, Some, None, is_some, Result, Ok, Err, List, [], ◌∷◌, ◌++◌, length, drop, take, inl, inr, zero, suc, refl, sym, ap, ◌∙◌, subst, arith, Vec, slice_get, length-append, eqb, cond, Contains}
+use Rattle.std.proofs.Common.{◌≡◌, ◌⊎◌, inl, inr, ℕ, ◌+◌, ◌<◌, ◌≤◌, ◌%◌, true, false, Option, Some, None, is_some, Result, Ok, Err, List, [], ◌∷◌, ◌++◌, length, zero, suc, refl, sym, ap, ◌∙◌, subst, arith, Vec, slice_get, slice_set, length-append, eqb, cond}
 use Rattle.std.proofs.Math.ListN.{length-set}
+use Rattle.std.proofs.lemmas.Bool.{eqb-true}
+use Rattle.std.proofs.lemmas.List.Elements.{Contains-append_left}
 use Rattle.std.specs.Vec.{with_item}
-use Rattle.std.proofs.lemmas.List.{take-append-drop}
-use Rattle.std.proofs.lemmas.List.Elements.{Contains-append_left, Contains-append_right}
 use Rattle.std.specs.declared.alloc.Global.{Global}
-use Rattle.up_events.specs.declared.event.Accepted.{Accepted}
-use Rattle.up_events.specs.declared.event.Event.{Event}
+use Rattle.up_events.proofs.HistoryLemmas.{log_of-snoc, creation_of-other}
+use Rattle.up_events.proofs.JournalLemmas.{each_set, get-push}
+use Rattle.up_events.proofs.Sound.{creation_of-appended, creation_of-terminated}
+use Rattle.up_events.specs.Delivery.{IsWithin}
 use Rattle.up_events.specs.History.{id_of, creation_of, is_known, events_of, steps_of}
 use Rattle.up_events.specs.Log.{log_of, numbered}
-use Rattle.up_events.specs.Records.{Records, lane_log, noted, ArePlaces}
-use Rattle.up_events.specs.declared.journal.Added.{Added}
+use Rattle.up_events.specs.Records.{Records, lane_log, noted}
+use Rattle.up_events.specs.declared.event.Accepted.{Accepted}
 use Rattle.up_events.specs.declared.event.Accepted.TheVariants.{Created, Appended, Terminated}
-use Rattle.std.proofs.lemmas.Bool.{eqb-true}
-use Rattle.up_events.proofs.Sound.{creation_of-appended, creation_of-terminated}
-use Rattle.up_server.specs.Content.{made_of}
-use Rattle.up_server.specs.declared.refusal.Done.{Done}
-use Rattle.up_server.specs.declared.refusal.Refusal.{Refusal}
-use Rattle.up_server.specs.declared.refusal.Refusal.TheVariants as refusal
-use Rattle.up_server.specs.declared.request.Request.{Request}
-use Rattle.up_server.specs.declared.request.Request.TheVariants as request
-use Rattle.up_events.proofs.HistoryLemmas.{log_of-snoc, creation_of-other}
-use Rattle.up_events.specs.Delivery.{IsWithin}
-use Rattle.up_server.specs.Passage.{Passage, IsFrom}
-use Rattle.up_server.specs.Course.{AreNew, AreOfTheirLanes}
-use Rattle.up_server.proofs.Each.{AreOfLanes}
-use Rattle.up_server.specs.Sound.{IsSound, AreFed}
-use Rattle.up_server.specs.State.{State, empty_state, after, AreAdded}
-use Rattle.up_server.specs.Course.{last_after, Replies}
-use Rattle.up_server.specs.Decision.{Outcome, Answers, decide, unless, change_of, appended, rows_of}
+use Rattle.up_events.specs.declared.event.Event.{Event}
 use Rattle.up_headers.specs.Rows.{first_that_holds}
-use Rattle.up_events.proofs.JournalLemmas.{each_set, get-push}
+use Rattle.up_headers.specs.declared.request.Request.{Request}
+use Rattle.up_headers.specs.declared.request.Request.TheVariants as request
+use Rattle.up_machine.specs.Decision.{decide, unless, change_of, appended, response_to, rows_of}
+use Rattle.up_machine.specs.State.{State, empty_state, after}
+use Rattle.up_machine.specs.declared.plan.Asked.TheVariants.{Skipped}
+use Rattle.up_machine.specs.declared.plan.Done.{Done}
+use Rattle.up_machine.specs.declared.refusal.Refusal.{Refusal}
+use Rattle.up_machine.specs.declared.refusal.Refusal.TheVariants as refusal
+use Rattle.up_server.proofs.Each.{AreOfLanes}
+use Rattle.up_server.specs.Course.{AreNew, AreOfTheirLanes, last_after}
+use Rattle.up_server.specs.Passage.{Passage, IsFrom}
+use Rattle.up_server.specs.Sound.{IsSound, AreFed}
 use Rattle.up_server.specs.declared.dispatcher.Dispatcher.TheInside.{Inside}
 
 -- a log that grows at its end
@@ -44,30 +41,22 @@ from_more log more f from = record {
 from_noted : (lanes : ℕ) (changes : List Accepted) (c : Accepted) (k : ℕ) (f : Passage) → IsFrom (log_of lanes changes k) f → IsFrom (log_of lanes (changes ++ c ∷ []) k) f
 from_noted lanes changes c k f from = subst (λ l. IsFrom l f) (sym (log_of-snoc lanes changes c k)) (from_more (log_of lanes changes k) (cond (eqb (id_of c % lanes) k) (numbered (id_of c) (length (events_of changes (id_of c))) (steps_of changes c)) []) f from)
 
-within_drop : (n : ℕ) (xs : List Event) → IsWithin (drop n xs) xs
-within_drop n xs e m = subst (λ l. Contains l e) (take-append-drop n xs) (Contains-append_right (take n xs) (drop n xs) e m)
+fed_noted : (j : Records) (feeds : List Passage) (c : Accepted) → AreFed j feeds → AreFed (noted j c) feeds
+fed_noted j feeds c fed k f is = from_noted j.lanes j.accepted c k f (fed k f is)
 
-within_take : (n : ℕ) (xs : List Event) → IsWithin (take n xs) xs
-within_take n xs e m = subst (λ l. Contains l e) (take-append-drop n xs) (Contains-append_left (take n xs) (drop n xs) e m)
-
-pub within_slice : (m n : ℕ) (xs : List Event) → IsWithin (take m (drop n xs)) xs
-within_slice m n xs e c = within_drop n xs e (within_take m (drop n xs) e c)
-
-pub fed_noted : (j n : Records) (feeds : Vec Passage Global) (c : Accepted) (i : ℕ) (f0 f : Passage) (new : List Event) → AreFed j feeds.items → n ≡ noted j c → slice_get feeds.items i ≡ Some f0 → IsWithin new (lane_log n i) → ((log : List Event) → IsFrom log f0 → IsWithin new log → IsFrom log f) → AreFed n (with_item feeds i f).items
-fed_noted j n feeds c i f0 f new fed is was within put =
-    subst (λ (m : Records). AreFed m (with_item feeds i f).items) (sym is)
-    (each_set (λ k g. IsFrom (log_of j.lanes j.accepted k) g) (λ k g. IsFrom (log_of j.lanes (j.accepted ++ c ∷ []) k) g) feeds.items i f fed
-    (put (log_of j.lanes (j.accepted ++ c ∷ []) i) (from_noted j.lanes j.accepted c i f0 (fed i f0 was)) (subst (λ (m : Records). IsWithin new (lane_log m i)) is within))
-    (λ k g apart from. from_noted j.lanes j.accepted c k g from))
+-- one feed has followed its log
+fed_followed : (j : Records) (feeds : List Passage) (i : ℕ) (f0 f : Passage) → AreFed j feeds → slice_get feeds i ≡ Some f0 → (IsFrom (lane_log j i) f0 → IsFrom (lane_log j i) f) → AreFed j (slice_set feeds i f)
+fed_followed j feeds i f0 f fed was put =
+    each_set (λ k g. IsFrom (lane_log j k) g) (λ k g. IsFrom (lane_log j k) g) feeds i f fed (put (fed i f0 was)) (λ k g apart from. from)
 
 -- ---- new feeds
 
 pub AreNew-push : (n : ℕ) (feeds : List Passage) (f : Passage) → AreNew n feeds → ((log : List Event) → IsFrom log f) → AreNew (n + 1) (feeds ++ f ∷ [])
 AreNew-push n feeds f are here = record { rows = length-append feeds (f ∷ []) ∙ omega (arith, are.rows); new = get-push (λ g. (log : List Event) → IsFrom log g) feeds f are.new here }
 
-pub sound_new : (book : State) (feeds : Vec Passage Global) (lanes : ℕ) → 0 < lanes → book ≡ empty_state lanes → AreNew lanes feeds.items → IsSound (record { book = book; feeds = feeds; last_id = 0 })
+pub sound_new : (book : State) (feeds : Vec Passage Global) (lanes max_size : ℕ) → 0 < lanes → book ≡ empty_state lanes max_size → AreNew lanes feeds.items → IsSound (record { book = book; feeds = feeds; last_id = 0 })
 unfolding creation_of
-sound_new book feeds lanes some is are = record {
+sound_new book feeds lanes max_size some is are = record {
   some = subst (λ (s : State). 0 < s.journal.lanes) (sym is) some;
   rows = are.rows ∙ ap (λ (s : State). s.journal.lanes) (sym is);
   feeds = λ k f h. are.new k f h (log_of book.journal.lanes book.journal.accepted k);
@@ -99,33 +88,6 @@ pub none_reported : (journal : Records) → AreOfTheirLanes journal []
 none_reported journal zero r e = absurd (cc)
 none_reported journal (suc k) r e = absurd (cc)
 
--- ---- what a request makes of a dispatcher
-
--- a request that was carried out has the response of the decision, and its change
-pub replies_done : (d : Done) (e : Result Outcome Refusal) → Answers (Ok d) e → Replies (Ok d.response) e
-replies_done d e answer = elim answer [
-  | inl is ↦ (record { response = d.response; change = d.change }, sym is, refl)
-  | inr refused ↦ absurd (let h : Ok d ≡ Err refusal.NoMemory = refused.0 in cc)
-]
-
-unless_ok : (r : Option Refusal) (o : Outcome) (d : Done) → Ok (record { response = d.response; change = d.change }) ≡ unless r o → d.change ≡ o.change
-unless_ok None o d is = let h : record { response = d.response; change = d.change } ≡ o = cc in ap (λ (x : Outcome). x.change) h
-unless_ok (Some r) o d is = absurd (cc)
-
-pub change_done : (s : State) (request : Request) (id : ℕ) (d : Done) → Answers (Ok d) (decide s request id) → d.change ≡ change_of s request id
-change_done s request id d answer = elim answer [
-  | inl is ↦ unless_ok (first_that_holds (rows_of s request id)) _ d is
-  | inr refused ↦ absurd (let h : Ok d ≡ Err refusal.NoMemory = refused.0 in cc)
-]
-
-pub change_there : (j : Records) (change : Option Accepted) (added : Added) → AreAdded j change (Some added) → (c : Accepted) × (change ≡ Some c) × ArePlaces j c added.lane added.first added.count
-change_there j None added none = absurd none
-change_there j (Some c) added places = (c, refl, places)
-
-nothing_there : (j : Records) (change : Option Accepted) → AreAdded j change None → change ≡ None
-nothing_there j None none = refl
-nothing_there j (Some c) none = absurd none
-
 -- ---- ids
 
 -- the change creates no upload from u on
@@ -141,10 +103,14 @@ older_appended id n c u = elim (eqb n 0) as (λ b. cond b None (Some (Appended i
 ]
 
 older_change : (s : State) (asks : Request) (last : ℕ) (c : Accepted) (u : ℕ) → change_of s asks (last + 1) ≡ Some c → last_after last asks < u → IsOlder c u
+older_change s request.Options last c u is above = absurd (cc)
 older_change s (request.Create new) last c u is above =
-    let h : Created (last + 1) (made_of new).length (made_of new).kind ≡ c = cc in
+    let h : Created (last + 1) new.length new.kind ≡ c = cc in
     subst (λ d. IsOlder d u) h above
+older_change s (request.Head v) last c u is above = absurd (cc)
 older_change s (request.Patch p) last c u is above = older_appended p.id (length p.bytes) c u is
+older_change s (request.Delete v) last c u is above = let h : Terminated v ≡ c = cc in subst (λ d. IsOlder d u) h tt
+older_change s (request.Get v) last c u is above = absurd (cc)
 
 apart : (id u : ℕ) → id < u → eqb id u ≡ false
 apart id u below = elim (eqb id u) as (λ b. eqb id u ≡ b → b ≡ false) [ true ↦ λ e. let same = eqb-true id u e in absurd (omega arith) | false ↦ λ e. refl ] refl
@@ -155,8 +121,12 @@ unknown_after changes (Appended id n) u new older = ap is_some (creation_of-appe
 unknown_after changes (Terminated id) u new older = ap is_some (creation_of-terminated changes id u) ∙ new
 
 last_rises : (last : ℕ) (asks : Request) → last ≤ last_after last asks
+last_rises last request.Options = omega arith
 last_rises last (request.Create new) = omega arith
+last_rises last (request.Head u) = omega arith
 last_rises last (request.Patch p) = omega arith
+last_rises last (request.Delete u) = omega arith
+last_rises last (request.Get u) = omega arith
 
 -- ---- a dispatcher after a request
 
@@ -169,22 +139,38 @@ sound_kept a asks s sound is = record {
   fresh = λ u above. subst (λ (s : State). is_known s.journal.accepted u ≡ false) (sym is) (sound.fresh u (omega (arith, last_rises a.last_id asks)));
 }
 
--- no events were added, so there was no change
-pub sound_unchanged : (a : Inside) (asks : Request) (s : State) (d : Done) → IsSound a → s ≡ after a.book asks (a.last_id + 1) d.change → AreAdded a.book.journal d.change d.added → d.added ≡ None → IsSound (record { book = s; feeds = a.feeds; last_id = last_after a.last_id asks })
-sound_unchanged a asks s d sound is are none =
-    let same : d.change ≡ None = nothing_there a.book.journal d.change (subst (AreAdded a.book.journal d.change) none are) in
-    sound_kept a asks s sound (is ∙ ap (after a.book asks (a.last_id + 1)) same)
+sound_noted : (a : Inside) (asks : Request) (c : Accepted) → IsSound a → change_of a.book asks (a.last_id + 1) ≡ Some c → IsSound (record { book = after a.book asks (a.last_id + 1) (Some c); feeds = a.feeds; last_id = last_after a.last_id asks })
+sound_noted a asks c sound is = record {
+  some = sound.some;
+  rows = sound.rows;
+  feeds = fed_noted a.book.journal a.feeds.items c sound.feeds;
+  fresh = λ u above. unknown_after a.book.journal.accepted c u (sound.fresh u (omega (arith, last_rises a.last_id asks))) (older_change a.book asks a.last_id c u is above);
+}
 
--- the events of a change were put into the queue of its lane
-pub sound_changed : (a : Inside) (asks : Request) (s : State) (d : Done) (c : Accepted) (i : ℕ) (f0 f : Passage) (new : List Event) → IsSound a → Answers (Ok d) (decide a.book asks (a.last_id + 1)) → s ≡ after a.book asks (a.last_id + 1) d.change → d.change ≡ Some c → slice_get a.feeds.items i ≡ Some f0 → IsWithin new (lane_log s.journal i) → ((log : List Event) → IsFrom log f0 → IsWithin new log → IsFrom log f) → IsSound (record { book = s; feeds = with_item a.feeds i f; last_id = last_after a.last_id asks })
-sound_changed a asks s d c i f0 f new sound answer is some was within put =
-    let after_change : s ≡ after a.book asks (a.last_id + 1) (Some c) = is ∙ ap (after a.book asks (a.last_id + 1)) some in
-    let noted_change : s.journal ≡ noted a.book.journal c = ap (λ (s : State). s.journal) after_change in
-    let made : change_of a.book asks (a.last_id + 1) ≡ Some c = sym (change_done a.book asks (a.last_id + 1) d answer) ∙ some in
-    record {
-      some = subst (λ (j : Records). 0 < j.lanes) (sym noted_change) sound.some;
-      rows = length-set a.feeds.items i f ∙ sound.rows ∙ ap (λ (j : Records). j.lanes) (sym noted_change);
-      feeds = fed_noted a.book.journal s.journal a.feeds c i f0 f new sound.feeds noted_change was within put;
-      fresh = λ u above. subst (λ (j : Records). is_known j.accepted u ≡ false) (sym noted_change)
-          (unknown_after a.book.journal.accepted c u (sound.fresh u (omega (arith, last_rises a.last_id asks))) (older_change a.book asks a.last_id c u made above));
-    }
+sound_changed : (a : Inside) (asks : Request) (change : Option Accepted) → IsSound a → change ≡ change_of a.book asks (a.last_id + 1) → IsSound (record { book = after a.book asks (a.last_id + 1) change; feeds = a.feeds; last_id = last_after a.last_id asks })
+sound_changed a asks None sound is = sound_kept a asks a.book sound refl
+sound_changed a asks (Some c) sound is = sound_noted a asks c sound (sym is)
+
+unless_change : (r : Option Refusal) (e d : Done) → Ok d ≡ unless r e → d.change ≡ e.change
+unless_change None e d is = let h : d ≡ e = cc in ap (λ (x : Done). x.change) h
+unless_change (Some r) e d is = absurd (cc)
+
+change_done : (s : State) (asks : Request) (id : ℕ) (d : Done) → (Ok d ≡ decide s asks id Skipped) ⊎ (Ok d ≡ Err refusal.NoMemory) → d.change ≡ change_of s asks id
+change_done s asks id d (inl is) = unless_change (first_that_holds (rows_of s asks id Skipped)) (record { response = response_to s asks id; change = change_of s asks id }) d is
+change_done s asks id d (inr refused) = absurd (cc)
+
+-- a request was carried out with the next id, and no lane has followed yet
+pub sound_after : (a : Inside) (asks : Request) (id : ℕ) (s : State) (d : Done) → IsSound a → id ≡ a.last_id + 1 → (Ok d ≡ decide a.book asks id Skipped) ⊎ (Ok d ≡ Err refusal.NoMemory) → s ≡ after a.book asks id d.change → IsSound (record { book = s; feeds = a.feeds; last_id = last_after a.last_id asks })
+sound_after a asks id s d sound next decided is =
+    let made : d.change ≡ change_of a.book asks (a.last_id + 1) = change_done a.book asks id d decided ∙ ap (change_of a.book asks) next in
+    subst (λ (t : State). IsSound (record { book = t; feeds = a.feeds; last_id = last_after a.last_id asks })) (sym (is ∙ ap (λ n. after a.book asks n d.change) next))
+    (sound_changed a asks d.change sound made)
+
+-- a lane has followed its log
+pub sound_followed : (a : Inside) (i : ℕ) (f0 f : Passage) → IsSound a → slice_get a.feeds.items i ≡ Some f0 → (IsFrom (lane_log a.book.journal i) f0 → IsFrom (lane_log a.book.journal i) f) → IsSound (record { book = a.book; feeds = with_item a.feeds i f; last_id = a.last_id })
+sound_followed a i f0 f sound was put = record {
+  some = sound.some;
+  rows = length-set a.feeds.items i f ∙ sound.rows;
+  feeds = fed_followed a.book.journal a.feeds.items i f0 f sound.feeds was put;
+  fresh = sound.fresh;
+}

@@ -1,6 +1,8 @@
 -- What a lane with its queue has, after one item was taken or put.
-use Rattle.std.proofs.Common.{ℕ, inl, inr, List, [], ◌∷◌, ◌++◌, subst, Contains}
-use Rattle.std.proofs.lemmas.List.Elements.{Contains-push_cases}
+use Rattle.std.proofs.Common.{ℕ, ◌-◌, inl, inr, List, [], ◌∷◌, ◌++◌, drop, take, subst, Contains}
+use Rattle.std.proofs.lemmas.List.{take-append-drop}
+use Rattle.std.proofs.lemmas.List.Elements.{Contains-append_left, Contains-append_right, Contains-push_cases}
+use Rattle.std.specs.List.{slice_range}
 use Rattle.up_events.specs.declared.event.Event.{Event}
 use Rattle.up_server.specs.declared.queue.Item.{Item}
 use Rattle.up_server.specs.declared.queue.Item.TheVariants.{Event as AnEvent}
@@ -20,3 +22,14 @@ from_put log p held n item w new from = record {
   hands = from.hands;
   numbered = from.numbered;
 }
+
+-- ---- a part of a log
+
+within_drop : (n : ℕ) (log : List Event) → IsWithin (drop n log) log
+within_drop n log e m = subst (λ l. Contains l e) (take-append-drop n log) (Contains-append_right (take n log) (drop n log) e m)
+
+within_take : (n : ℕ) (log : List Event) → IsWithin (take n log) log
+within_take n log e m = subst (λ l. Contains l e) (take-append-drop n log) (Contains-append_left (take n log) (drop n log) e m)
+
+pub within_range : (start end : ℕ) (log : List Event) → IsWithin (slice_range log start end) log
+within_range start end log e m = within_drop start log e (within_take (end - start) (drop start log) e m)

@@ -1,6 +1,3 @@
-pub mod UploadsLemmas
-pub mod FitsLemmas
-pub mod DecisionLemmas
 pub mod Prefixes
 pub mod HandsLemmas
 pub mod FeedLemmas

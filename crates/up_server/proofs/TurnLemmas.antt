@@ -1,25 +1,33 @@
 -- What a message, and many of them, leave of a dispatcher's history, and that the last one ends a conversation.
-use Rattle.std.proofs.Common.{◌≡◌, ℕ, zero, suc, eqb, true, add-one, ◌+◌, ◌≤◌, Bool, Option, Some, None, List, [], ◌∷◌, refl, sym, ap, ◌∙◌, subst, arith}
+use Rattle.std.proofs.Common.{◌≡◌, ◌⊎◌, inl, inr, ℕ, zero, suc, eqb, true, add-one, ◌+◌, ◌≤◌, Bool, Option, Some, None, Result, Ok, Err, List, [], ◌∷◌, refl, sym, ap, ◌∙◌, subst, arith}
+use Rattle.std.proofs.lemmas.Bool.{eq-eqb}
 use Rattle.up_events.specs.Delivery.{IsPrefix}
 use Rattle.up_events.specs.declared.event.Accepted.{Accepted}
+use Rattle.up_headers.specs.declared.request.Request.{Request}
+use Rattle.up_headers.specs.declared.request.Request.TheVariants as request
+use Rattle.up_machine.specs.Decision.{decide}
+use Rattle.up_machine.specs.State.{State, after}
+use Rattle.up_machine.specs.declared.plan.Asked.TheVariants.{Skipped}
+use Rattle.up_machine.specs.declared.plan.Done.{Done}
+use Rattle.up_machine.specs.declared.refusal.Refusal.{Refusal}
 use Rattle.up_server.proofs.Prefixes.{prefix_same, prefix_then}
-use Rattle.up_server.specs.Course.{Course, carried_out, last_after}
-use Rattle.up_server.specs.Decision.{change_of}
-use Rattle.up_server.specs.State.{State, after}
+use Rattle.up_server.specs.Course.{Course, IsAnsweredTo, IsDecided, IsOutOfMemory, last_after}
 use Rattle.up_server.specs.Turn.{GoesOn, IsFaultSent, IsServed, Sends, Stand, TakesTurn, Passes, unanswered}
-use Rattle.std.proofs.lemmas.Bool.{eq-eqb}
+use Rattle.up_server.specs.declared.conversation.Ended.{Ended}
 use Rattle.up_wire.specs.Device.{Device}
 use Rattle.up_wire.specs.Response.{response_text}
-use Rattle.up_wire.specs.declared.wire_fault.WireFault.{WireFault}
-use Rattle.up_server.specs.declared.conversation.Ended.{Ended}
 use Rattle.up_wire.specs.declared.message.Taken.{Taken}
-use Rattle.up_server.specs.declared.request.Request.{Request}
-use Rattle.up_server.specs.declared.request.Request.TheVariants as request
+use Rattle.up_wire.specs.declared.response.Response.{Response}
+use Rattle.up_wire.specs.declared.wire_fault.WireFault.{WireFault}
 
 -- one message takes one id at most
 last_within : (last : ℕ) (asks : Request) → last_after last asks ≤ last + 1
+last_within last request.Options = omega arith
 last_within last (request.Create new) = omega arith
+last_within last (request.Head u) = omega arith
 last_within last (request.Patch p) = omega arith
+last_within last (request.Delete u) = omega arith
+last_within last (request.Get u) = omega arith
 
 -- nothing happened
 pub goes_on_same : (old : Course) → GoesOn 0 old old
@@ -37,31 +45,34 @@ goes_on_then m n old mid new one two = record {
 pub goes_on_within : (m n : ℕ) (old new : Course) → m ≤ n → GoesOn m old new → GoesOn n old new
 goes_on_within m n old new le goes = record { lanes = goes.lanes; history = goes.history; ids = omega (arith, goes.ids) }
 
-after_lanes : (s : State) (asks : Request) (id : ℕ) (change : Option Accepted) → (after s asks id change).journal.lanes ≡ s.journal.lanes
-after_lanes s asks id None = refl
-after_lanes s asks id (Some c) = refl
+-- the lanes are the same, and the history has grown at its end
+abbrev Grows : State → State → Type 0
+Grows old new = (new.journal.lanes ≡ old.journal.lanes) × IsPrefix old.journal.accepted new.journal.accepted
 
-after_history : (s : State) (asks : Request) (id : ℕ) (change : Option Accepted) → IsPrefix s.journal.accepted (after s asks id change).journal.accepted
-after_history s asks id None = prefix_same s.journal.accepted
-after_history s asks id (Some c) = (c ∷ [], refl)
+grows_same : (old new : State) → new ≡ old → Grows old new
+grows_same old new is = subst (Grows old) (sym is) (refl, prefix_same old.journal.accepted)
 
--- a request was carried out
-pub goes_on_done : (old new : Course) (asks : Request) → new.book ≡ carried_out old.book asks (old.last_id + 1) → new.last_id ≡ last_after old.last_id asks → GoesOn 1 old new
-goes_on_done old new asks is last =
-    let change = change_of old.book asks (old.last_id + 1) in
+grows_after : (old : State) (asks : Request) (id : ℕ) (change : Option Accepted) → Grows old (after old asks id change)
+grows_after old asks id None = grows_same old old refl
+grows_after old asks id (Some c) = (refl, (c ∷ [], refl))
+
+grows_decided : (old new : State) (asks : Request) (id : ℕ) (response : Response) (decision : Result Done Refusal) → IsDecided old new asks id response decision → Grows old new
+grows_decided old new asks id response (Ok d) is = subst (Grows old) (sym is.1) (grows_after old asks id d.change)
+grows_decided old new asks id response (Err refused) is = grows_same old new is.1
+
+grows_answered : (old new : State) (asks : Request) (id : ℕ) (response : Response) (decision : Result Done Refusal) → IsDecided old new asks id response decision ⊎ IsOutOfMemory old new response → Grows old new
+grows_answered old new asks id response decision (inl is) = grows_decided old new asks id response decision is
+grows_answered old new asks id response decision (inr none) = grows_same old new none.1
+
+-- a request was answered
+pub goes_on_answered : (old new : Course) (asks : Request) (response : Response) → IsAnsweredTo old new asks response → GoesOn 1 old new
+goes_on_answered old new asks response is =
+    let grown = grows_answered old.book new.book asks (old.last_id + 1) response (decide old.book asks (old.last_id + 1) Skipped) is.answer in
     record {
-      lanes = ap (λ (s : State). s.journal.lanes) is ∙ after_lanes old.book asks (old.last_id + 1) change;
-      history = subst (λ (s : State). IsPrefix old.book.journal.accepted s.journal.accepted) (sym is) (after_history old.book asks (old.last_id + 1) change);
-      ids = omega (arith, last, last_within old.last_id asks);
+      lanes = grown.0;
+      history = grown.1;
+      ids = omega (arith, is.ids, last_within old.last_id asks);
     }
-
--- a request was refused
-pub goes_on_refused : (old new : Course) (asks : Request) → new.book ≡ old.book → new.last_id ≡ last_after old.last_id asks → GoesOn 1 old new
-goes_on_refused old new asks is last = record {
-  lanes = ap (λ (s : State). s.journal.lanes) is;
-  history = subst (λ (s : State). IsPrefix old.book.journal.accepted s.journal.accepted) (sym is) (prefix_same old.book.journal.accepted);
-  ids = omega (arith, last, last_within old.last_id asks);
-}
 
 -- ---- turns
 

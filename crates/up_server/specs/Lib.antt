@@ -1,11 +1,4 @@
 -- The definitions that the contracts cite.
-pub mod Content
-pub mod Refusals
-pub mod Responses
-pub mod State
-pub mod StateCode
-pub mod Decision
-pub mod Fits
 pub mod Hands
 pub mod Counting
 pub mod Passage

@@ -3,11 +3,11 @@ use Rattle.std.specs.Prelude.{◌≡◌, ◌⊎◌, ℕ, Bool, true, false, List
 use Rattle.std.specs.Io.KnownBytes.{Appends}
 use Rattle.std.specs.List.{list_any}
 use Rattle.up_events.specs.Delivery.{IsDelivered}
+use Rattle.up_machine.specs.State.{empty_state}
 use Rattle.up_server.specs.Course.{Course, AreOfTheirLanes}
 use Rattle.up_server.specs.ReportText.{report_text}
 use Rattle.up_wire.specs.Device.{Device, GaveUp}
 use Rattle.up_wire.specs.Response.{WritesFront}
-use Rattle.up_server.specs.State.{empty_state}
 use Rattle.up_server.specs.Turn.{Converses}
 use Rattle.up_server.specs.declared.conversation.Ended.{Ended}
 use Rattle.up_server.specs.declared.conversation.Ended.TheVariants.{Closed, Cut, ReadFailed, WriteFailed}
@@ -20,13 +20,13 @@ use Rattle.up_server.specs.declared.server_fault.ServerFault.TheVariants as Faul
 use Rattle.up_server.specs.declared.settings.Settings.{Settings}
 
 -- a new server
-abbrev pub new_server : ℕ → Course
-new_server lanes = record { book = empty_state lanes; last_id = 0 }
+abbrev pub new_server : Settings → Course
+new_server settings = record { book = empty_state settings.lanes settings.max_size; last_id = 0 }
 
 -- one conversation was served on a new server, and the report tells what was accepted and what each lane handed over
 pub record IsRun (settings : Settings) (served : Served) (source source_after sink sink_after : Device) : Type 0 where
   pub course : Course
-  pub converses : Converses settings.max_size (record { course = new_server settings.lanes; source = source; sink = sink }) (record { course = course; source = source_after; sink = sink_after }) served.ended
+  pub converses : Converses settings.max_size (record { course = new_server settings; source = source; sink = sink }) (record { course = course; source = source_after; sink = sink_after }) served.ended
   pub accepted : served.report.accepted.items ≡ course.book.journal.accepted
   pub lanes : length served.report.lanes.items ≡ settings.lanes
   pub own : AreOfTheirLanes course.book.journal served.report.lanes.items

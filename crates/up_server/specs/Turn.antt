@@ -2,6 +2,14 @@
 use Rattle.std.specs.Prelude.{◌≡◌, ℕ, zero, suc, ◌+◌, ◌-◌, ◌≤◌, ◌==◌, ◌||◌, Bool, true, false, List, Option, Some, None, Result, Ok, Err}
 use Rattle.std.specs.Io.KnownBytes.{Appends}
 use Rattle.up_events.specs.Delivery.{IsPrefix}
+use Rattle.up_headers.specs.Table.{IsAnswer}
+use Rattle.up_headers.specs.declared.header_fault.HeaderFault.{HeaderFault}
+use Rattle.up_headers.specs.declared.request.Request.{Request}
+use Rattle.up_headers.specs.declared.request.Request.TheVariants as request
+use Rattle.up_server.specs.Course.{Course, IsAnsweredTo}
+use Rattle.up_server.specs.Replies.{IsReply, reply_to_header_fault, reply_to_wire_fault}
+use Rattle.up_server.specs.declared.conversation.Ended.{Ended}
+use Rattle.up_server.specs.declared.conversation.Ended.TheVariants.{Closed, Cut, ReadFailed, WriteFailed}
 use Rattle.up_wire.specs.Device.{Device, GaveUp}
 use Rattle.up_wire.specs.Reading.{IsReading}
 use Rattle.up_wire.specs.Response.{WritesFront, response_text}
@@ -10,69 +18,31 @@ use Rattle.up_wire.specs.declared.message.Taken.{Taken}
 use Rattle.up_wire.specs.declared.response.Response.{Response}
 use Rattle.up_wire.specs.declared.wire_fault.WireFault.{WireFault}
 use Rattle.up_wire.specs.declared.wire_fault.WireFault.TheVariants as Fault
-use Rattle.up_server.specs.Course.{Course, Replies, carried_out, last_after}
-use Rattle.up_server.specs.Decision.{decide}
-use Rattle.up_server.specs.Replies.{IsReply, reply_to_header_fault, reply_to_refusal, reply_to_wire_fault}
-use Rattle.up_headers.specs.Table.{IsAnswer}
-use Rattle.up_server.specs.Responses.{can_do}
-use Rattle.up_server.specs.declared.conversation.Ended.{Ended}
-use Rattle.up_server.specs.declared.conversation.Ended.TheVariants.{Closed, Cut, ReadFailed, WriteFailed}
-use Rattle.up_headers.specs.declared.header_fault.HeaderFault.{HeaderFault}
-use Rattle.up_headers.specs.declared.header_fault.HeaderFault.TheVariants.{Method}
-use Rattle.up_headers.specs.declared.request.Request.{Request as Asked}
-use Rattle.up_headers.specs.declared.request.Request.TheVariants as asked
-use Rattle.up_server.specs.declared.refusal.Refusal.{Refusal}
-use Rattle.up_server.specs.declared.request.Request.{Request}
-use Rattle.up_server.specs.declared.request.Request.TheVariants as request
 
--- the answer to what was decided, and the book after it
-abbrev pub IsDone : Course → Course → Request → Response → Result Response Refusal → Type 0
-IsDone old new request response (Ok made) = (response ≡ made) × (new.book ≡ carried_out old.book request (old.last_id + 1))
-IsDone old new request response (Err refused) = IsReply (reply_to_refusal refused) response × (new.book ≡ old.book)
-
--- the answer to a request that changes uploads, and the book after it
-abbrev pub IsCommitted : Course → Course → Response → Request → Type 0
-IsCommitted old new response request =
-    (decided : Result Response Refusal) × Replies decided (decide old.book request (old.last_id + 1))
-    × IsDone old new request response decided × (new.last_id ≡ last_after old.last_id request)
-
--- the answer to a request that no upload serves yet
-abbrev pub IsUnserved : Course → Course → Response → Type 0
-IsUnserved old new response = IsReply (reply_to_header_fault (Method true)) response × (new ≡ old)
-
--- the answer to a request, and the book after it
-abbrev pub IsAnsweredTo : ℕ → Course → Course → Response → Asked → Type 0
-IsAnsweredTo max_size old new response asked.Options = IsReply (can_do max_size) response × (new ≡ old)
-IsAnsweredTo max_size old new response (asked.Create made) = IsCommitted old new response (request.Create made)
-IsAnsweredTo max_size old new response (asked.Head id) = IsUnserved old new response
-IsAnsweredTo max_size old new response (asked.Patch p) = IsCommitted old new response (request.Patch p)
-IsAnsweredTo max_size old new response (asked.Delete id) = IsUnserved old new response
-IsAnsweredTo max_size old new response (asked.Get id) = IsUnserved old new response
-
--- the answer to a message that reads so, and the book after it
-abbrev pub IsAnswered : ℕ → Course → Course → Response → Result Asked HeaderFault → Type 0
-IsAnswered max_size old new response (Err fault) = IsReply (reply_to_header_fault fault) response × (new ≡ old)
-IsAnswered max_size old new response (Ok asked) = IsAnsweredTo max_size old new response asked
+-- the answer to a message that reads so, and the dispatcher after it
+abbrev pub IsAnswered : Course → Course → Response → Result Request HeaderFault → Type 0
+IsAnswered old new response (Err fault) = IsReply (reply_to_header_fault fault) response × (new ≡ old)
+IsAnswered old new response (Ok request) = IsAnsweredTo old new request response
 
 -- the message is read as a request, the request is decided, and that is answered
 abbrev pub IsTurn : Message → ℕ → Course → Course → Response → Type 0
 IsTurn m max_size old new response =
-    (read : Result Asked HeaderFault) × IsAnswer m max_size read × IsAnswered max_size old new response read
+    (read : Result Request HeaderFault) × IsAnswer m max_size read × IsAnswered old new response read
 
 -- an append is carried out, and its answer dropped; nothing else is
-abbrev pub IsCarriedOut : Course → Course → Result Asked HeaderFault → Type 0
+abbrev pub IsCarriedOut : Course → Course → Result Request HeaderFault → Type 0
 IsCarriedOut old new (Err fault) = new ≡ old
-IsCarriedOut old new (Ok asked.Options) = new ≡ old
-IsCarriedOut old new (Ok (asked.Create made)) = new ≡ old
-IsCarriedOut old new (Ok (asked.Head id)) = new ≡ old
-IsCarriedOut old new (Ok (asked.Patch p)) = (response : Response) × IsCommitted old new response (request.Patch p)
-IsCarriedOut old new (Ok (asked.Delete id)) = new ≡ old
-IsCarriedOut old new (Ok (asked.Get id)) = new ≡ old
+IsCarriedOut old new (Ok request.Options) = new ≡ old
+IsCarriedOut old new (Ok (request.Create made)) = new ≡ old
+IsCarriedOut old new (Ok (request.Head u)) = new ≡ old
+IsCarriedOut old new (Ok (request.Patch p)) = (response : Response) × IsAnsweredTo old new (request.Patch p) response
+IsCarriedOut old new (Ok (request.Delete u)) = new ≡ old
+IsCarriedOut old new (Ok (request.Get u)) = new ≡ old
 
 -- a message that broke off is read as a request
 abbrev pub IsCutTurn : Message → ℕ → Course → Course → Type 0
 IsCutTurn m max_size old new =
-    (read : Result Asked HeaderFault) × IsAnswer m max_size read × IsCarriedOut old new read
+    (read : Result Request HeaderFault) × IsAnswer m max_size read × IsCarriedOut old new read
 
 -- so many messages later: the lanes are the same, the history has grown at its end, and each message took an id at most
 pub record GoesOn (turns : ℕ) (old new : Course) : Type 0 where

@@ -2,17 +2,12 @@
 ghost use Rattle.std.specs.Prelude.{◌≡◌, ◌+◌, ◌<◌, ◌≤◌, ◌^◌};
 ghost use Rattle.up_wire.specs.Device.{device};
 ghost use Rattle.up_wire.specs.Response.{response_text};
-ghost use Rattle.up_headers.specs.Table.{FitsWithin};
-ghost use Rattle.up_server.specs.State.{IsBounded};
-ghost use Rattle.up_server.specs.Turn.{IsCommitted, IsAnsweredTo, IsTurn, IsCutTurn, Converses, GoesOn, Sends, TakesTurn, unanswered};
+ghost use Rattle.up_server.specs.Turn.{IsTurn, IsCutTurn, Converses, GoesOn, Sends, TakesTurn, unanswered};
 
 use crate::dispatcher::Dispatcher;
-use crate::reply::{
-    reply_to_header_fault, reply_to_options, reply_to_refusal, reply_to_wire_fault,
-};
-use crate::request::Request;
+use crate::reply::{reply_to_header_fault, reply_to_wire_fault};
 use std::alloc::Global;
-use up_headers::{HeaderFault, Request as Asked, request_of};
+use up_headers::{Request, request_of};
 use up_wire::{
     Limits, Message, Response, Sink, Source, Taken, WireFault, WriteFailed, read_message,
     write_response,
@@ -20,9 +15,6 @@ use up_wire::{
 
 /// The most messages of a conversation.
 const MOST_MESSAGES: u64 = 10_000;
-
-/// The fault of a method that uploads are to serve, and don't yet.
-const UNSERVED: HeaderFault = HeaderFault::Method { of_upload: true };
 
 /// How a conversation ended.
 #[derive(Clone, Copy, Debug, PartialEq, Eq)]
@@ -38,42 +30,6 @@ pub enum Ended {
     WriteFailed,
 }
 
-/// What is answered to a request that changes uploads, after it was carried out.
-fn commit(alloc: Global, dispatcher: &mut Dispatcher, request: Request) -> Response
-    requires bounded { IsBounded request }
-    requires room { dispatcher.old.last_id + 1 < 2 ^ 64 }
-    ensures answered { IsCommitted dispatcher.old dispatcher.new result request }
-    ensures goes_on { GoesOn 1 dispatcher.old dispatcher.new }
-{
-    match dispatcher.commit(alloc, request) {
-        Ok(response) => response,
-        Err(refusal) => reply_to_refusal(alloc, refusal),
-    }
-}
-
-/// What is answered to a request, after it was carried out. Uploads serve no HEAD, GET and DELETE yet.
-fn answer_to_request(
-    alloc: Global,
-    dispatcher: &mut Dispatcher,
-    request: Asked,
-    max_size: u64,
-) -> Response
-    requires small { max_size ≤ 2 ^ 30 }
-    requires bounded { FitsWithin max_size request }
-    requires room { dispatcher.old.last_id + 1 < 2 ^ 64 }
-    ensures answered { IsAnsweredTo max_size dispatcher.old dispatcher.new result request }
-    ensures goes_on { GoesOn 1 dispatcher.old dispatcher.new }
-{
-    match request {
-        Asked::Options => reply_to_options(alloc, max_size),
-        Asked::Create(new) => commit(alloc, dispatcher, Request::Create(new)),
-        Asked::Patch(patch) => commit(alloc, dispatcher, Request::Patch(patch)),
-        Asked::Head(_) => reply_to_header_fault(alloc, UNSERVED),
-        Asked::Delete(_) => reply_to_header_fault(alloc, UNSERVED),
-        Asked::Get(_) => reply_to_header_fault(alloc, UNSERVED),
-    }
-}
-
 /// What is answered to a message, after what it asks for was carried out.
 fn answer_to(
     alloc: Global,
@@ -87,7 +43,7 @@ fn answer_to(
     ensures goes_on { GoesOn 1 dispatcher.old dispatcher.new }
 {
     match request_of(alloc, message, max_size) {
-        Ok(request) => answer_to_request(alloc, dispatcher, request, max_size),
+        Ok(request) => dispatcher.answer(alloc, request),
         Err(fault) => reply_to_header_fault(alloc, fault),
     }
 }
@@ -101,14 +57,14 @@ fn carry_out_cut(alloc: Global, dispatcher: &mut Dispatcher, message: Message, m
 {
     match request_of(alloc, message, max_size) {
         Ok(request) => match request {
-            Asked::Patch(patch) => {
-                commit(alloc, dispatcher, Request::Patch(patch));
+            Request::Patch(patch) => {
+                dispatcher.answer(alloc, Request::Patch(patch));
             }
-            Asked::Options => {}
-            Asked::Create(_) => {}
-            Asked::Head(_) => {}
-            Asked::Delete(_) => {}
-            Asked::Get(_) => {}
+            Request::Options => {}
+            Request::Create(_) => {}
+            Request::Head(_) => {}
+            Request::Delete(_) => {}
+            Request::Get(_) => {}
         },
         Err(_) => {}
     }

@@ -1,14 +1,18 @@
 //! Requests come in, and the events of each upload go to its lane.
-ghost use Rattle.std.specs.Prelude.{◌≡◌, ℕ, ◌+◌, ◌<◌, ◌≤◌, ◌^◌, IfOk, OnOk, OnErr, All, length};
+ghost use Rattle.std.specs.Prelude.{◌≡◌, ◌⊎◌, ◌+◌, ◌<◌, ◌≤◌, ◌^◌, Err, IfOk, OnErr, All, length};
+ghost use Rattle.up_headers.specs.Table.{FitsWithin};
+ghost use Rattle.up_machine.specs.Decision.{decide};
+ghost use Rattle.up_machine.specs.State.{after};
+ghost use Rattle.up_machine.specs.declared.plan.Asked.TheVariants.{Skipped};
 ghost use Rattle.up_server.specs.Course.{AreNew, last_after};
 
-use crate::book::Book;
 use crate::feed::{Feed, LaneReport};
-use crate::refusal::Refusal;
-use crate::request::Request;
+use crate::reply::reply_to_refusal;
 use std::alloc::Global;
 use std::marker::Model;
 use up_events::{Accepted, Id, NoMemory};
+use up_headers::Request;
+use up_machine::{Asked, Book, Done, Plan, Refusal};
 use up_wire::Response;
 
 /// What came of a run: the accepted changes in order, and for each lane in order what it handed over.
@@ -60,48 +64,71 @@ fn last_after(last: u64, request: &Request) -> u64
 {
     match request {
         Request::Create(_) => last + 1,
-        Request::Patch(_) => last,
+        _ => last,
+    }
+}
+
+/// Decides on a request, and carries it out where nothing refuses it. The id is for a new upload. A request that changes
+/// nothing is answered by its plan.
+fn carry_out(book: &mut Book, alloc: Global, request: Request, id: Id) -> Result<Done, Refusal>
+    requires bounded { FitsWithin (2 ^ 30) request }
+    ensures decided { (result ≡ decide book.old request id Skipped) ⊎ (result ≡ Err Refusal.NoMemory) }
+    ensures ok { IfOk result (λ done. book.new ≡ after book.old request id done.change) }
+    ensures err { OnErr result (book.new ≡ book.old) }
+{
+    match book.plan(alloc, &request)? {
+        Plan::Answer(response) => Ok(Done::unchanged(response)),
+        Plan::Ready => book.commit(alloc, request, id, &Asked::Skipped),
     }
 }
 
 impl Dispatcher {
     ghost use Rattle.up_events.specs.Delivery.{IsDelivered};
-    ghost use Rattle.up_server.specs.Course.{Course, AreOfTheirLanes, Replies, carried_out};
-    ghost use Rattle.up_server.specs.Decision.{decide};
-    ghost use Rattle.up_server.specs.State.{IsBounded, empty_state};
+    ghost use Rattle.up_machine.specs.State.{empty_state};
+    ghost use Rattle.up_server.specs.Course.{AreOfTheirLanes, IsAnsweredTo};
 
-    /// A dispatcher with no upload.
-    pub fn new(alloc: Global, lanes: u64, capacity: u64) -> Result<Self, NoMemory>
+    /// A dispatcher with no upload, that tells clients of this most size of an upload, in bytes.
+    pub fn new(alloc: Global, lanes: u64, capacity: u64, max_size: u64) -> Result<Self, NoMemory>
         requires some_lane { 0 < lanes }
         requires few_lanes { lanes ≤ 16 }
-        ensures { IfOk result (λ dispatcher. dispatcher ≡ record { book = empty_state lanes; last_id = 0 }) }
+        ensures { IfOk result (λ dispatcher. dispatcher ≡ record { book = empty_state lanes max_size; last_id = 0 }) }
     {
         Ok(Dispatcher {
-            book: Book::new(alloc, lanes)?,
+            book: Book::new(alloc, lanes, max_size)?,
             feeds: new_feeds(alloc, lanes, capacity)?,
             last_id: 0,
         })
     }
 
-    /// Carries the request out, and puts the events of its change. Each creation takes the next id, whatever
-    /// becomes of it.
-    pub fn commit(&mut self, alloc: Global, request: Request) -> Result<Response, Refusal>
-        requires bounded { IsBounded request }
+    /// Has the lane of the upload follow its log.
+    fn follow(&mut self, id: Id)
+        ensures { self.new ≡ self.old }
+    {
+        let lane = id.lane(self.feeds.len() as u64);
+        let log = self.book.journal().lane_log(lane);
+        let feed = &mut self.feeds[lane as usize];
+        feed.follow(log);
+    }
+
+    /// Answers a request, after it was carried out where nothing refuses it, and has the lane of its change follow. Each
+    /// creation takes the next id, whatever becomes of it. Where memory is wanting, an empty 503 is answered, and the book
+    /// is as it was.
+    pub fn answer(&mut self, alloc: Global, request: Request) -> Response
+        requires bounded { FitsWithin (2 ^ 30) request }
         requires room { self.old.last_id + 1 < 2 ^ 64 }
-        ensures answer { Replies result (decide self.old.book request (self.old.last_id + 1)) }
-        ensures ok { OnOk result (self.new.book ≡ carried_out self.old.book request (self.old.last_id + 1)) }
-        ensures err { OnErr result (self.new.book ≡ self.old.book) }
-        ensures ids { self.new.last_id ≡ last_after self.old.last_id request }
+        ensures { IsAnsweredTo self.old self.new request result }
     {
         let id = Id::new(u128::from(self.last_id + 1));
         self.last_id = last_after(self.last_id, &request);
-        let done = self.book.commit(alloc, request, id)?;
-        if let Some(added) = done.added {
-            let log = self.book.journal().lane_log(added.lane);
-            let feed = &mut self.feeds[added.lane as usize];
-            feed.put_all(&log[added.first as usize..]);
+        match carry_out(&mut self.book, alloc, request, id) {
+            Ok(Done { response, change }) => {
+                if let Some(change) = change {
+                    self.follow(change.id());
+                }
+                response
+            }
+            Err(refusal) => reply_to_refusal(alloc, &refusal),
         }
-        Ok(done.response)
     }
 
     /// Ends each lane, in their order. Of each upload the first of its events were handed over, by its lane, each once

@@ -42,6 +42,8 @@ pub struct Feed {
     lane: Lane,
     /// How many items more were put than taken.
     unread: u64,
+    /// How many events of the lane's log were put, or dropped since the lane has stopped.
+    seen: usize,
     stopped: bool,
 }
 
@@ -65,6 +67,7 @@ impl Feed {
             queue: Queue::new(alloc, capacity)?,
             lane: Lane::new(alloc),
             unread: 0,
+            seen: 0,
             stopped: false,
         })
     }
@@ -138,11 +141,21 @@ impl Feed {
     }
 
     /// Puts the events in their order.
-    pub fn put_all(&mut self, events: &[Event])
+    fn put_all(&mut self, events: &[Event])
         ensures { (log : List AnEvent) → IsFrom log self.old → IsWithin events.now log → IsFrom log self.new }
     {
         for event in events {
             self.put(Item::Event(*event));
+        }
+    }
+
+    /// Puts the events of the lane's log that weren't put yet.
+    pub fn follow(&mut self, log: &[Event])
+        ensures { (whole : List AnEvent) → IsFrom whole self.old → IsWithin log.now whole → IsFrom whole self.new }
+    {
+        if let Some(new) = log.get(self.seen..) {
+            self.put_all(new);
+            self.seen = log.len();
         }
     }
 

@@ -2,24 +2,17 @@
 //! post-hook. `replay` serves one conversation from standard input to standard output.
 #![tactic(auto)]
 
-mod answer;
-mod book;
 mod command_line;
 mod conversation;
 mod dispatcher;
 mod feed;
 mod lane;
-mod patch_checks;
 mod queue;
-mod refusal;
 mod replay;
 mod reply;
 mod report;
-mod request;
 mod server_fault;
 mod settings;
-mod upload;
-mod uploads;
 
 use command_line::{WordsFault, words};
 use server_fault::ServerFault;

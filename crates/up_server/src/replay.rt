@@ -34,7 +34,12 @@ fn run<R: Source, W: Sink>(
         (device (W.written sink.old) (W.has_failed sink.old) (W.interruptions sink.old))
         (device (W.written sink.new) (W.has_failed sink.new) (W.interruptions sink.new))) }
 {
-    let mut dispatcher = Dispatcher::new(alloc, settings.lanes, settings.capacity)?;
+    let mut dispatcher = Dispatcher::new(
+        alloc,
+        settings.lanes,
+        settings.capacity,
+        settings.max_size,
+    )?;
     let ended = converse(alloc, &mut dispatcher, settings.max_size, source, sink);
     let report = dispatcher.finish(alloc)?;
     Ok(Served { report, ended })

@@ -1,23 +1,77 @@
-//! What is answered where a message is refused.
-ghost use Rattle.std.specs.Prelude.{◌≡◌};
-ghost use Rattle.up_server.specs.Responses.{can_do};
-ghost use Rattle.up_server.specs.Replies.{IsReply, reply_to_wire_fault, reply_to_header_fault, reply_to_refusal};
+//! What is answered where a message or a request is refused.
+ghost use Rattle.std.specs.Prelude.{◌≡◌, ◌++◌, ◌∷◌, [], IfOk};
+ghost use Rattle.up_machine.specs.Refusals.{response_of};
+ghost use Rattle.up_machine.specs.Responses.{out_of_memory, plain_text, refused_with};
+ghost use Rattle.up_server.specs.Replies.{IsReply, method_refused_with, reply_to_header_fault, reply_to_wire_fault, version_refused_with};
 
-use crate::answer::{method_refused, no_memory, refused, to_options, version_refused};
-use crate::refusal::Refusal;
-use std::alloc::Global;
+use bytes::Bytes;
+use std::alloc::{AllocError, Global};
 use up_headers::HeaderFault;
+use up_machine::{Refusal, response_of};
 use up_wire::{Response, WireFault};
+
+/// With a text that says why, behind the fields that there are.
+fn with_reason(
+    response: Response,
+    alloc: Global,
+    text: &'static str,
+) -> Result<Response, AllocError>
+    ensures { IfOk result (λ made. made ≡ record response { fields = response.fields ++ plain_text ∷ []; body = text.now }) }
+{
+    let response = response.with_field(alloc, b"Content-Type", b"text/plain")?;
+    Ok(response.with_body(Bytes::from_static(text.as_bytes())))
+}
+
+/// To a message that is refused: why, as plain text.
+fn refused(alloc: Global, status: u16, text: &'static str) -> Result<Response, AllocError>
+    ensures { IfOk result (λ made. made ≡ refused_with status text.now) }
+{
+    with_reason(Response::new(alloc, status), alloc, text)
+}
+
+/// To a message of another version of the protocol: which version there is (tus 1.0.0, Tus-Version), and why.
+fn version_refused(alloc: Global, status: u16, text: &'static str) -> Result<Response, AllocError>
+    ensures { IfOk result (λ made. made ≡ version_refused_with status text.now) }
+{
+    let response = Response::new(alloc, status).with_field(alloc, b"Tus-Version", b"1.0.0")?;
+    with_reason(response, alloc, text)
+}
+
+/// To a message whose method is refused: which methods there are at an upload or at the creation URL (RFC 9110,
+/// section 10.2.1), and why.
+fn method_refused(
+    alloc: Global,
+    status: u16,
+    text: &'static str,
+    of_upload: bool,
+) -> Result<Response, AllocError>
+    ensures { IfOk result (λ made. made ≡ method_refused_with status text.now of_upload) }
+{
+    let methods: &[u8] = if of_upload {
+        b"OPTIONS, HEAD, GET, PATCH, DELETE"
+    } else {
+        b"OPTIONS, POST"
+    };
+    let response = Response::new(alloc, status).with_field(alloc, b"Allow", methods)?;
+    with_reason(response, alloc, text)
+}
+
+/// Where memory is wanting (RFC 9110, section 15.6.4). Takes no memory itself.
+fn out_of_memory(alloc: Global) -> Response
+    ensures { result ≡ out_of_memory }
+{
+    Response::new(alloc, 503)
+}
 
 /// What is answered to a message that can't be read. Where memory is wanting, that is answered instead.
 pub fn reply_to_wire_fault(alloc: Global, fault: WireFault) -> Response
     ensures { IsReply (reply_to_wire_fault fault) result }
 {
     let made = match fault {
-        WireFault::NoMemory => return no_memory(alloc),
+        WireFault::NoMemory => return out_of_memory(alloc),
         _ => refused(alloc, fault.status(), fault.text()),
     };
-    made.unwrap_or(no_memory(alloc))
+    made.unwrap_or(out_of_memory(alloc))
 }
 
 /// What is answered to a message that is no request. Where memory is wanting, that is answered instead.
@@ -25,30 +79,37 @@ pub fn reply_to_header_fault(alloc: Global, fault: HeaderFault) -> Response
     ensures { IsReply (reply_to_header_fault fault) result }
 {
     let made = match fault {
-        HeaderFault::NoMemory => return no_memory(alloc),
+        HeaderFault::NoMemory => return out_of_memory(alloc),
         HeaderFault::Version => version_refused(alloc, fault.status(), fault.text()),
         HeaderFault::Method { of_upload } => {
             method_refused(alloc, fault.status(), fault.text(), of_upload)
         }
         _ => refused(alloc, fault.status(), fault.text()),
     };
-    made.unwrap_or(no_memory(alloc))
-}
-
-/// What is answered to a question for what the server can do. Where memory is wanting, that is answered instead.
-pub fn reply_to_options(alloc: Global, max_size: u64) -> Response
-    ensures { IsReply (can_do max_size) result }
-{
-    to_options(alloc, max_size).unwrap_or(no_memory(alloc))
+    made.unwrap_or(out_of_memory(alloc))
 }
 
 /// What is answered to a request that is refused. Where memory is wanting, that is answered instead.
-pub fn reply_to_refusal(alloc: Global, refusal: Refusal) -> Response
-    ensures { IsReply (reply_to_refusal refusal) result }
+pub fn reply_to_refusal(alloc: Global, refusal: &Refusal) -> Response
+    ensures { IsReply (response_of refusal.now) result }
 {
-    let made = match refusal {
-        Refusal::NoMemory => return no_memory(alloc),
-        _ => refused(alloc, refusal.status(), refusal.text()),
-    };
-    made.unwrap_or(no_memory(alloc))
+    response_of(alloc, refusal).unwrap_or(out_of_memory(alloc))
+}
+
+#[cfg(test)]
+mod tests {
+    use super::*;
+
+    #[test]
+    fn says_no_more_than_503_where_memory_is_wanting(rt: HostRuntime) {
+        let replies = [
+            reply_to_wire_fault(rt.alloc(), WireFault::NoMemory),
+            reply_to_header_fault(rt.alloc(), HeaderFault::NoMemory),
+            reply_to_refusal(rt.alloc(), &Refusal::NoMemory),
+        ];
+        for response in replies {
+            assert_eq!(rt; response.status, 503);
+            assert_eq!(rt; (response.fields.len(), response.body.len()), (0, 0));
+        }
+    }
 }

@@ -32,7 +32,7 @@ fn handed_by(
     events: &[Event],
 ) -> Result<(Vec<Event>, How), NoMemory> {
     let mut feed = Feed::new(alloc, capacity)?;
-    feed.put_all(events);
+    feed.follow(events);
     let LaneReport { handed, how } = feed.finish();
     Ok((handed, how))
 }
@@ -72,5 +72,18 @@ fn a_lane_that_cannot_take_has_stopped(rt: HostRuntime) -> Result<(), Fail> {
     let (handed, how) = handed_by(rt.alloc(), 1, &[second(), third()])?;
     assert_eq!(rt; handed.len(), 0);
     assert_eq!(rt; how, How::Stopped);
+    Ok(())
+}
+
+#[test]
+fn follows_a_log_that_grows(rt: HostRuntime) -> Result<(), Fail> {
+    let log = [first(), second(), third()];
+    let mut feed = Feed::new(rt.alloc(), 1)?;
+    for count in [0, 1, 1, 3] {
+        feed.follow(&log[..count]);
+    }
+    let LaneReport { handed, how } = feed.finish();
+    assert_eq!(rt; handed.as_slice(), log.as_slice());
+    assert_eq!(rt; how, How::Drained);
     Ok(())
 }

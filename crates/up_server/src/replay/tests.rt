@@ -1,4 +1,5 @@
 //! Whole conversations: what is asked, and what is then answered and reported, to the byte.
+mod asking;
 mod command_lines;
 mod creating;
 mod failing;
@@ -92,6 +93,33 @@ impl Talk {
             self.wanted,
             "HTTP/1.1 204 No Content\r\nTus-Resumable: 1.0.0\r\nCache-Control: no-store\r\n\
             Upload-Offset: {offset}\r\n\r\n"
+        )
+    }
+
+    /// Wants the answer to a HEAD of an upload without metadata.
+    fn want_standing(&mut self, offset: &str, length: &str) -> Result<(), AllocError> {
+        write!(
+            self.wanted,
+            "HTTP/1.1 200 OK\r\nTus-Resumable: 1.0.0\r\nCache-Control: no-store\r\n\
+            Upload-Offset: {offset}\r\nUpload-Length: {length}\r\n\r\n"
+        )
+    }
+
+    /// Wants the answer to a GET, with so many bytes.
+    fn want_bytes(&mut self, count: &str, bytes: &str) -> Result<(), AllocError> {
+        write!(
+            self.wanted,
+            "HTTP/1.1 200 OK\r\nTus-Resumable: 1.0.0\r\nCache-Control: no-store\r\n\
+            Content-Type: application/octet-stream\r\nContent-Length: {count}\r\n\r\n{bytes}"
+        )
+    }
+
+    /// Wants a refusal of a HEAD, which has no body.
+    fn want_bare(&mut self, status: &str) -> Result<(), AllocError> {
+        write!(
+            self.wanted,
+            "HTTP/1.1 {status}\r\nTus-Resumable: 1.0.0\r\nCache-Control: no-store\r\n\
+            Content-Type: text/plain\r\n\r\n"
         )
     }
 

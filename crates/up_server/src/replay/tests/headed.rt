@@ -22,6 +22,10 @@ fn wants_its_version(rt: HostRuntime) -> Result<(), Fail> {
         .push_str("HEAD /files HTTP/1.1\r\nTus-Resumable: 2\r\n\r\n")?;
     talk.want(VERSION_HEAD)?;
     talk.want("\r\n")?;
+    talk.asked.push_str(
+        "HEAD /files/00000000000000000000000000000001 HTTP/1.1\r\nHost: a\r\n\r\n",
+    )?;
+    talk.want_bare("404 Not Found")?;
     talk.want(NOTHING)?;
     talk.hold(&rt, rt.alloc(), &Settings::default())
 }
@@ -81,6 +85,12 @@ fn reads_metadata(rt: HostRuntime) -> Result<(), Fail> {
         "",
     )?;
     talk.want_created(U1)?;
+    talk.ask("HEAD /files/00000000000000000000000000000001", "", "")?;
+    talk.want(
+        "HTTP/1.1 200 OK\r\nTus-Resumable: 1.0.0\r\nCache-Control: no-store\r\n\
+        Upload-Offset: 0\r\nUpload-Length: 5\r\n\
+        Upload-Metadata: filename d29ybGQucGRm,is_confidential\r\n\r\n",
+    )?;
     for text in ["a YQ==,a Yg==", "a Y", "a YQ==,"] {
         talk.asked.push_str(
             "POST /files/ HTTP/1.1\r\nTus-Resumable: 1.0.0\r\nUpload-Length: 5\r\nUpload-Metadata: ",

@@ -1,0 +1,10 @@
+-- The definitions that the contracts cite.
+pub mod Content
+pub mod Stored
+pub mod State
+pub mod StateCode
+pub mod Responses
+pub mod Refusals
+pub mod Decision
+pub mod Fits
+pub mod Views

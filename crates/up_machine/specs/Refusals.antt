@@ -1,0 +1,18 @@
+-- What is answered to a request that is refused.
+use Rattle.std.specs.Prelude.{ℕ, List, codes}
+use Rattle.up_machine.specs.Responses.{out_of_memory, refused_with}
+use Rattle.up_machine.specs.declared.refusal.Refusal.{Refusal}
+use Rattle.up_machine.specs.declared.refusal.Refusal.TheVariants as refusal
+use Rattle.up_wire.specs.declared.response.Response.{Response}
+
+-- the response to each refusal: its status, and a line with its number and name
+abbrev pub response_of : Refusal → Response
+response_of refusal.Closed = refused_with 503 (codes "20 Closed\n")
+response_of refusal.NotFound = refused_with 404 (codes "21 NotFound\n")
+response_of refusal.MediaType = refused_with 415 (codes "23 MediaType\n")
+response_of refusal.BadOffset = refused_with 400 (codes "24 BadOffset\n")
+response_of refusal.WrongOffset = refused_with 409 (codes "25 WrongOffset\n")
+response_of refusal.TooMuch = refused_with 413 (codes "26 TooMuch\n")
+response_of refusal.IdTaken = refused_with 500 (codes "32 IdTaken\n")
+response_of refusal.Unfinished = refused_with 409 (codes "33 Unfinished\n")
+response_of refusal.NoMemory = out_of_memory

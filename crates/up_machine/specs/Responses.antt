@@ -1,0 +1,62 @@
+-- The responses.
+use Rattle.std.specs.Prelude.{ℕ, ◌++◌, List, [], ◌∷◌, Option, Some, None, length, codes, decimal}
+use Rattle.up_events.specs.IdText.{text_of}
+use Rattle.up_machine.specs.Content.{Content}
+use Rattle.up_wire.specs.Fields.{Field}
+use Rattle.up_wire.specs.declared.response.Response.{Response}
+
+abbrev pub answered : ℕ → List Field → List ℕ → Response
+answered status fields body = record { status = status; fields = fields; body = body }
+
+-- an upload was made
+abbrev pub created : ℕ → Response
+created id = answered 201 ((codes "Location", codes "/files/" ++ text_of id) ∷ []) []
+
+-- an upload has come as far as this offset
+abbrev pub reached_offset : ℕ → Response
+reached_offset offset = answered 204 ((codes "Upload-Offset", decimal offset) ∷ []) []
+
+-- an upload was removed
+abbrev pub removed : Response
+removed = answered 204 [] []
+
+-- a field, where there is a text for it
+abbrev pub field_of : List ℕ → Option (List ℕ) → List Field
+field_of name None = []
+field_of name (Some text) = (name, text) ∷ []
+
+-- the fields that tell how an upload stands, none where there is none
+abbrev pub standing_fields : Option Content → List Field
+standing_fields None = []
+standing_fields (Some x) =
+    ((codes "Upload-Offset", decimal (length x.bytes)) ∷ (codes "Upload-Length", decimal x.length) ∷ [])
+    ++ field_of (codes "Upload-Metadata") x.metadata ++ field_of (codes "Upload-Concat") x.concat
+
+-- how an upload stands
+abbrev pub standing : Option Content → Response
+standing found = answered 200 (standing_fields found) []
+
+-- an upload's bytes
+abbrev pub downloaded : List ℕ → Response
+downloaded bytes = answered 200 ((codes "Content-Type", codes "application/octet-stream") ∷ []) bytes
+
+-- the version of the protocol
+abbrev pub version : Field
+version = (codes "Tus-Version", codes "1.0.0")
+
+-- what the server can do, with uploads of at most this size
+abbrev pub can_do : ℕ → Response
+can_do max_size =
+    answered 204 (version ∷ (codes "Tus-Extension", codes "creation,termination,concatenation") ∷ (codes "Tus-Max-Size", decimal max_size) ∷ []) []
+
+-- the type of every text that is answered
+abbrev pub plain_text : Field
+plain_text = (codes "Content-Type", codes "text/plain")
+
+-- a request was refused, in the words of this text
+abbrev pub refused_with : ℕ → List ℕ → Response
+refused_with status text = answered status (plain_text ∷ []) text
+
+-- memory is wanting
+abbrev pub out_of_memory : Response
+out_of_memory = answered 503 [] []

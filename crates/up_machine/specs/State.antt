@@ -1,0 +1,50 @@
+-- What a book stands for, and what a request makes of it.
+use Rattle.std.specs.Prelude.{ℕ, Bool, false, List, [], Option, Some, None}
+use Rattle.std.specs.FinMap as map
+use Rattle.std.specs.FinMap.{FinMap}
+use Rattle.std.specs.Ordering.{nat_cmp}
+use Rattle.up_events.specs.Records.{Records, noted}
+use Rattle.up_events.specs.declared.event.Accepted.{Accepted}
+use Rattle.up_headers.specs.declared.request.Request.{Request}
+use Rattle.up_headers.specs.declared.request.Request.TheVariants as request
+use Rattle.up_machine.specs.Content.{Content, made_of, with_more}
+
+-- the uploads by id
+abbrev pub Contents : Type 0
+Contents = FinMap nat_cmp Content
+
+-- the uploads that there are, the journal of the changes, whether the book is closed, and the size that uploads may have
+pub record State : Type 0 where
+  pub content : Contents
+  pub journal : Records
+  pub closed : Bool
+  pub max_size : ℕ
+
+-- a book in which nothing was done yet
+abbrev pub empty_state : ℕ → ℕ → State
+empty_state lanes max_size =
+    record { content = map.empty; journal = record { lanes = lanes; accepted = [] }; closed = false; max_size = max_size }
+
+-- the bytes of an upload, none where there is none
+abbrev pub bytes_of : Option Content → List ℕ
+bytes_of None = []
+bytes_of (Some x) = x.bytes
+
+-- the content with more bytes at an upload's end
+abbrev pub extended : Contents → ℕ → List ℕ → Option Content → Contents
+extended content u more None = content
+extended content u more (Some x) = map.insert content u (with_more x more)
+
+-- the content after a request that is carried out
+abbrev pub next : Contents → Request → ℕ → Contents
+next content request.Options id = content
+next content (request.Create new) id = map.insert content id (made_of new)
+next content (request.Head u) id = content
+next content (request.Patch p) id = extended content p.id p.bytes (map.get content p.id)
+next content (request.Delete u) id = map.remove content u
+next content (request.Get u) id = content
+
+-- the book after a request that made this change, or none
+abbrev pub after : State → Request → ℕ → Option Accepted → State
+after s request id None = s
+after s request id (Some change) = record s { content = next s.content request id; journal = noted s.journal change }

@@ -1,0 +1,21 @@
+-- What is shown of an upload.
+use Rattle.std.specs.Prelude.{◌≡◌, Option, Some, None, length}
+use Rattle.std.specs.Option.{option_copied}
+use Rattle.up_machine.specs.Content.{Content}
+use Rattle.up_machine.specs.declared.view.View.{View}
+
+-- the view is of this upload
+pub record IsViewOf (x : Content) (v : View) : Type 0 where
+  pub kind : v.kind ≡ x.kind
+  pub offset : v.offset ≡ length x.bytes
+  pub length : v.length ≡ x.length
+  pub metadata : option_copied v.metadata ≡ x.metadata
+  pub concat : option_copied v.concat ≡ x.concat
+  pub bytes : v.bytes.now ≡ x.bytes
+
+-- there is a view just where there is an upload, and it is of that one
+abbrev pub Shows : Option Content → Option View → Type 0
+Shows None None = Unit {0}
+Shows None (Some v) = ⊥
+Shows (Some x) None = ⊥
+Shows (Some x) (Some v) = IsViewOf x v

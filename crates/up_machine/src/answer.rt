@@ -1,0 +1,110 @@
+//! The responses, each made before anything is changed.
+ghost use Rattle.std.specs.Prelude.{◌≡◌, ◌++◌, ◌∷◌, [], decimal, Some, IfOk};
+ghost use Rattle.std.specs.Option.{option_copied};
+ghost use Rattle.up_machine.specs.Responses.{answered, created, reached_offset, removed, standing, downloaded, can_do, refused_with, out_of_memory, field_of};
+
+use crate::upload::Upload;
+use bytes::Bytes;
+use itoa::Buffer;
+use std::alloc::Global;
+use up_events::{Id, NoMemory};
+use up_wire::Response;
+
+/// With a field whose value is a number.
+fn with_number(response: Response, alloc: Global, name: &[u8], n: u64) -> Result<Response, NoMemory>
+    ensures { IfOk result (λ made. made ≡ record response { fields = response.fields ++ (name.now, decimal n) ∷ [] }) }
+{
+    let mut digits = Buffer::new();
+    Ok(response.with_field(alloc, name, digits.format(n).as_bytes())?)
+}
+
+/// With a field, where there is a text for it.
+fn with_text(
+    response: Response,
+    alloc: Global,
+    name: &[u8],
+    sent: Option<&[u8]>,
+) -> Result<Response, NoMemory>
+    ensures { IfOk result (λ made. made ≡ record response { fields = response.fields ++ field_of name.now (option_copied sent.entry) }) }
+{
+    match sent {
+        Some(text) => Ok(response.with_field(alloc, name, text)?),
+        None => Ok(response),
+    }
+}
+
+/// To a question for what the server can do (tus 1.0.0, OPTIONS): the version, the extensions, and how large an upload may
+/// be, in bytes.
+pub fn to_options(alloc: Global, max_size: u64) -> Result<Response, NoMemory>
+    ensures { IfOk result (λ made. made ≡ can_do max_size) }
+{
+    let response = Response::new(alloc, 204)
+        .with_field(alloc, b"Tus-Version", b"1.0.0")?
+        .with_field(
+            alloc,
+            b"Tus-Extension",
+            b"creation,termination,concatenation",
+        )?;
+    with_number(response, alloc, b"Tus-Max-Size", max_size)
+}
+
+/// To a POST that made an upload: its URL (tus 1.0.0, Creation).
+pub fn to_create(alloc: Global, id: Id) -> Result<Response, NoMemory>
+    ensures { IfOk result (λ made. made ≡ created id) }
+{
+    let mut path = Vec::from_slice(alloc, b"/files/")?;
+    path.extend_from_slice(&id.text())?;
+    Ok(Response::new(alloc, 201).with_field(alloc, b"Location", &path)?)
+}
+
+/// To a HEAD of an upload: how it stands (tus 1.0.0, HEAD).
+pub fn to_head(alloc: Global, upload: &Upload) -> Result<Response, NoMemory>
+    ensures { IfOk result (λ made. made ≡ standing (Some upload.now)) }
+{
+    let response = Response::new(alloc, 200);
+    let response = with_number(response, alloc, b"Upload-Offset", upload.offset())?;
+    let response = with_number(response, alloc, b"Upload-Length", upload.length())?;
+    let response = with_text(response, alloc, b"Upload-Metadata", upload.metadata())?;
+    with_text(response, alloc, b"Upload-Concat", upload.concat())
+}
+
+/// To a PATCH that was taken: the offset then reached (tus 1.0.0, PATCH).
+pub fn to_patch(alloc: Global, offset: u64) -> Result<Response, NoMemory>
+    ensures { IfOk result (λ made. made ≡ reached_offset offset) }
+{
+    with_number(Response::new(alloc, 204), alloc, b"Upload-Offset", offset)
+}
+
+/// To a DELETE that was carried out (tus 1.0.0, Termination). Takes no memory.
+pub fn to_delete(alloc: Global) -> Response
+    ensures { result ≡ removed }
+{
+    Response::new(alloc, 204)
+}
+
+/// To a GET of an upload: its bytes, which are not copied where the upload shares them.
+pub fn to_get(alloc: Global, upload: &Upload) -> Result<Response, NoMemory>
+    ensures { IfOk result (λ made. made ≡ downloaded upload.now.bytes) }
+{
+    let body = upload.share(alloc)?;
+    Ok(
+        Response::new(alloc, 200)
+            .with_field(alloc, b"Content-Type", b"application/octet-stream")?
+            .with_body(body),
+    )
+}
+
+/// To a request that was refused: why, as plain text.
+pub fn refused(alloc: Global, status: u16, text: &'static str) -> Result<Response, NoMemory>
+    ensures { IfOk result (λ made. made ≡ refused_with status text.now) }
+{
+    let response = Response::new(alloc, status).with_field(alloc, b"Content-Type", b"text/plain")?;
+    Ok(response.with_body(Bytes::from_static(text.as_bytes())))
+}
+
+/// To a request for which there was no memory (RFC 9110, section 15.6.4). Takes no memory itself.
+pub fn out_of_memory(alloc: Global) -> Response
+    ensures { result ≡ out_of_memory }
+{
+    Response::new(alloc, 503)
+}

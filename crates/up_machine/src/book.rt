@@ -1,0 +1,260 @@
+//! The book: the uploads and the journal, and what is decided on requests.
+ghost use Rattle.std.specs.Prelude.{◌≡◌, ◌≤◌, ◌<◌, ◌^◌, true, IfOk, OnErr};
+ghost use Rattle.std.specs.FinMap as map;
+
+use crate::answer;
+use crate::checks::{check_asked, check_patch};
+use crate::plan::{Asked, Done, Plan};
+use crate::refusal::Refusal;
+use crate::upload::Upload;
+use crate::uploads::Uploads;
+use crate::view::View;
+use std::alloc::Global;
+use std::marker::Model;
+use up_events::{Accepted, Id, Journal, NoMemory};
+use up_headers::{NewUpload, Patch, Request};
+use up_wire::Response;
+
+/// The uploads, and the journal of the changes that made them what they are. A request takes time by the logarithm of the
+/// number of uploads, the bytes that it brings or asks for and growth by doubling aside.
+#[derive(Drop)]
+pub struct Book {
+    uploads: Uploads,
+    journal: Journal,
+    closed: bool,
+    max_size: u64,
+}
+
+impl Model for Book {
+    ghost use Rattle.up_machine.specs.State.{State};
+    ghost use Rattle.up_machine.specs.StateCode.{state_code};
+
+    ghost Value = { State };
+
+    ghost coded = { state_code };
+
+    ghost use Rattle.up_machine.specs.Fits.{IsSoundBook};
+
+    ghost view = { λ a. record { content = a.uploads; journal = a.journal; closed = a.closed; max_size = a.max_size } };
+
+    ghost invariant = { λ a. IsSoundBook (record { content = a.uploads; journal = a.journal; closed = a.closed; max_size = a.max_size }) };
+}
+
+impl Book {
+    ghost use Rattle.up_headers.specs.Rows.{first_that_holds};
+    ghost use Rattle.up_headers.specs.Table.{FitsWithin};
+    ghost use Rattle.up_headers.specs.declared.request.Request.TheVariants as request;
+    ghost use Rattle.up_machine.specs.State.{empty_state, after};
+    ghost use Rattle.up_machine.specs.Decision.{Answers, answer_to, decide, decide_plan, planned_rows, rows_of, unless};
+    ghost use Rattle.up_machine.specs.Views.{Shows};
+    ghost use Rattle.up_machine.specs.declared.plan.Asked.TheVariants.{Skipped};
+
+    /// A book with no upload, with a log for each lane, that tells clients of this most size of an upload, in bytes.
+    pub fn new(alloc: Global, lanes: u64, max_size: u64) -> Result<Book, NoMemory>
+        requires some_lane { 0 < lanes }
+        requires few_lanes { lanes ≤ 16 }
+        ensures { IfOk result (λ book. book ≡ empty_state lanes max_size) }
+    {
+        Ok(Book {
+            uploads: Uploads::new(alloc),
+            journal: Journal::new(alloc, lanes)?,
+            closed: false,
+            max_size,
+        })
+    }
+
+    /// From now on the book takes no change; what there is can still be asked. Closing twice is as closing once.
+    pub fn close(&mut self)
+        ensures { self.new ≡ record self.old { closed = true } }
+    {
+        self.closed = true;
+    }
+
+    /// The journal of the changes.
+    pub fn journal(&self) -> &Journal
+        ensures { result.now ≡ self.now.journal }
+    {
+        &self.journal
+    }
+
+    /// The upload that has this id, where there is one.
+    pub fn upload(&self, id: Id) -> Option<View>
+        ensures { Shows (map.get self.now.content id) result }
+    {
+        match self.uploads.get(id) {
+            Some(upload) => Some(upload.view()),
+            None => None,
+        }
+    }
+
+    /// Tells what the server can do (tus 1.0.0, OPTIONS).
+    fn options(&self, alloc: Global) -> Result<Response, Refusal>
+        ensures { Answers result (answer_to self.now request.Options) }
+    {
+        Ok(answer::to_options(alloc, self.max_size)?)
+    }
+
+    /// Tells how an upload stands (tus 1.0.0, HEAD).
+    fn head(&self, alloc: Global, id: Id) -> Result<Response, Refusal>
+        ensures { Answers result (answer_to self.now (request.Head id)) }
+    {
+        let Some(upload) = self.uploads.get(id) else {
+            return Err(Refusal::NotFound);
+        };
+        Ok(answer::to_head(alloc, upload)?)
+    }
+
+    /// Gives the bytes of an upload that is complete.
+    fn get(&self, alloc: Global, id: Id) -> Result<Response, Refusal>
+        ensures { Answers result (answer_to self.now (request.Get id)) }
+    {
+        let Some(upload) = self.uploads.get(id) else {
+            return Err(Refusal::NotFound);
+        };
+        if upload.offset() != upload.length() {
+            return Err(Refusal::Unfinished);
+        }
+        Ok(answer::to_get(alloc, upload)?)
+    }
+
+    /// What refuses a creation at planning.
+    fn check_create(&self, new: &NewUpload) -> Result<(), Refusal>
+        ensures { result ≡ unless (first_that_holds (planned_rows self.now (request.Create new.now))) tt }
+    {
+        if self.closed {
+            return Err(Refusal::Closed);
+        }
+        Ok(())
+    }
+
+    /// What refuses a creation.
+    fn check_new(&self, new: &NewUpload, id: Id, asked: &Asked) -> Result<(), Refusal>
+        ensures { result ≡ unless (first_that_holds (rows_of self.now (request.Create new.now) id asked.now)) tt }
+    {
+        self.check_create(new)?;
+        check_asked(asked)?;
+        if self.journal.knows(id) {
+            return Err(Refusal::IdTaken);
+        }
+        Ok(())
+    }
+
+    /// Makes an upload (tus 1.0.0, Creation).
+    fn create(
+        &mut self,
+        alloc: Global,
+        new: NewUpload,
+        id: Id,
+        asked: &Asked,
+    ) -> Result<Done, Refusal>
+        requires bounded { new.length ≤ 2 ^ 30 }
+        ensures answer { Answers result (decide self.old (request.Create new) id asked.now) }
+        ensures ok { IfOk result (λ done. self.new ≡ after self.old (request.Create new) id done.change) }
+        ensures err { OnErr result (self.new ≡ self.old) }
+    {
+        self.check_new(&new, id, asked)?;
+        let response = answer::to_create(alloc, id)?;
+        let length = new.length;
+        let kind = new.kind;
+        let upload = Upload::new(alloc, new);
+        let change = Accepted::Created { id, length, kind };
+        self.uploads.create(&mut self.journal, change, id, upload)?;
+        let change = Some(Accepted::Created { id, length, kind });
+        Ok(Done { response, change })
+    }
+
+    /// Takes bytes at the end of an upload (tus 1.0.0, PATCH).
+    fn patch(&mut self, alloc: Global, patch: Patch) -> Result<Done, Refusal>
+        ensures answer { Answers result (decide self.old (request.Patch patch) 0 Skipped) }
+        ensures ok { IfOk result (λ done. self.new ≡ after self.old (request.Patch patch) 0 done.change) }
+        ensures err { OnErr result (self.new ≡ self.old) }
+    {
+        let offset = check_patch(&self.uploads, self.closed, &patch)?;
+        let response = answer::to_patch(alloc, offset)?;
+        let id = patch.id;
+        let count = patch.bytes.len() as u64;
+        if count == 0 {
+            return Ok(Done::unchanged(response));
+        }
+        let bytes = patch.bytes.as_slice();
+        self.uploads.append(alloc, &mut self.journal, id, bytes)?;
+        let change = Some(Accepted::Appended { id, count });
+        Ok(Done { response, change })
+    }
+
+    /// What refuses a removal at planning.
+    fn check_delete(&self, id: Id) -> Result<(), Refusal>
+        ensures { result ≡ unless (first_that_holds (planned_rows self.now (request.Delete id))) tt }
+    {
+        if self.closed {
+            return Err(Refusal::Closed);
+        }
+        match self.uploads.get(id) {
+            Some(_) => Ok(()),
+            None => Err(Refusal::NotFound),
+        }
+    }
+
+    /// Removes an upload (tus 1.0.0, Termination). Its id is never given again.
+    fn delete(&mut self, alloc: Global, id: Id, asked: &Asked) -> Result<Done, Refusal>
+        ensures answer { Answers result (decide self.old (request.Delete id) 0 asked.now) }
+        ensures ok { IfOk result (λ done. self.new ≡ after self.old (request.Delete id) 0 done.change) }
+        ensures err { OnErr result (self.new ≡ self.old) }
+    {
+        self.check_delete(id)?;
+        check_asked(asked)?;
+        let response = answer::to_delete(alloc);
+        self.journal.note(Accepted::Terminated { id })?;
+        self.uploads.remove(id);
+        let change = Some(Accepted::Terminated { id });
+        Ok(Done { response, change })
+    }
+
+    /// What would come of a request: the response to one that changes nothing, that another can be committed, or the refusal.
+    /// `NoMemory` comes only to a request that nothing else refuses.
+    pub fn plan(&self, alloc: Global, request: &Request) -> Result<Plan, Refusal>
+        ensures { Answers result (decide_plan self.now request.now) }
+    {
+        match request {
+            Request::Options => Ok(Plan::Answer(self.options(alloc)?)),
+            Request::Head(id) => Ok(Plan::Answer(self.head(alloc, *id)?)),
+            Request::Get(id) => Ok(Plan::Answer(self.get(alloc, *id)?)),
+            Request::Create(new) => {
+                self.check_create(new)?;
+                Ok(Plan::Ready)
+            }
+            Request::Patch(patch) => {
+                check_patch(&self.uploads, self.closed, patch)?;
+                Ok(Plan::Ready)
+            }
+            Request::Delete(id) => {
+                self.check_delete(*id)?;
+                Ok(Plan::Ready)
+            }
+        }
+    }
+
+    /// Decides on a request, and carries it out where nothing refuses it. The id is for a new upload, the others bring their
+    /// own. A request that is refused changes nothing; `NoMemory` comes only to one that nothing else refuses.
+    pub fn commit(
+        &mut self,
+        alloc: Global,
+        request: Request,
+        id: Id,
+        asked: &Asked,
+    ) -> Result<Done, Refusal>
+        requires bounded { FitsWithin (2 ^ 30) request }
+        ensures answer { Answers result (decide self.old request id asked.now) }
+        ensures ok { IfOk result (λ done. self.new ≡ after self.old request id done.change) }
+        ensures err { OnErr result (self.new ≡ self.old) }
+    {
+        match request {
+            Request::Options => Ok(Done::unchanged(self.options(alloc)?)),
+            Request::Create(new) => self.create(alloc, new, id, asked),
+            Request::Head(id) => Ok(Done::unchanged(self.head(alloc, id)?)),
+            Request::Patch(patch) => self.patch(alloc, patch),
+            Request::Delete(id) => self.delete(alloc, id, asked),
+            Request::Get(id) => Ok(Done::unchanged(self.get(alloc, id)?)),
+        }
+    }
+}

@@ -1,0 +1,20 @@
+//! The book of uploads: what is decided on each request of the tus protocol 1.0.0, what it makes of the uploads, and the
+//! journal of the changes.
+#![tactic(auto)]
+
+mod answer;
+mod book;
+mod checks;
+mod plan;
+mod refusal;
+mod store;
+#[cfg(test)]
+mod tests;
+mod upload;
+mod uploads;
+mod view;
+
+pub use book::Book;
+pub use plan::{Asked, Done, Plan};
+pub use refusal::{Refusal, response_of};
+pub use view::View;

@@ -1,0 +1,69 @@
+//! Why a request isn't carried out, and what is answered then.
+ghost use Rattle.std.specs.Prelude.{◌≡◌, IfOk};
+ghost use Rattle.up_machine.specs.Refusals.{response_of};
+ghost use Rattle.up_machine.specs.declared.refusal.Refusal.TheVariants.{NoMemory as out_of_memory};
+
+use crate::answer;
+use std::alloc::Global;
+use thiserror::Error;
+use up_events::NoMemory;
+use up_wire::Response;
+
+/// Why a request isn't carried out (tus 1.0.0, Core Protocol; RFC 9110, section 15). After each the book is as it was.
+#[derive(Clone, Copy, Debug, PartialEq, Eq, Error)]
+pub enum Refusal {
+    /// The book is closed, and takes no change any more (503).
+    #[error("the server takes no change any more")]
+    Closed,
+    /// No upload has the id: it was never made, or it was removed (404).
+    #[error("no upload has the id")]
+    NotFound,
+    /// The bytes of a PATCH aren't of the media type that they must have (415).
+    #[error("the bytes are not of the media type for bytes at an offset")]
+    MediaType,
+    /// A PATCH says no offset (400).
+    #[error("no offset was sent")]
+    BadOffset,
+    /// The upload's offset is another than the one that a PATCH says (409).
+    #[error("the upload has another offset")]
+    WrongOffset,
+    /// With the bytes of a PATCH the upload would have more than its length (413).
+    #[error("more bytes than the upload is to have")]
+    TooMuch,
+    /// The id for a new upload was given before (500).
+    #[error("the id was given before")]
+    IdTaken,
+    /// The bytes of an upload are asked of which some have yet to come (409).
+    #[error("the upload is not complete")]
+    Unfinished,
+    /// A growth was refused (503). It comes only to a request that nothing else refuses.
+    #[error("out of memory")]
+    NoMemory,
+}
+
+impl From<NoMemory> for Refusal {
+    ghost from_gives = { λ _ e. e ≡ out_of_memory };
+
+    fn from(_: NoMemory) -> Self {
+        Refusal::NoMemory
+    }
+}
+
+/// What is answered to a request that is refused: its status, and a line with the number and the name of the refusal. To
+/// `NoMemory` it is an empty 503, which takes no memory.
+pub fn response_of(alloc: Global, refusal: &Refusal) -> Result<Response, NoMemory>
+    ensures { IfOk result (λ made. made ≡ response_of refusal.now) }
+{
+    let (status, text) = match refusal {
+        Refusal::Closed => (503, "20 Closed\n"),
+        Refusal::NotFound => (404, "21 NotFound\n"),
+        Refusal::MediaType => (415, "23 MediaType\n"),
+        Refusal::BadOffset => (400, "24 BadOffset\n"),
+        Refusal::WrongOffset => (409, "25 WrongOffset\n"),
+        Refusal::TooMuch => (413, "26 TooMuch\n"),
+        Refusal::IdTaken => (500, "32 IdTaken\n"),
+        Refusal::Unfinished => (409, "33 Unfinished\n"),
+        Refusal::NoMemory => return Ok(answer::out_of_memory(alloc)),
+    };
+    answer::refused(alloc, status, text)
+}

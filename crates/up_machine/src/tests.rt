@@ -1,0 +1,210 @@
+//! What the proofs can't see: whether the clauses say what the rules mean, and that calls succeed.
+ghost use Rattle.std.specs.Prelude.{◌≤◌, ◌<◌, ◌^◌, IfOk};
+ghost use Rattle.up_headers.specs.Table.{FitsWithin};
+
+mod answers;
+mod drawn;
+mod events;
+mod plain;
+mod rows;
+
+use crate::book::Book;
+use crate::plan::{Asked, Done, Plan};
+use crate::refusal::{Refusal, response_of};
+use crate::view::View;
+use plain::{Plain, PlainUpload};
+use std::alloc::{AllocError, Global};
+use std::process::Abort;
+use std::test::Fail;
+use up_events::{Accepted, Event, Hook, Id, Kind};
+use up_headers::{NewUpload, Patch, Request};
+use up_wire::{Response, Sequence};
+
+/// The ids of these tests are the numbers below this one.
+const ID_COUNT: u64 = 8;
+
+/// A request in short, of the upload whose id is given beside it.
+#[derive(Clone, Copy)]
+enum Ask<'a> {
+    Options,
+    /// With this length and metadata text.
+    Create(u8, &'a str),
+    Head,
+    /// With a right or a wrong media type, this offset and these bytes.
+    Patch(bool, Option<u64>, &'a [u8]),
+    Delete,
+    Get,
+}
+
+/// A PATCH with all that it must have.
+fn patch(offset: u64, bytes: &[u8]) -> Ask {
+    Ask::Patch(true, Some(offset), bytes)
+}
+
+/// The request in full. A text that is empty is none.
+fn request_of(alloc: Global, id: Id, ask: Ask) -> Result<Request, AllocError>
+    ensures { IfOk result (FitsWithin (2 ^ 30)) }
+{
+    Ok(match ask {
+        Ask::Options => Request::Options,
+        Ask::Create(length, text) => {
+            let metadata = if text.is_empty() {
+                None
+            } else {
+                Some(Sequence::from_slice(alloc, text.as_bytes())?)
+            };
+            Request::Create(NewUpload {
+                kind: Kind::Plain,
+                length: u64::from(length),
+                pairs: Sequence::new(alloc),
+                metadata,
+            })
+        }
+        Ask::Head => Request::Head(id),
+        Ask::Patch(media, offset, bytes) => Request::Patch(Patch {
+            id,
+            media,
+            offset,
+            bytes: Sequence::from_slice(alloc, bytes)?,
+        }),
+        Ask::Delete => Request::Delete(id),
+        Ask::Get => Request::Get(id),
+    })
+}
+
+/// Adds bytes, each as one character.
+fn push_bytes(words: &mut String, bytes: &[u8]) -> Result<(), AllocError> {
+    for byte in bytes {
+        words.push(char::from(*byte))?;
+    }
+    Ok(())
+}
+
+/// A response in words, as "200 Upload-Offset: 0; Upload-Length: 5; []": status, fields in order, and body.
+fn response_words(alloc: Global, response: &Response) -> Result<String, Fail> {
+    let status = response.status;
+    let mut words = format!(in alloc; "{status} ")?;
+    for field in response.fields.as_slice() {
+        push_bytes(&mut words, field.0.as_slice())?;
+        words.push_str(": ")?;
+        push_bytes(&mut words, field.1.as_slice())?;
+        words.push_str("; ")?;
+    }
+    words.push_str("[")?;
+    push_bytes(&mut words, response.body.as_slice())?;
+    words.push_str("]")?;
+    Ok(words)
+}
+
+/// What is answered to a refusal, in words.
+fn refusal_words(alloc: Global, refusal: &Refusal) -> Result<String, Fail> {
+    response_words(alloc, &response_of(alloc, refusal)?)
+}
+
+/// What is said at planning, in words. A request that can be committed is "ready".
+fn plan_words(alloc: Global, planned: &Result<Plan, Refusal>) -> Result<String, Fail> {
+    match planned {
+        Ok(Plan::Answer(response)) => response_words(alloc, response),
+        Ok(Plan::Ready) => Ok(String::from_str(alloc, "ready")?),
+        Err(refusal) => refusal_words(alloc, refusal),
+    }
+}
+
+/// What came of a request: what is answered, in words, and the change.
+#[derive(Drop)]
+struct Reply {
+    words: String,
+    change: Option<Accepted>,
+}
+
+/// What the book says came of a request.
+fn reply_of(alloc: Global, decided: &Result<Done, Refusal>) -> Result<Reply, Fail> {
+    match decided {
+        Ok(done) => Ok(Reply {
+            words: response_words(alloc, &done.response)?,
+            change: done.change,
+        }),
+        Err(refusal) => Ok(Reply {
+            words: refusal_words(alloc, refusal)?,
+            change: None,
+        }),
+    }
+}
+
+fn assert_same_upload(rt: &impl Abort, view: View, upload: &PlainUpload) {
+    assert_eq!(rt; view.kind, upload.kind);
+    assert_eq!(rt; view.length, upload.length);
+    assert_eq!(rt; view.offset, upload.bytes.len() as u64);
+    assert_eq!(rt; view.bytes, upload.bytes.as_slice());
+    assert_eq!(rt; view.metadata, upload.metadata.as_deref());
+    assert!(rt; view.concat.is_none());
+}
+
+/// A book, and the plain program beside it.
+#[derive(Drop)]
+struct Both {
+    book: Book,
+    plain: Plain,
+}
+
+impl Both {
+    fn new(alloc: Global, lanes: u64, max_size: u64) -> Result<Both, Fail>
+        requires some_lane { 0 < lanes }
+        requires few_lanes { lanes ≤ 16 }
+    {
+        Ok(Both {
+            book: Book::new(alloc, lanes, max_size)?,
+            plain: Plain::new(alloc, max_size),
+        })
+    }
+
+    fn close(&mut self) {
+        self.book.close();
+        self.plain.closed = true;
+    }
+
+    /// Holds that both have the same uploads, ids and changes.
+    fn assert_same(&self, rt: &impl Abort) {
+        let journal = self.book.journal();
+        assert_eq!(rt; journal.accepted(), self.plain.accepted.as_slice());
+        for number in 0..ID_COUNT {
+            let id = Id::new(u128::from(number));
+            assert_eq!(rt; journal.knows(id), self.plain.given.contains(&id));
+            match (self.book.upload(id), self.plain.find(id)) {
+                (Some(view), Some(upload)) => assert_same_upload(rt, view, upload),
+                (None, None) => {}
+                _ => panic!(rt; "one of them alone has the upload {number}"),
+            }
+        }
+    }
+
+    /// Holds that both plan the same and decide the same, and that planning changes nothing.
+    fn step(&mut self, rt: &impl Abort, alloc: Global, id: Id, ask: Ask) -> Result<Reply, Fail> {
+        let request = request_of(alloc, id, ask)?;
+        let planned = plan_words(alloc, &self.book.plan(alloc, &request))?;
+        let expected = self.plain.plan(alloc, &request)?;
+        assert_eq!(rt; planned.as_str(), expected.as_str());
+        self.assert_same(rt);
+        let expected = self.plain.decide(alloc, &request, id)?;
+        let decided = self.book.commit(alloc, request, id, &Asked::Skipped);
+        let found = reply_of(alloc, &decided)?;
+        assert_eq!(rt; found.words.as_str(), expected.words.as_str());
+        assert_eq!(rt; found.change, expected.change);
+        self.assert_same(rt);
+        Ok(found)
+    }
+
+    /// Holds that both answer these requests so.
+    fn hold(
+        &mut self,
+        rt: &impl Abort,
+        alloc: Global,
+        rows: &[(u128, Ask, &str)],
+    ) -> Result<(), Fail> {
+        for (number, ask, wanted) in rows {
+            let reply = self.step(rt, alloc, Id::new(*number), *ask)?;
+            assert_eq!(rt; reply.words.as_str(), *wanted);
+        }
+        Ok(())
+    }
+}

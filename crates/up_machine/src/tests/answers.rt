@@ -1,0 +1,101 @@
+//! What is answered to each refusal, what a closed book still shows, and what is shown of an upload.
+use super::*;
+
+#[test]
+fn answers_refusals(rt: HostRuntime) -> Result<(), Fail> {
+    for (refusal, status, text) in [
+        (Refusal::Closed, 503, "20 Closed"),
+        (Refusal::NotFound, 404, "21 NotFound"),
+        (Refusal::MediaType, 415, "23 MediaType"),
+        (Refusal::BadOffset, 400, "24 BadOffset"),
+        (Refusal::WrongOffset, 409, "25 WrongOffset"),
+        (Refusal::TooMuch, 413, "26 TooMuch"),
+        (Refusal::IdTaken, 500, "32 IdTaken"),
+        (Refusal::Unfinished, 409, "33 Unfinished"),
+    ] {
+        let words = refusal_words(rt.alloc(), &refusal)?;
+        let wanted = format!(in rt.alloc(); "{status} Content-Type: text/plain; [{text}\n]")?;
+        assert_eq!(rt; words.as_str(), wanted.as_str());
+    }
+    let words = refusal_words(rt.alloc(), &Refusal::NoMemory)?;
+    assert_eq!(rt; words.as_str(), "503 []");
+    Ok(())
+}
+
+#[test]
+fn tells_what_it_can_do(rt: HostRuntime) -> Result<(), Fail> {
+    let front =
+        "204 Tus-Version: 1.0.0; Tus-Extension: creation,termination,concatenation; Tus-Max-Size: ";
+    for max_size in [1, 1_048_576, 1_073_741_824] {
+        let wanted = format!(in rt.alloc(); "{front}{max_size}; []")?;
+        let mut both = Both::new(rt.alloc(), 1, max_size)?;
+        both.hold(&rt, rt.alloc(), &[(0, Ask::Options, wanted.as_str())])?;
+    }
+    Ok(())
+}
+
+/// A book with the upload 1, of five bytes and with metadata, to which "abc" was sent.
+fn begun(rt: &impl Abort, alloc: Global) -> Result<Both, Fail> {
+    let mut both = Both::new(alloc, 1, 10)?;
+    both.step(rt, alloc, Id::new(1), Ask::Create(5, "name YWI="))?;
+    both.step(rt, alloc, Id::new(1), patch(0, b"abc"))?;
+    Ok(both)
+}
+
+/// Holds what is shown of the upload.
+fn hold_view(rt: &impl Abort, book: &Book) -> Result<(), Fail> {
+    let view = book.upload(Id::new(1)).ok_or("the upload is not there")?;
+    assert_eq!(rt; view.kind, Kind::Plain);
+    assert_eq!(rt; view.offset, 3);
+    assert_eq!(rt; view.length, 5);
+    assert_eq!(rt; view.bytes, b"abc".as_slice());
+    let metadata = view.metadata.ok_or("no metadata")?;
+    assert_eq!(rt; metadata, b"name YWI=".as_slice());
+    assert!(rt; view.concat.is_none());
+    assert!(rt; book.upload(Id::new(2)).is_none());
+    Ok(())
+}
+
+#[test]
+fn shows_an_upload(rt: HostRuntime) -> Result<(), Fail> {
+    let both = begun(&rt, rt.alloc())?;
+    hold_view(&rt, &both.book)
+}
+
+#[test]
+fn closing_twice_is_as_closing_once(rt: HostRuntime) -> Result<(), Fail> {
+    let closed = "503 Content-Type: text/plain; [20 Closed\n]";
+    let mut both = begun(&rt, rt.alloc())?;
+    for _ in 0..2 {
+        both.close();
+        hold_view(&rt, &both.book)?;
+        both.hold(
+            &rt,
+            rt.alloc(),
+            &[
+                (1, patch(3, b"de"), closed),
+                (
+                    1,
+                    Ask::Head,
+                    "200 Upload-Offset: 3; Upload-Length: 5; Upload-Metadata: name YWI=; []",
+                ),
+            ],
+        )?;
+    }
+    assert_eq!(rt; both.book.journal().accepted().len(), 2);
+    Ok(())
+}
+
+#[test]
+fn bytes_that_were_given_stay(rt: HostRuntime) -> Result<(), Fail> {
+    let id = Id::new(1);
+    let mut both = begun(&rt, rt.alloc())?;
+    both.step(&rt, rt.alloc(), id, patch(3, b"de"))?;
+    let given = both
+        .book
+        .commit(rt.alloc(), Request::Get(id), id, &Asked::Skipped)?;
+    both.step(&rt, rt.alloc(), id, Ask::Get)?;
+    both.step(&rt, rt.alloc(), id, Ask::Delete)?;
+    assert_eq!(rt; given.response.body.as_slice(), b"abcde".as_slice());
+    Ok(())
+}

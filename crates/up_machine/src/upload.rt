@@ -1,0 +1,173 @@
+//! One upload, with its bytes.
+ghost use Rattle.std.specs.Prelude.{◌≡◌, length, IfOk, OnOk, OnErr};
+ghost use Rattle.std.specs.Option.{option_copied};
+
+use crate::store::{Store, grow};
+use crate::view::View;
+use bytes::Bytes;
+use std::alloc::{AllocError, Global};
+use std::marker::Model;
+use std::mem;
+use up_events::{Accepted, Id, Journal, Kind, NoMemory};
+use up_headers::{NewUpload, Pairs};
+use up_wire::Sequence;
+
+/// An upload: what its client said of it, and the bytes that have come so far, never more than its length says.
+#[derive(Drop)]
+pub struct Upload {
+    kind: Kind,
+    length: u64,
+    bytes: Store,
+    metadata: Option<Sequence<u8>>,
+    pairs: Pairs,
+    concat: Option<Sequence<u8>>,
+}
+
+impl Model for Upload {
+    ghost use Rattle.up_machine.specs.Content.{Content, content_code};
+    ghost use Rattle.up_machine.specs.Stored.{stored, IsStored};
+
+    ghost Value = { Content };
+
+    ghost coded = { content_code };
+
+    ghost view = { λ a. record { kind = a.kind; length = a.length; bytes = stored a.bytes; metadata = a.metadata; pairs = a.pairs; concat = a.concat } };
+
+    ghost invariant = { λ a. IsStored a.bytes a.length };
+}
+
+/// The bytes of a text, where there is one.
+fn text(sent: &Option<Sequence<u8>>) -> Option<&[u8]>
+    ensures { option_copied result ≡ sent.now }
+{
+    match sent {
+        Some(text) => Some(text.as_slice()),
+        None => None,
+    }
+}
+
+impl Upload {
+    ghost use Rattle.up_machine.specs.Content.{made_of, with_more, IsWithinLength, HasRoom};
+    ghost use Rattle.up_machine.specs.Views.{IsViewOf};
+    ghost use Rattle.up_events.specs.History.{CanFollow};
+    ghost use Rattle.up_events.specs.Records.{noted};
+    ghost use Rattle.up_events.specs.declared.event.Accepted.TheVariants.{Appended};
+
+    /// A new upload, which has no bytes yet. Takes no memory.
+    pub fn new(alloc: Global, new: NewUpload) -> Self
+        ensures { result ≡ made_of new }
+    {
+        let NewUpload {
+            kind,
+            length,
+            pairs,
+            metadata,
+        } = new;
+        Upload {
+            kind,
+            length,
+            bytes: Store::Open(Vec::new(alloc)),
+            metadata,
+            pairs,
+            concat: None,
+        }
+    }
+
+    /// What sort of upload it is.
+    pub fn kind(&self) -> Kind
+        ensures { result ≡ self.now.kind }
+    {
+        self.kind
+    }
+
+    /// How many bytes it is to have.
+    pub fn length(&self) -> u64
+        ensures { result ≡ self.now.length }
+    {
+        self.length
+    }
+
+    /// How many bytes have come so far, no more than the length says.
+    pub fn offset(&self) -> u64
+        ensures value { result ≡ length self.now.bytes }
+        ensures within { IsWithinLength self.now }
+    {
+        self.bytes.as_slice().len() as u64
+    }
+
+    /// The bytes that have come so far.
+    pub fn bytes(&self) -> &[u8]
+        ensures { result.now ≡ self.now.bytes }
+    {
+        self.bytes.as_slice()
+    }
+
+    /// The metadata text, where there is one.
+    pub fn metadata(&self) -> Option<&[u8]>
+        ensures { option_copied result ≡ self.now.metadata }
+    {
+        text(&self.metadata)
+    }
+
+    /// The text of its concatenation, where there is one.
+    pub fn concat(&self) -> Option<&[u8]>
+        ensures { option_copied result ≡ self.now.concat }
+    {
+        text(&self.concat)
+    }
+
+    /// The upload as it stands.
+    pub fn view(&self) -> View
+        ensures { IsViewOf self.now result }
+    {
+        View {
+            kind: self.kind,
+            offset: self.offset(),
+            length: self.length,
+            metadata: self.metadata(),
+            concat: self.concat(),
+            bytes: self.bytes(),
+        }
+    }
+
+    /// The bytes for an answer: shared with the upload where all have come.
+    pub fn share(&self, alloc: Global) -> Result<Bytes, AllocError>
+        ensures { IfOk result (λ bytes. bytes ≡ self.now.bytes) }
+    {
+        self.bytes.share(alloc)
+    }
+
+    /// From now on the answers share the bytes, if all have come. Where memory for that is wanting, they don't.
+    fn settle(&mut self, alloc: Global)
+        ensures { self.new ≡ self.old }
+    {
+        let store = mem::replace(&mut self.bytes, Store::Open(Vec::new(alloc)));
+        self.bytes = store.settled(self.length);
+    }
+
+    /// Notes the change, and takes the bytes at the end. Where memory is wanting, nothing is changed.
+    pub fn append(
+        &mut self,
+        alloc: Global,
+        journal: &mut Journal,
+        id: Id,
+        more: &[u8],
+    ) -> Result<(), NoMemory>
+        requires room { HasRoom (length more.now) self.old }
+        requires follows { CanFollow journal.old.accepted (Appended id (length more.now)) }
+        ensures ok { OnOk result (self.new ≡ with_more self.old more.now) }
+        ensures noted { OnOk result (journal.new ≡ noted journal.old (Appended id (length more.now))) }
+        ensures err { OnErr result (self.new ≡ self.old) }
+        ensures not_noted { OnErr result (journal.new ≡ journal.old) }
+    {
+        let Store::Open(bytes) = &mut self.bytes else {
+            unreachable!()
+        };
+        grow(bytes, more.len(), self.length)?;
+        let count = more.len() as u64;
+        journal.note(Accepted::Appended { id, count })?;
+        bytes.extend_from_slice(more).unwrap();
+        self.settle(alloc);
+        Ok(())
+    }
+}

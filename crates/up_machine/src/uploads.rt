@@ -1,0 +1,124 @@
+//! The uploads, by id.
+ghost use Rattle.std.specs.Prelude.{◌≡◌, length, Some, None, IfOk, OnOk, OnErr, IfSome, IsSomeAnd};
+ghost use Rattle.std.specs.Option.{option_copied};
+ghost use Rattle.std.specs.FinMap as map;
+ghost use Rattle.std.specs.Ordering.{nat_cmp};
+ghost use Rattle.std.specs.BTreeMap.{get, Updates, IsUnchanged};
+ghost use Rattle.up_events.specs.History.{CanFollow};
+ghost use Rattle.up_events.specs.Records.{noted};
+
+use crate::upload::Upload;
+use std::alloc::Global;
+use std::collections::BTreeMap;
+use std::collections::btree_map::Entry;
+use std::marker::Model;
+use up_events::{Accepted, Id, Journal, NoMemory};
+
+/// The uploads that there are, each under its id.
+#[derive(Drop)]
+pub struct Uploads {
+    entries: BTreeMap<Id, Upload>,
+}
+
+impl Model for Uploads {
+    ghost use Rattle.std.specs.Ordering.{nat_cmp};
+    ghost use Rattle.std.specs.FinMap as map;
+    ghost use Rattle.std.specs.Coded.{coded_ℕ};
+    ghost use Rattle.up_machine.specs.Content.{Content, content_code};
+
+    ghost Value = { map.FinMap nat_cmp Content };
+
+    ghost coded = { map.code coded_ℕ content_code };
+
+    ghost view = { λ a. map.from_entries a.entries.entries };
+}
+
+/// Notes the change, and puts a new upload in.
+fn create(
+    entries: &mut BTreeMap<Id, Upload>,
+    journal: &mut Journal,
+    change: Accepted,
+    id: Id,
+    upload: Upload,
+) -> Result<(), NoMemory>
+    requires new { get nat_cmp entries.old id ≡ None }
+    requires follows { CanFollow journal.old.accepted change }
+    ensures ok { OnOk result (Updates nat_cmp entries.old entries.new id (Some upload)) }
+    ensures noted { OnOk result (journal.new ≡ noted journal.old change) }
+    ensures err { OnErr result (IsUnchanged entries.old entries.new) }
+    ensures not_noted { OnErr result (journal.new ≡ journal.old) }
+{
+    let Entry::Vacant(place) = entries.entry(id)? else {
+        unreachable!()
+    };
+    journal.note(change)?;
+    place.insert(upload);
+    Ok(())
+}
+
+impl Uploads {
+    ghost use Rattle.up_events.specs.declared.event.Accepted.TheVariants.{Appended};
+    ghost use Rattle.up_machine.specs.Content.{with_more, HasRoom};
+
+    /// No uploads. Takes no memory.
+    pub fn new(alloc: Global) -> Self
+        ensures { result ≡ map.empty }
+    {
+        Uploads {
+            entries: BTreeMap::new(alloc),
+        }
+    }
+
+    /// The upload that has this id.
+    pub fn get(&self, id: Id) -> Option<&Upload>
+        ensures { option_copied result ≡ map.get self.now id }
+    {
+        self.entries.get(&id)
+    }
+
+    /// Notes the change, and takes the bytes at the end of the upload. Where memory is wanting, nothing is changed.
+    pub fn append(
+        &mut self,
+        alloc: Global,
+        journal: &mut Journal,
+        id: Id,
+        more: &[u8],
+    ) -> Result<(), NoMemory>
+        requires room { IsSomeAnd (map.get self.old id) (HasRoom (length more.now)) }
+        requires follows { CanFollow journal.old.accepted (Appended id (length more.now)) }
+        ensures ok { OnOk result (IfSome (map.get self.old id) (λ x. self.new ≡ map.insert self.old id (with_more x more.now))) }
+        ensures noted { OnOk result (journal.new ≡ noted journal.old (Appended id (length more.now))) }
+        ensures err { OnErr result (self.new ≡ self.old) }
+        ensures not_noted { OnErr result (journal.new ≡ journal.old) }
+    {
+        let Some(upload) = self.entries.get_mut(&id) else {
+            unreachable!()
+        };
+        upload.append(alloc, journal, id, more)
+    }
+
+    /// Notes the change, and puts a new upload in. Where memory is wanting, nothing is changed.
+    pub fn create(
+        &mut self,
+        journal: &mut Journal,
+        change: Accepted,
+        id: Id,
+        upload: Upload,
+    ) -> Result<(), NoMemory>
+        requires new { map.get self.old id ≡ None }
+        requires follows { CanFollow journal.old.accepted change }
+        ensures ok { OnOk result (self.new ≡ map.insert self.old id upload) }
+        ensures noted { OnOk result (journal.new ≡ noted journal.old change) }
+        ensures err { OnErr result (self.new ≡ self.old) }
+        ensures not_noted { OnErr result (journal.new ≡ journal.old) }
+    {
+        create(&mut self.entries, journal, change, id, upload)
+    }
+
+    /// Takes an upload out, with its bytes. Takes no memory.
+    pub fn remove(&mut self, id: Id)
+        ensures { self.new ≡ map.remove self.old id }
+    {
+        let _ = self.entries.remove(&id);
+    }
+}

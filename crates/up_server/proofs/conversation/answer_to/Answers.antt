@@ -1,0 +1,5 @@
+use Rattle.up_server.proofs.TurnLemmas.{goes_on_answered}
+use Rattle.up_server.proofs.conversation.answer_to.Goals as goal
+
+pub returns-in-Ok-clause-goes_on : goal.returns-in-Ok-clause-goes_on
+returns-in-Ok-clause-goes_on c = goes_on_answered c.args.dispatcher.now c.answer.new.self c.in-Ok.request c.answer.result c.answer.ensures

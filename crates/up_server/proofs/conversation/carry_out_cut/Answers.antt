@@ -1,0 +1,5 @@
+use Rattle.up_server.proofs.TurnLemmas.{goes_on_answered}
+use Rattle.up_server.proofs.conversation.carry_out_cut.Goals as goal
+
+pub returns-in-Patch-clause-goes_on : goal.returns-in-Patch-clause-goes_on
+returns-in-Patch-clause-goes_on c = goes_on_answered c.args.dispatcher.now c.answer.new.self _ _ c.answer.ensures
