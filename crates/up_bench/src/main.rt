@@ -14,8 +14,10 @@ fn create(alloc: Global, book: &mut Book, id: Id) -> Result<(), Refusal> {
     let new = NewUpload {
         kind: Kind::Plain,
         length: 8,
+        parts: Sequence::new(alloc),
         pairs: Sequence::new(alloc),
         metadata: None,
+        concat: None,
     };
     book.commit(alloc, Request::Create(new), id, &Asked::Skipped)?;
     Ok(())

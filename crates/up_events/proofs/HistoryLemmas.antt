@@ -92,7 +92,7 @@ received-other changes c u e = omega (arith, received-snoc changes c u, bytes_in
 
 pub offset_of-other : (changes : List Accepted) (c : Accepted) (u : ℕ) → eqb (id_of c) u ≡ false → offset_of (changes ++ c ∷ []) u ≡ offset_of changes u
 unfolding offset_of
-offset_of-other changes c u e = received-other changes c u e
+offset_of-other changes c u e = rw (creation_of-other changes c u e, received-other changes c u e) refl
 
 pub is_terminated-other : (changes : List Accepted) (c : Accepted) (u : ℕ) → eqb (id_of c) u ≡ false → is_terminated (changes ++ c ∷ []) u ≡ is_terminated changes u
 is_terminated-other changes c u e = grind (arith, common_steps, is_terminated-snoc changes c u, ends-other c u e)

@@ -17,24 +17,27 @@ use Rattle.up_events.specs.declared.event.Event.{Event}
 use Rattle.up_events.specs.declared.track.Track.{Track}
 use Rattle.up_events.specs.declared.journal.Journal.TheInside.{Inside}
 use Rattle.up_events.specs.Lists.{gather, EachFollows}
-use Rattle.up_events.specs.History.{id_of, creation_of, offset_of, is_known, is_terminated, CanFollow, IsLegal, Step, steps_at, steps_of, events_of}
+use Rattle.up_events.specs.History.{id_of, creation_of, is_final, offset_of, is_known, is_terminated, CanFollow, IsLegal, Step, steps_at, steps_of, events_of}
 use Rattle.up_events.specs.Log.{numbered, log_of}
 use Rattle.up_events.specs.Records.{ArePlaces, AreEmpty}
 use Rattle.up_events.specs.Reached.{reached, bytes_of}
 use Rattle.up_events.specs.Kept.{IsKept, track_of}
 use Rattle.up_events.proofs.HistoryLemmas.{append_nil, EachFollows-snoc, log_of-snoc, creation_of-other, offset_of-other, events_of-other}
-use Rattle.up_events.proofs.Sound.{IsSound, sound, alive_known, creation_of-created, creation_of-appended, creation_of-terminated, offset_of-received, track_of-unknown, steps_of-reached, track_of-reached}
+use Rattle.up_events.proofs.Sound.{IsSound, sound, alive_known, creation_of-created, creation_of-appended, creation_of-terminated, offset_of-plain, track_of-unknown, steps_of-reached, track_of-reached}
 
 -- ---- numbers fit
 
 pub few_events : (changes : List Accepted) (u : ℕ) → IsSound changes u → length (events_of changes u) + 2 < 2 ^ 64
 few_events changes u s =
     let ended : cond (is_terminated changes u) 3 2 ≤ 3 = elim (is_terminated changes u) as (λ b. cond b 3 2 ≤ 3) [ true ↦ omega arith | false ↦ omega arith ] in
-    omega (arith, s.few, offset_of-received changes u, s.within, s.small)
+    elim (is_final (creation_of changes u)) as (λ b. is_final (creation_of changes u) ≡ b → length (events_of changes u) + 2 < 2 ^ 64) [
+      | true ↦ λ e. omega (arith, s.few, s.final e)
+      | false ↦ λ e. omega (arith, s.few, offset_of-plain changes u e, s.within, s.small)
+    ] refl
 
 pub bytes_fit : (changes : List Accepted) (c : Accepted) → IsSound changes (id_of c) → CanFollow changes c → offset_of changes (id_of c) + bytes_of c < 2 ^ 64
 bytes_fit changes (Created u n kind) s can = omega (arith, s.within, s.small)
-bytes_fit changes (Appended u n) s can = omega (arith, can.2, s.small)
+bytes_fit changes (Appended u n) s can = omega (arith, can.3, s.small)
 bytes_fit changes (Terminated u) s can = omega (arith, s.within, s.small)
 
 pub events-reached : (t : Track) (c : Accepted) → (reached t c).events ≡ t.events

@@ -117,7 +117,7 @@ run_appended changes u n r can =
     let events : events_of (changes ++ c ∷ []) u ≡ events_of changes u ++ steps_at c o m = events_of-own changes c in
     let f : Step = (Receive, o, m) in
     let goes = r.goes alive.1 in
-    let before : finishes (events_of changes u) ≡ 0 = r.count alive.0 ∙ ap (λ b. cond b 1 0) (below_apart (offset_of changes u) n (unwrap_or (length_of changes u) 0) can.2 can.1) in
+    let before : finishes (events_of changes u) ≡ 0 = r.count alive.0 ∙ ap (λ b. cond b 1 0) (below_apart (offset_of changes u) n (unwrap_or (length_of changes u) 0) can.3 can.2) in
     let added : finishes (steps_at c o m) ≡ cond (eqb o m) 1 0 = sum_by-append (λ (s : Step). cond (is_finish s.0) 1 0) (f ∷ []) (finish_at o m) ∙ omega (arith, finish_count o m) in
     record {
       begins = subst Begins (sym events) (begins_append (events_of changes u) (steps_at c o m) r.begins (λ none. absurd (r.some alive.0 none)));

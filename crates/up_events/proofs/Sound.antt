@@ -1,12 +1,13 @@
 -- What a legal list says of each upload, and what the step of the journal computes.
 use Rattle.std.proofs.Common.{◌≡◌, ℕ, ◌+◌, ◌*◌, ◌^◌, ◌≤◌, Bool, true, false, cond, eqb, ◌||◌, ◌&&◌, not, Option, Some, None, is_some, unwrap_or, List, [], ◌∷◌, ◌++◌, length, refl, sym, ap, ◌∙◌, subst, arith, length-append}
 use Rattle.std.proofs.lemmas.Bool.{eqb-true, eq-eqb, false≢true}
-use Rattle.up_events.specs.History.{id_of, or_else, creation_of, length_of, received, offset_of, is_known, is_terminated, CanFollow, IsLegal, finish_at, steps_at, steps_of, events_of}
+use Rattle.up_events.specs.History.{id_of, or_else, creation_of, length_of, received, is_final, is_final_kind, offset_of, is_known, is_terminated, CanFollow, IsLegal, finish_at, steps_at, steps_of, events_of}
 use Rattle.up_events.specs.declared.event.Accepted.{Accepted}
 use Rattle.up_events.specs.declared.event.Accepted.TheVariants.{Created, Appended, Terminated}
 use Rattle.up_events.specs.declared.event.Hook.TheVariants.{Finish}
 use Rattle.up_events.specs.Lists.{gather}
 use Rattle.up_events.specs.declared.event.Kind.{Kind}
+use Rattle.up_events.specs.declared.event.Kind.TheVariants.{Plain, Partial, Final}
 use Rattle.up_events.proofs.HistoryLemmas.{or_else_none, legal_induction, creation_of-snoc, received-snoc, is_terminated-snoc, events_of-snoc, creation_of-other, received-other, offset_of-other, is_terminated-other, events_of-other}
 use Rattle.up_events.specs.Reached.{reached}
 use Rattle.up_events.specs.Kept.{track_of}
@@ -63,21 +64,21 @@ events_of-own changes c = events_of-snoc changes c (id_of c) ∙ ap (λ b. event
 
 -- ---- offsets
 
-pub offset_of-created : (changes : List Accepted) (u n : ℕ) (kind : Kind) → received changes u ≡ 0 → offset_of (changes ++ Created u n kind ∷ []) u ≡ 0
+pub offset_of-created : (changes : List Accepted) (u n : ℕ) (kind : Kind) → is_known changes u ≡ false → received changes u ≡ 0 → offset_of (changes ++ Created u n kind ∷ []) u ≡ cond (is_final_kind kind) n 0
 unfolding offset_of
-offset_of-created changes u n kind none = received-created changes u n u kind ∙ none
+offset_of-created changes u n kind new none = rw (creation_of-created changes u n kind new, received-created changes u n u kind, none) refl
 
-pub offset_of-appended : (changes : List Accepted) (u n : ℕ) → offset_of (changes ++ Appended u n ∷ []) u ≡ offset_of changes u + n
+pub offset_of-appended : (changes : List Accepted) (u n : ℕ) → is_final (creation_of changes u) ≡ false → offset_of (changes ++ Appended u n ∷ []) u ≡ offset_of changes u + n
 unfolding offset_of
-offset_of-appended changes u n = received-appended changes u n
+offset_of-appended changes u n plain = rw (creation_of-appended changes u n u, received-appended changes u n, plain) refl
 
 pub offset_of-terminated : (changes : List Accepted) (v u : ℕ) → offset_of (changes ++ Terminated v ∷ []) u ≡ offset_of changes u
 unfolding offset_of
-offset_of-terminated changes v u = received-terminated changes v u
+offset_of-terminated changes v u = rw (creation_of-terminated changes v u, received-terminated changes v u) refl
 
-pub offset_of-received : (changes : List Accepted) (u : ℕ) → offset_of changes u ≡ received changes u
+pub offset_of-plain : (changes : List Accepted) (u : ℕ) → is_final (creation_of changes u) ≡ false → offset_of changes u ≡ received changes u
 unfolding offset_of
-offset_of-received changes u = refl
+offset_of-plain changes u plain = rw plain refl
 
 -- ---- what holds of each upload of a legal list
 
@@ -87,11 +88,12 @@ pub record IsSound (changes : List Accepted) (u : ℕ) : Type 0 where
   pub not_ended : is_known changes u ≡ false → is_terminated changes u ≡ false
   pub few : length (events_of changes u) ≤ 2 * received changes u + cond (is_terminated changes u) 3 2
   pub within : offset_of changes u ≤ unwrap_or (length_of changes u) 0
+  pub final : is_final (creation_of changes u) ≡ true → received changes u ≡ 0
   pub small : unwrap_or (length_of changes u) 0 ≤ 2 ^ 30
 
 pub sound_empty : (u : ℕ) → IsSound [] u
 unfolding events_of gather creation_of received is_terminated offset_of
-sound_empty u = record { no_events = λ _. refl; no_bytes = λ _. refl; not_ended = λ _. refl; few = omega arith; within = omega arith; small = omega arith }
+sound_empty u = record { no_events = λ _. refl; no_bytes = λ _. refl; not_ended = λ _. refl; few = omega arith; within = omega arith; final = λ _. refl; small = omega arith }
 
 sound_other : (changes : List Accepted) (c : Accepted) (u : ℕ) → IsSound changes u → eqb (id_of c) u ≡ false → IsSound (changes ++ c ∷ []) u
 sound_other changes c u s e =
@@ -106,6 +108,7 @@ sound_other changes c u s e =
       not_ended = rw (known, ended) s.not_ended;
       few = rw (events, bytes, ended) s.few;
       within = rw (offset, known) s.within;
+      final = rw (known, bytes) s.final;
       small = rw known s.small;
     }
 
@@ -134,19 +137,25 @@ more_events : (changes : List Accepted) (c : Accepted) → length (events_of (ch
 more_events changes c =
     omega (arith, ap length (events_of-own changes c), length-append (events_of changes (id_of c)) (steps_of changes c), steps_le c (offset_of (changes ++ c ∷ []) (id_of c)) (unwrap_or (length_of (changes ++ c ∷ []) (id_of c)) 0))
 
+created_within : (kind : Kind) (n : ℕ) → cond (is_final_kind kind) n 0 ≤ n
+created_within Plain n = omega arith
+created_within Partial n = omega arith
+created_within Final n = omega arith
+
 sound_created : (changes : List Accepted) (u n : ℕ) (kind : Kind) → IsSound changes u → CanFollow changes (Created u n kind) → IsSound (changes ++ Created u n kind ∷ []) u
 sound_created changes u n kind s can =
     let known = creation_of-created changes u n kind can.0 in
     let bytes : received (changes ++ Created u n kind ∷ []) u ≡ 0 = received-created changes u n u kind ∙ s.no_bytes can.0 in
     let ended : is_terminated (changes ++ Created u n kind ∷ []) u ≡ false = is_terminated-created changes u n u kind ∙ s.not_ended can.0 in
-    let offset = offset_of-created changes u n kind (s.no_bytes can.0) in
+    let offset = offset_of-created changes u n kind can.0 (s.no_bytes can.0) in
     let before : length (events_of changes u) ≡ 0 = ap length (s.no_events can.0) in
     record {
       no_events = λ h. absurd (known_some _ _ known h);
       no_bytes = λ h. absurd (known_some _ _ known h);
       not_ended = λ h. absurd (known_some _ _ known h);
       few = rw (bytes, ended) (omega (arith, more_events changes (Created u n kind), before));
-      within = rw (offset, known) (omega arith);
+      within = rw (offset, known) (created_within kind n);
+      final = λ _. bytes;
       small = rw known can.1;
     }
 
@@ -156,15 +165,16 @@ sound_appended changes u n s can =
     let known = creation_of-appended changes u n u in
     let bytes = received-appended changes u n in
     let ended : is_terminated (changes ++ Appended u n ∷ []) u ≡ false = is_terminated-appended changes u n u ∙ alive.1 in
-    let offset = offset_of-appended changes u n in
+    let offset = offset_of-appended changes u n can.1 in
     let few : length (events_of changes u) ≤ 2 * received changes u + 2 = rw alive.1 at s.few in
     let still : is_known (changes ++ Appended u n ∷ []) u ≡ true = ap is_some known ∙ alive.0 in
     record {
       no_events = λ h. absurd (false≢true (sym h ∙ still));
       no_bytes = λ h. absurd (false≢true (sym h ∙ still));
       not_ended = λ h. absurd (false≢true (sym h ∙ still));
-      few = rw (bytes, ended) (omega (arith, more_events changes (Appended u n), can.1));
-      within = rw (offset, known) can.2;
+      few = rw (bytes, ended) (omega (arith, more_events changes (Appended u n), can.2));
+      within = rw (offset, known) can.3;
+      final = λ h. absurd (false≢true (sym can.1 ∙ ap is_final (sym known) ∙ h));
       small = rw known s.small;
     }
 
@@ -186,6 +196,7 @@ sound_terminated changes u s can =
       not_ended = λ h. absurd (false≢true (sym h ∙ still));
       few = rw (bytes, ended) (omega (arith, one_more_event changes u));
       within = rw (offset, known) s.within;
+      final = rw (known, bytes) s.final;
       small = rw known s.small;
     }
 
@@ -209,18 +220,18 @@ sound = legal_induction (λ changes. (u : ℕ) → IsSound changes u) sound_empt
 pub track_of-unknown : (changes : List Accepted) (u : ℕ) → IsSound changes u → is_known changes u ≡ false → track_of changes u ≡ record { events = 0; offset = 0; length = 0 }
 track_of-unknown changes u s new =
     let none = none_from (creation_of changes u) new in
-    let offset : offset_of changes u ≡ 0 = offset_of-received changes u ∙ s.no_bytes new in
+    let offset : offset_of changes u ≡ 0 = offset_of-plain changes u (ap is_final none) ∙ s.no_bytes new in
     rw (s.no_events new, offset, none) refl
 
 pub steps_of-reached : (changes : List Accepted) (c : Accepted) → IsSound changes (id_of c) → CanFollow changes c → steps_of changes c ≡ steps_at c (reached (track_of changes (id_of c)) c).offset (reached (track_of changes (id_of c)) c).length
-steps_of-reached changes (Created u n kind) s can = rw (offset_of-created changes u n kind (s.no_bytes can.0), creation_of-created changes u n kind can.0) refl
-steps_of-reached changes (Appended u n) s can = rw (offset_of-appended changes u n, creation_of-appended changes u n u) refl
+steps_of-reached changes (Created u n kind) s can = rw (offset_of-created changes u n kind can.0 (s.no_bytes can.0), creation_of-created changes u n kind can.0) refl
+steps_of-reached changes (Appended u n) s can = rw (offset_of-appended changes u n can.1, creation_of-appended changes u n u) refl
 steps_of-reached changes (Terminated u) s can = rw (offset_of-terminated changes u u, creation_of-terminated changes u u) refl
 
 events-more : (changes : List Accepted) (c : Accepted) → length (events_of (changes ++ c ∷ []) (id_of c)) ≡ length (events_of changes (id_of c)) + length (steps_of changes c)
 events-more changes c = ap length (events_of-own changes c) ∙ length-append (events_of changes (id_of c)) (steps_of changes c)
 
 pub track_of-reached : (changes : List Accepted) (c : Accepted) → IsSound changes (id_of c) → CanFollow changes c → track_of (changes ++ c ∷ []) (id_of c) ≡ record (reached (track_of changes (id_of c)) c) { events = length (events_of changes (id_of c)) + length (steps_of changes c) }
-track_of-reached changes (Created u n kind) s can = rw (events-more changes (Created u n kind), offset_of-created changes u n kind (s.no_bytes can.0), creation_of-created changes u n kind can.0) refl
-track_of-reached changes (Appended u n) s can = rw (events-more changes (Appended u n), offset_of-appended changes u n, creation_of-appended changes u n u) refl
+track_of-reached changes (Created u n kind) s can = rw (events-more changes (Created u n kind), offset_of-created changes u n kind can.0 (s.no_bytes can.0), creation_of-created changes u n kind can.0) refl
+track_of-reached changes (Appended u n) s can = rw (events-more changes (Appended u n), offset_of-appended changes u n can.1, creation_of-appended changes u n u) refl
 track_of-reached changes (Terminated u) s can = rw (events-more changes (Terminated u), offset_of-terminated changes u u, creation_of-terminated changes u u) refl

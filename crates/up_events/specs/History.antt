@@ -7,6 +7,7 @@ use Rattle.up_events.specs.declared.event.Accepted.TheVariants.{Created, Appende
 use Rattle.up_events.specs.declared.event.Hook.{Hook}
 use Rattle.up_events.specs.declared.event.Hook.TheVariants.{Create, Receive, Finish, Terminate}
 use Rattle.up_events.specs.declared.event.Kind.{Kind}
+use Rattle.up_events.specs.declared.event.Kind.TheVariants.{Plain, Partial, Final}
 
 -- the upload that a change is of
 abbrev pub id_of : Accepted → ℕ
@@ -54,9 +55,20 @@ kind_of changes u = option_map (λ (p : ℕ × Kind). p.1) (creation_of changes 
 unfoldable pub received : List Accepted → ℕ → ℕ
 received changes u = sum_by (bytes_in u) changes
 
--- how far an upload has come: all that was appended to it
+-- whether an upload of this kind has its bytes from the parts that it joins
+abbrev pub is_final_kind : Kind → Bool
+is_final_kind Plain = false
+is_final_kind Partial = false
+is_final_kind Final = true
+
+-- whether this is the creation of a final upload
+abbrev pub is_final : Option (ℕ × Kind) → Bool
+is_final None = false
+is_final (Some p) = is_final_kind p.1
+
+-- how far an upload has come: a final one to its length, any other to all that was appended to it
 unfoldable pub offset_of : List Accepted → ℕ → ℕ
-offset_of changes u = received changes u
+offset_of changes u = if is_final (creation_of changes u) then unwrap_or (length_of changes u) 0 else received changes u
 
 -- whether an upload was ever created
 abbrev pub is_known : List Accepted → ℕ → Bool
@@ -71,11 +83,12 @@ abbrev pub is_alive : List Accepted → ℕ → Bool
 is_alive changes u = is_known changes u && not (is_terminated changes u)
 
 -- what may be accepted after these changes: the creation of a new upload of at most 2^30 bytes, at
--- least one more byte of an upload that is there, up to its length, or the end of one that is there
+-- least one more byte of an upload that is there and isn't final, up to its length, or the end of one
+-- that is there
 abbrev pub CanFollow : List Accepted → Accepted → Type 0
 CanFollow before (Created id length kind) = (is_known before id ≡ false) × (length ≤ 2 ^ 30)
 CanFollow before (Appended id count) =
-    (is_alive before id ≡ true) × (1 ≤ count) × (offset_of before id + count ≤ unwrap_or (length_of before id) 0)
+    (is_alive before id ≡ true) × (is_final (creation_of before id) ≡ false) × (1 ≤ count) × (offset_of before id + count ≤ unwrap_or (length_of before id) 0)
 CanFollow before (Terminated id) = is_alive before id ≡ true
 
 -- each change could follow those before it

@@ -1,5 +1,6 @@
 -- How far an upload has come with one more change.
-use Rattle.std.specs.Prelude.{ℕ, ◌+◌, Bool, false, ◌==◌}
+use Rattle.std.specs.Prelude.{ℕ, ◌+◌, Bool, false, if◌then◌else◌, ◌==◌}
+use Rattle.up_events.specs.History.{is_final_kind}
 use Rattle.up_events.specs.declared.event.Accepted.{Accepted}
 use Rattle.up_events.specs.declared.event.Accepted.TheVariants.{Created, Appended, Terminated}
 use Rattle.up_events.specs.declared.event.Hook.{Hook}
@@ -8,7 +9,7 @@ use Rattle.up_events.specs.declared.track.Track.{Track}
 
 -- offset and length with the change, and the number of events before it
 abbrev pub reached : Track → Accepted → Track
-reached t (Created id length kind) = record { events = t.events; offset = 0; length = length }
+reached t (Created id length kind) = record { events = t.events; offset = if is_final_kind kind then length else 0; length = length }
 reached t (Appended id count) = record { events = t.events; offset = t.offset + count; length = t.length }
 reached t (Terminated id) = t
 

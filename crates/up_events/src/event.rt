@@ -8,19 +8,23 @@ use crate::id::Id;
 pub enum Kind {
     /// By appends alone.
     Plain,
+    /// By appends alone, and it is there to be a part of final uploads (tus 1.0.0, Concatenation).
+    Partial,
+    /// From the parts that it joins: it is complete from its creation on (tus 1.0.0, Concatenation).
+    Final,
 }
 
 /// A change of one upload that was accepted. A list of them is the history of all uploads.
 #[derive(Clone, Copy, Debug, PartialEq, Eq)]
 pub enum Accepted {
-    /// The upload was created, with no bytes yet.
+    /// The upload was created: a final one with all of its bytes, any other with none yet.
     Created {
         id: Id,
         /// How long the upload is once it is complete, in bytes (`Upload-Length` of tus 1.0.0).
         length: u64,
         kind: Kind,
     },
-    /// Bytes were appended to the upload.
+    /// Bytes were appended to the upload, which isn't a final one.
     Appended {
         id: Id,
         /// How many bytes.

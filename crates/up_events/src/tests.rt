@@ -3,7 +3,7 @@ ghost use Rattle.std.specs.Prelude.{◌≡◌, ◌<◌, ◌≤◌};
 ghost use Rattle.up_events.specs.Lists.{EachFollows};
 ghost use Rattle.up_events.specs.History.{CanFollow, IsLegal};
 ghost use Rattle.up_events.specs.declared.event.Accepted.TheVariants.{Created as IsCreated, Appended as IsAppended, Terminated as IsTerminated};
-ghost use Rattle.up_events.specs.declared.event.Kind.TheVariants.{Plain as IsPlain};
+ghost use Rattle.up_events.specs.declared.event.Kind.TheVariants.{Plain as IsPlain, Partial as IsPartial, Final as IsFinal};
 
 use crate::{Accepted, Added, Event, Hook, Id, Journal, Kind, NoMemory};
 use std::alloc::{AllocError, Global};
@@ -17,6 +17,26 @@ fn created(number: u128, length: u64) -> Accepted
         id: Id::new(number),
         length,
         kind: Kind::Plain,
+    }
+}
+
+fn created_partial(number: u128, length: u64) -> Accepted
+    ensures { result ≡ IsCreated number length IsPartial }
+{
+    Accepted::Created {
+        id: Id::new(number),
+        length,
+        kind: Kind::Partial,
+    }
+}
+
+fn created_final(number: u128, length: u64) -> Accepted
+    ensures { result ≡ IsCreated number length IsFinal }
+{
+    Accepted::Created {
+        id: Id::new(number),
+        length,
+        kind: Kind::Final,
     }
 }
 
@@ -77,6 +97,27 @@ fn two_ends() -> [Accepted; 5]
     ]
 }
 
+fn two_parts_joined() -> [Accepted; 8]
+    ensures { IsLegal result }
+{
+    [
+        created_partial(1, 3),
+        created_partial(2, 4),
+        appended(2, 4),
+        appended(1, 1),
+        appended(1, 2),
+        created_final(3, 7),
+        terminated(1),
+        terminated(3),
+    ]
+}
+
+fn no_bytes_joined() -> [Accepted; 2]
+    ensures { IsLegal result }
+{
+    [created_partial(1, 0), created_final(2, 0)]
+}
+
 fn five_uploads() -> [Accepted; 15]
     ensures { IsLegal result }
 {
@@ -116,7 +157,12 @@ fn reached_by(through: &[Accepted], id: Id) -> (u64, u64) {
     let mut whole: u64 = 0;
     for change in through {
         match *change {
-            Accepted::Created { length, .. } if change.id() == id => whole = length,
+            Accepted::Created { length, kind, .. } if change.id() == id => {
+                whole = length;
+                if kind == Kind::Final {
+                    offset = length;
+                }
+            }
             Accepted::Appended { count, .. } if change.id() == id => {
                 offset = offset.saturating_add(count);
             }
@@ -271,6 +317,62 @@ fn uploads_that_were_ended(rt: HostRuntime) -> Result<(), Fail> {
     ];
     assert_eq!(rt; journal.lane_log(1), expected.as_slice());
     assert!(rt; journal.knows(Id::new(1)));
+    Ok(())
+}
+
+#[test]
+fn a_final_upload_of_two_parts(rt: HostRuntime) -> Result<(), Fail> {
+    let journal = agrees(&rt, rt.alloc(), &two_parts_joined(), 2)?;
+    let expected = [
+        event(1, 1, Hook::Create, 0, 3),
+        event(1, 2, Hook::Receive, 1, 3),
+        event(1, 3, Hook::Receive, 3, 3),
+        event(1, 4, Hook::Finish, 3, 3),
+        event(3, 1, Hook::Create, 7, 7),
+        event(3, 2, Hook::Finish, 7, 7),
+        event(1, 5, Hook::Terminate, 3, 3),
+        event(3, 3, Hook::Terminate, 7, 7),
+    ];
+    assert_eq!(rt; journal.lane_log(1), expected.as_slice());
+    let expected = [
+        event(2, 1, Hook::Create, 0, 4),
+        event(2, 2, Hook::Receive, 4, 4),
+        event(2, 3, Hook::Finish, 4, 4),
+    ];
+    assert_eq!(rt; journal.lane_log(0), expected.as_slice());
+    Ok(())
+}
+
+#[test]
+fn a_final_upload_of_no_bytes(rt: HostRuntime) -> Result<(), Fail> {
+    let journal = agrees(&rt, rt.alloc(), &no_bytes_joined(), 1)?;
+    let expected = [
+        event(1, 1, Hook::Create, 0, 0),
+        event(1, 2, Hook::Finish, 0, 0),
+        event(2, 1, Hook::Create, 0, 0),
+        event(2, 2, Hook::Finish, 0, 0),
+    ];
+    assert_eq!(rt; journal.lane_log(0), expected.as_slice());
+    Ok(())
+}
+
+#[test]
+fn places_of_a_final_upload(rt: HostRuntime) -> Result<(), Fail> {
+    let mut journal = Journal::new(rt.alloc(), 2)?;
+    assert!(rt; !journal.knows(Id::new(1)));
+    let added = journal.note(created_final(1, 9))?;
+    let places = Added {
+        lane: 1,
+        first: 0,
+        count: 2,
+    };
+    assert_eq!(rt; added, places);
+    assert!(rt; journal.knows(Id::new(1)));
+    let expected = [
+        event(1, 1, Hook::Create, 9, 9),
+        event(1, 2, Hook::Finish, 9, 9),
+    ];
+    assert_eq!(rt; journal.lane_log(1), expected.as_slice());
     Ok(())
 }
 

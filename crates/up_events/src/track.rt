@@ -6,7 +6,7 @@ ghost use Rattle.up_events.specs.History.{id_of, steps_at};
 ghost use Rattle.up_events.specs.Log.{numbered};
 ghost use Rattle.up_events.specs.Reached.{reached, hook_of, bytes_of, completes};
 
-use crate::event::{Accepted, Event, Hook};
+use crate::event::{Accepted, Event, Hook, Kind};
 use crate::fault::NoMemory;
 use crate::id::Id;
 use std::collections::BTreeMap;
@@ -36,9 +36,9 @@ impl Track {
         ensures { result ≡ reached self change.now }
     {
         match *change {
-            Accepted::Created { length, .. } => Track {
+            Accepted::Created { length, kind, .. } => Track {
                 events: self.events,
-                offset: 0,
+                offset: if kind == Kind::Final { length } else { 0 },
                 length,
             },
             Accepted::Appended { count, .. } => Track {

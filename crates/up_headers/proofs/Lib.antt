@@ -1,8 +1,11 @@
 pub mod DecodedBytes
 pub mod MetadataTexts
+pub mod WordLemmas
 pub mod MetadataParts
 pub mod MetadataPairs
 pub mod MetadataCuts
 pub mod MetadataAnswers
 pub mod MetadataFaults
+pub mod ConcatLemmas
+pub mod ConcatOnce
 pub mod Routing

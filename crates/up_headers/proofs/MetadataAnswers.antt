@@ -8,13 +8,15 @@ use Rattle.base64.specs.Engines.{standard}
 use Rattle.base64.specs.GeneralPurpose.{encode_of, decode_of, IsBytes}
 use Rattle.base64.specs.declared.decode.DecodeError.{DecodeError}
 use Rattle.base64.proofs.EngineFacts.{decode_of-encode_of, decode_of_strict, front_bytes}
+use Rattle.up_headers.specs.Words.{is_no_space, behind_word}
 use Rattle.up_headers.proofs.DecodedBytes.{back_bytes, decoded_is_bytes}
 use Rattle.up_headers.specs.declared.metadata_fault.MetadataFault.{MetadataFault}
 use Rattle.up_headers.specs.declared.metadata_fault.MetadataFault.TheVariants as Fault
-use Rattle.up_headers.specs.Metadata.{Pair, is_space, is_no_space, AreSpaces, HaveNoCommas, IsPart, HasKey, has_key, ArePairs, with_commas, ReadsPairs, IsPartFault, HasFault, IsRefusal}
+use Rattle.up_headers.specs.Metadata.{Pair, HaveNoCommas, IsPart, has_key, ArePairs, with_commas, ReadsPairs, IsPartFault, HasFault, IsRefusal}
 use Rattle.up_headers.specs.Reading.{key_of, value_of, with_value, part_reading, and_then, parts_reading, reading, Answers, ReadingTells}
 use Rattle.up_wire.specs.Fields.{split_commas}
-use Rattle.up_headers.proofs.MetadataTexts.{all_append, split_no_commas, joined_split}
+use Rattle.up_headers.proofs.MetadataTexts.{split_no_commas, joined_split}
+use Rattle.up_headers.proofs.WordLemmas.{begins_with, no_word}
 use Rattle.up_headers.proofs.MetadataParts.{part_facts, encoding_empty}
 use Rattle.up_headers.proofs.MetadataPairs.{reads_reading}
 use Rattle.up_headers.proofs.MetadataCuts.{parted}
@@ -23,11 +25,6 @@ use Rattle.up_headers.proofs.MetadataCuts.{parted}
 some_of : (n : ℕ) → (n == 0) ≡ false → 0 < n
 some_of zero e = absurd (cc)
 some_of (suc n) e = omega arith
-
--- a list of no length
-nil_of : (xs : List ℕ) → length xs ≡ 0 → xs ≡ []
-nil_of [] e = refl
-nil_of (x ∷ xs) e = absurd (omega arith)
 
 -- a pair comes of a key that is new and a value that decodes
 outcome_parts : (empty known : Bool) (key : List ℕ) (d : Result (List ℕ) DecodeError) (pair : Pair)
@@ -91,35 +88,14 @@ outcome_fault false false key (Ok value) fault is = absurd (cc)
 outcome_fault false false key (Err x) fault is =
     let e : Fault.BadValue ≡ fault = cc is in subst (λ f. Case f false false (Err x)) e (refl, refl, λ v same. cc same)
 
--- a part with a key begins with it
-keyed_of : (part : List ℕ) → 0 < length (key_of part) → HasKey part (key_of part)
-keyed_of part some =
-    let p = parted part in
-    record {
-      left = p.left;
-      rest = p.rest;
-      spelled = p.spelled ∙ ap (λ k. p.left ++ (k ++ p.rest)) (sym p.is_key);
-      spaces = p.spaces.0;
-      is_key = (some, subst (λ k. list_all is_no_space k ≡ true) (sym p.is_key) p.keyed);
-      ends = p.ends;
-    }
-
--- a part without a key is spaces
-all_blank : (part : List ℕ) → length (key_of part) ≡ 0 → AreSpaces part
-all_blank part none =
-    let p = parted part in
-    let nokey : length p.key ≡ 0 = sym (ap length p.is_key) ∙ none in
-    let whole : part ≡ p.left ++ [] = p.spelled ∙ ap (λ r. p.left ++ (p.key ++ r)) (p.empty nokey) ∙ ap (λ k. p.left ++ (k ++ [])) (nil_of p.key nokey) in
-    subst (λ t. list_all is_space t ≡ true) (sym whole) (all_append is_space p.left [] p.spaces.0 refl)
-
 -- a part in the case of a fault has it
 fault_of_case : (before : List Pair) (part : List ℕ) (fault : MetadataFault)
     → Case fault (length (key_of part) == 0) (has_key (key_of part) before) (decode_of standard (value_of part)) → IsPartFault before part fault
-fault_of_case before part Fault.EmptyKey is = all_blank part (eqb-true (length (key_of part)) 0 is)
-fault_of_case before part Fault.KeyTwice is = (key_of part, keyed_of part (some_of (length (key_of part)) is.0), is.1)
+fault_of_case before part Fault.EmptyKey is = no_word part (eqb-true (length (key_of part)) 0 is)
+fault_of_case before part Fault.KeyTwice is = (key_of part, (behind_word part, begins_with part (some_of (length (key_of part)) is.0)), is.1)
 fault_of_case before part Fault.BadValue is = (
   key_of part,
-  keyed_of part (some_of (length (key_of part)) is.0),
+  (behind_word part, begins_with part (some_of (length (key_of part)) is.0)),
   is.1,
   λ pair reads. is.2 pair.1 (ap (decode_of standard) (part_facts part pair reads).1 ∙ decode_of-encode_of standard pair.1 refl reads.is_value),
 )

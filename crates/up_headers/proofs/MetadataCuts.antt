@@ -1,12 +1,12 @@
 -- Every part of a metadata text is spaces, what stands for a key, a gap, what stands for a value, and spaces.
-use Rattle.std.proofs.Common.{◌≡◌, ℕ, ◌-◌, ◌==◌, Bool, true, false, not, List, [], ◌∷◌, ◌++◌, length, take, reverse, sym, refl, ap, subst, ◌∙◌, arith}
+use Rattle.std.proofs.Common.{◌≡◌, ℕ, ◌==◌, Bool, true, false, List, [], ◌∷◌, ◌++◌, length, reverse, sym, refl, ap, subst, ◌∙◌, arith}
 use Rattle.std.specs.List.{list_all}
-use Rattle.std.proofs.lemmas.List.{length-append, reverse-append, reverse-reverse}
-use Rattle.std.proofs.lemmas.Bool.{eq-eqb, eqb-true}
-use Rattle.std.proofs.Math.Seq.{take-append_seam}
-use Rattle.up_headers.specs.Metadata.{is_space, is_no_space, AreSpaces, EndsKey}
-use Rattle.up_headers.specs.Reading.{skip_spaces, from_space, trim_end, key_of, value_of}
+use Rattle.std.proofs.lemmas.List.{reverse-append, reverse-reverse}
+use Rattle.std.proofs.lemmas.Bool.{eq-eqb}
+use Rattle.up_headers.specs.Reading.{key_of, value_of}
+use Rattle.up_headers.specs.Words.{is_space, is_no_space, AreSpaces, EndsWord, skip_spaces, from_space, trim_end}
 use Rattle.up_headers.proofs.MetadataTexts.{split_at, drop_first}
+use Rattle.up_headers.proofs.WordLemmas.{first_space, taken}
 use Rattle.up_headers.proofs.MetadataParts.{all_reverse}
 
 -- a part, as the reading cuts it
@@ -21,39 +21,15 @@ pub record Parted (part : List ℕ) : Type 0 where
   pub is_key : key_of part ≡ key
   pub is_rest : rest ≡ gap ++ (value_of part ++ right)
   pub spelled : part ≡ left ++ (key ++ rest)
-  pub empty : length key ≡ 0 → rest ≡ []
-  pub ends : EndsKey rest
   pub apart : length gap ≡ 0 → value_of part ≡ []
 
--- what stands behind a key
-first_space : (text rest : List ℕ) → rest ≡ from_space text → EndsKey rest
-first_space text [] is = tt
-first_space text (b ∷ bs) is = eqb-true b 32 (not_false (b == 32) (drop_first is_no_space text b bs (sym is)))
-  where
-    not_false : (t : Bool) → not t ≡ false → t ≡ true
-    not_false true is = refl
-    not_false false is = absurd (cc)
-
--- what stands behind the spaces begins with a key
-no_rest : (text skipped key rest : List ℕ) → skipped ≡ skip_spaces text → skipped ≡ key ++ rest → rest ≡ from_space skipped → length key ≡ 0 → rest ≡ []
-no_rest text skipped (k ∷ key) rest is whole from none = absurd (omega arith)
-no_rest text skipped [] [] is whole from none = refl
-no_rest text skipped [] (b ∷ bs) is whole from none =
-    let first : is_space b ≡ false = drop_first is_space text b bs (sym is ∙ whole) in
-    let other = drop_first is_no_space skipped b bs (sym from) in
-    absurd (never (b == 32) first other)
-  where
-    never : (t : Bool) → t ≡ false → not t ≡ false → ⊥
-    never true a b = cc
-    never false a b = cc
-
 -- without a gap nothing stands behind it
-no_value : (rest behind gap : List ℕ) → EndsKey rest → rest ≡ gap ++ behind → behind ≡ skip_spaces rest → length gap ≡ 0 → behind ≡ []
+no_value : (rest behind gap : List ℕ) → EndsWord rest → rest ≡ gap ++ behind → behind ≡ skip_spaces rest → length gap ≡ 0 → behind ≡ []
 no_value rest behind (g ∷ gap) ends whole from none = absurd (omega arith)
 no_value rest [] [] ends whole from none = refl
 no_value rest (b ∷ bs) [] ends whole from none =
     let first = drop_first is_space rest b bs (sym from) in
-    let space : b ≡ 32 = subst EndsKey whole ends in
+    let space : b ≡ 32 = subst EndsWord whole ends in
     absurd (absurd_at (b == 32) first (eq-eqb b 32 space))
   where
     absurd_at : (t : Bool) → t ≡ false → t ≡ true → ⊥
@@ -68,8 +44,6 @@ parted part =
     let u = split_at is_space (from_space (skip_spaces part)) in
     let behind : List ℕ = skip_spaces (from_space (skip_spaces part)) in
     let v = split_at is_space (reverse behind) in
-    let n : length (skip_spaces part) - length (from_space (skip_spaces part)) ≡ length t.front =
-    omega (arith, ap length t.whole, length-append t.front (from_space (skip_spaces part))) in
     let ends = first_space (skip_spaces part) (from_space (skip_spaces part)) refl in
     record {
       left = s.front;
@@ -79,10 +53,8 @@ parted part =
       rest = from_space (skip_spaces part);
       spaces = (s.pass, u.pass, all_reverse is_space v.front v.pass);
       keyed = t.pass;
-      is_key = ap (λ n. take n (skip_spaces part)) n ∙ ap (take (length t.front)) t.whole ∙ take-append_seam t.front (from_space (skip_spaces part));
+      is_key = taken (skip_spaces part) t.front t.whole;
       is_rest = u.whole ∙ ap (λ b. u.front ++ b) (sym (reverse-reverse behind) ∙ ap reverse v.whole ∙ reverse-append v.front (skip_spaces (reverse behind)));
       spelled = s.whole ∙ ap (λ b. s.front ++ b) t.whole;
-      empty = no_rest part (skip_spaces part) t.front (from_space (skip_spaces part)) refl t.whole refl;
-      ends = ends;
       apart = λ none. ap trim_end (no_value (from_space (skip_spaces part)) behind u.front ends u.whole refl none);
     }

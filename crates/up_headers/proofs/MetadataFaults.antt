@@ -8,28 +8,21 @@ use Rattle.base64.specs.declared.decode.DecodeError.{DecodeError}
 use Rattle.up_wire.specs.Fields.{split_commas}
 use Rattle.up_headers.specs.declared.metadata_fault.MetadataFault.{MetadataFault}
 use Rattle.up_headers.specs.declared.metadata_fault.MetadataFault.TheVariants as Fault
-use Rattle.up_headers.specs.Metadata.{Pair, is_space, is_no_space, EndsKey, HasKey, has_key, ArePairs, HaveNoCommas, with_commas, IsPart, IsPartFault, HasFault, FaultsOnce}
-use Rattle.up_headers.specs.Reading.{skip_spaces, from_space, until_space, key_of, value_of, part_reading, and_then, parts_reading}
-use Rattle.up_headers.proofs.MetadataTexts.{drop_through, drop_none, split_joined}
-use Rattle.up_headers.proofs.MetadataParts.{all_spaces, key_stays, key_taken, part_read}
+use Rattle.up_headers.specs.Metadata.{Pair, HasKey, has_key, ArePairs, HaveNoCommas, with_commas, IsPart, IsPartFault, HasFault, FaultsOnce}
+use Rattle.up_headers.specs.Reading.{key_of, value_of, part_reading, and_then, parts_reading}
+use Rattle.up_headers.specs.Words.{until_space}
+use Rattle.up_headers.proofs.MetadataTexts.{split_joined}
+use Rattle.up_headers.proofs.WordLemmas.{all_spaces, word_found}
+use Rattle.up_headers.proofs.MetadataParts.{part_read}
 use Rattle.up_headers.proofs.MetadataAnswers.{AllBytes, bytes_joined, part_relates}
-
--- what ends a key begins with a space
-ends_stay : (rest : List ℕ) → EndsKey rest → from_space rest ≡ rest
-ends_stay [] ends = refl
-ends_stay (b ∷ bs) ends = drop_none is_no_space b bs (ap is_no_space ends)
 
 -- a part that begins with a key is read with that key
 key_found : (part key : List ℕ) → HasKey part key → key_of part ≡ key
-key_found part key has =
-    let skipped : skip_spaces part ≡ key ++ has.rest =
-    ap skip_spaces has.spelled ∙ drop_through is_space has.left (key ++ has.rest) has.spaces ∙ key_stays key has.rest has.is_key in
-    let found : from_space (key ++ has.rest) ≡ has.rest = drop_through is_no_space key has.rest has.is_key.1 ∙ ends_stay has.rest has.ends in
-    ap until_space skipped ∙ key_taken key has.rest found
+key_found part key has = (word_found part key has.0 has.1).0
 
 -- and the key is not empty
 key_some : (part key : List ℕ) → HasKey part key → (length (key_of part) == 0) ≡ false
-key_some part key has = ne_eqb (length (key_of part)) 0 (omega (arith, ap length (key_found part key has), has.is_key.0))
+key_some part key has = ne_eqb (length (key_of part)) 0 (omega (arith, ap length (key_found part key has), has.1.is_word.0))
 
 -- a new key is read with its value, which does not decode where the part is no pair
 value_read : (before : List Pair) (part : List ℕ) (d : Result (List ℕ) DecodeError) → IsBytes part → decode_of standard (value_of part) ≡ d

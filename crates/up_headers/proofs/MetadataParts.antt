@@ -1,18 +1,19 @@
 -- One part of a metadata text: the relation and the reading.
-use Rattle.std.proofs.Common.{◌≡◌, ℕ, zero, suc, ◌+◌, ◌-◌, ◌*◌, ◌/◌, ◌%◌, ◌<◌, ◌==◌, Bool, true, false, cond, not, ◌&&◌, List, [], ◌∷◌, ◌++◌, length, get_or, take, reverse, sym, refl, ap, ◌∙◌, arith, Result, Ok, Err}
+use Rattle.std.proofs.Common.{◌≡◌, ℕ, zero, suc, ◌+◌, ◌*◌, ◌/◌, ◌%◌, ◌<◌, ◌==◌, Bool, true, false, cond, not, ◌&&◌, List, [], ◌∷◌, ◌++◌, length, get_or, reverse, refl, ap, ◌∙◌, arith, Result, Ok, Err}
 use Rattle.std.specs.Prelude.{replicate}
 use Rattle.std.specs.List.{list_all}
-use Rattle.std.proofs.lemmas.List.{length-append, append-nil, reverse-append, reverse-reverse}
+use Rattle.std.proofs.lemmas.List.{reverse-append, reverse-reverse}
 use Rattle.std.proofs.lemmas.Bool.{ne_eqb}
-use Rattle.std.proofs.Math.Seq.{take-append_seam}
 use Rattle.base64.specs.Engines.{standard}
 use Rattle.base64.specs.GeneralPurpose.{encode_of, decode_of}
 use Rattle.base64.specs.Rfc4648.{encode_symbols, padding_len}
 use Rattle.base64.specs.declared.decode.DecodeError.{DecodeError}
 use Rattle.base64.proofs.EngineFacts.{decode_of-encode_of}
 use Rattle.up_headers.specs.declared.metadata_fault.MetadataFault.TheVariants as Fault
-use Rattle.up_headers.specs.Metadata.{Pair, is_space, is_no_space, AreSpaces, IsKey, IsPart, has_key}
-use Rattle.up_headers.specs.Reading.{skip_spaces, from_space, trim_end, until_space, key_of, value_of, with_value, part_reading}
+use Rattle.up_headers.specs.Metadata.{Pair, IsPart, has_key}
+use Rattle.up_headers.specs.Reading.{key_of, value_of, with_value, part_reading}
+use Rattle.up_headers.specs.Words.{is_space, is_no_space, AreSpaces, skip_spaces, from_space, trim_end, until_space}
+use Rattle.up_headers.proofs.WordLemmas.{word_stays, all_spaces, word_taken}
 use Rattle.up_headers.proofs.MetadataTexts.{all_first, all_rest, all_append, drop_through, drop_none, not_true}
 
 -- two tests that pass
@@ -66,12 +67,7 @@ gap_stays : (gap text right : List ℕ) → AreSpaces gap → AreSpaces right �
 gap_stays [] text right all more none = let e = none refl in rw e (spaces_stay right more)
 gap_stays (g ∷ gs) text right all more none = space_stays g (gs ++ (text ++ right)) (all_first is_space g gs all)
 
--- a key has no spaces to skip
-pub key_stays : (key text : List ℕ) → IsKey key → skip_spaces (key ++ text) ≡ key ++ text
-key_stays [] text is = absurd (omega arith)
-key_stays (b ∷ bs) text is = drop_none is_space b (bs ++ text) (not_true (b == 32) (all_first is_no_space b bs is.1))
-
--- nor has any text without spaces
+-- a text without spaces has none to skip
 none_skipped : (xs : List ℕ) → list_all is_no_space xs ≡ true → skip_spaces xs ≡ xs
 none_skipped [] all = refl
 none_skipped (b ∷ bs) all = drop_none is_space b bs (not_true (b == 32) (all_first is_no_space b bs all))
@@ -91,21 +87,11 @@ end_trimmed xs right all spaces =
     ∙ ap reverse (none_skipped (reverse xs) (all_reverse is_no_space xs all))
     ∙ reverse-reverse xs
 
--- of spaces nothing is left
-pub all_spaces : (right : List ℕ) → AreSpaces right → skip_spaces right ≡ []
-all_spaces right spaces = ap skip_spaces (sym (append-nil right)) ∙ drop_through is_space right [] spaces
-
 -- a text without spaces is left of one with spaces behind
 trimmed : (xs right : List ℕ) → list_all is_no_space xs ≡ true → AreSpaces right → trim_end (skip_spaces (xs ++ right)) ≡ xs
 trimmed [] right all spaces = ap trim_end (all_spaces right spaces)
 trimmed (b ∷ bs) right all spaces =
     ap trim_end (drop_none is_space b (bs ++ right) (not_true (b == 32) (all_first is_no_space b bs all))) ∙ end_trimmed (b ∷ bs) right all spaces
-
--- a key is found up to the space behind it
-pub key_taken : (key text : List ℕ) → from_space (key ++ text) ≡ text → until_space (key ++ text) ≡ key
-key_taken key text found =
-    let n : length (key ++ text) - length (from_space (key ++ text)) ≡ length key = omega (arith, ap length found, length-append key text) in
-    ap (λ n. take n (key ++ text)) n ∙ take-append_seam key text
 
 -- of a part that is a pair these are the key and the encoding
 pub part_facts : (part : List ℕ) (pair : Pair) → IsPart part pair → (key_of part ≡ pair.0) × (value_of part ≡ encode_of standard pair.1)
@@ -113,11 +99,11 @@ part_facts part pair is =
     let encoded = encode_of standard pair.1 in
     let text : List ℕ = is.gap ++ (encoded ++ is.right) in
     let skipped : skip_spaces part ≡ pair.0 ++ text =
-    ap skip_spaces is.spelled ∙ drop_through is_space is.left (pair.0 ++ text) is.spaces.0 ∙ key_stays pair.0 text is.is_key in
+    ap skip_spaces is.spelled ∙ drop_through is_space is.left (pair.0 ++ text) is.spaces.0 ∙ word_stays pair.0 text is.is_key in
     let none : length is.gap ≡ 0 → encoded ≡ [] = λ (e : length is.gap ≡ 0). encoding_empty pair.1 (no_value (length pair.1) (length is.gap) e is.apart) in
     let found : from_space (pair.0 ++ text) ≡ text =
     drop_through is_no_space pair.0 text is.is_key.1 ∙ gap_stays is.gap encoded is.right is.spaces.1 is.spaces.2 none in (
-      ap until_space skipped ∙ key_taken pair.0 text found,
+      ap until_space skipped ∙ word_taken pair.0 text found,
       ap (λ t. trim_end (skip_spaces (from_space t))) skipped ∙ ap (λ t. trim_end (skip_spaces t)) found
           ∙ ap trim_end (drop_through is_space is.gap (encoded ++ is.right) is.spaces.1)
           ∙ trimmed encoded is.right (encoding_no_space pair.1) is.spaces.2,

@@ -4,8 +4,8 @@ use Rattle.std.specs.List.{list_all}
 use Rattle.std.proofs.lemmas.Bool.{eq-eqb, eqb-true, ne_eqb}
 use Rattle.std.proofs.lemmas.List.{length-append}
 use Rattle.up_wire.specs.Fields.{cons_first, split_commas}
-use Rattle.up_headers.specs.Reading.{drop_while}
 use Rattle.up_headers.specs.Metadata.{is_no_comma, HasNoComma, HaveNoCommas, with_commas}
+use Rattle.up_headers.specs.Words.{drop_while}
 
 -- what a text's first bytes that pass are
 pub record Split (test : ℕ → Bool) (text : List ℕ) : Type 0 where

@@ -1,18 +1,18 @@
 -- An upload that is to be made (tus 1.0.0, Creation).
-use Rattle.std.specs.Prelude.{ℕ, ◌&&◌, Bool, not, List, [], ◌∷◌, ◌++◌, codes, length, nat_lt, Option, Some, None, Result, Ok, Err}
+use Rattle.std.specs.Prelude.{◌≡◌, ℕ, ◌&&◌, Bool, not, List, [], ◌∷◌, codes, nat_lt, Option, Some, None, is_none, Result, Ok, Err, if◌then◌else◌}
 use Rattle.std.specs.Result.{is_err}
 use Rattle.std.specs.Str.Parse.{digits_value}
 use Rattle.up_wire.specs.Digits.{is_digits}
 use Rattle.up_wire.specs.Fields.{Field}
-use Rattle.up_events.specs.declared.event.Kind.TheVariants.{Plain}
 use Rattle.up_headers.specs.declared.request.NewUpload.{NewUpload}
 use Rattle.up_headers.specs.declared.header_fault.HeaderFault.{HeaderFault}
 use Rattle.up_headers.specs.declared.header_fault.HeaderFault.TheVariants.{BadLength, TooLong, BadConcat, BadMetadata}
 use Rattle.up_headers.specs.declared.metadata_fault.MetadataFault.{MetadataFault}
 use Rattle.up_headers.specs.Metadata.{Pair}
 use Rattle.up_headers.specs.Reading.{reading}
-use Rattle.up_headers.specs.Rows.{Row}
+use Rattle.up_headers.specs.Rows.{Row, first_that_holds, Then}
 use Rattle.up_headers.specs.Fields.{stands, value_in}
+use Rattle.up_headers.specs.Concat.{Concat, IsConcat, is_final}
 
 -- the text of the length
 abbrev pub length_text : List Field → List ℕ
@@ -30,21 +30,19 @@ length_in fields = digits_value 10 (length_text fields)
 abbrev pub metadata_in : List Field → List ℕ
 metadata_in fields = value_in (codes "upload-metadata") fields
 
--- whether the upload is to be made of others, or to become a part of one
-abbrev pub is_joined : List Field → Bool
-is_joined fields = nat_lt 0 (length (value_in (codes "upload-concat") fields))
+-- the text that says whether the upload is a part, or joins parts
+abbrev pub concat_in : List Field → List ℕ
+concat_in fields = value_in (codes "upload-concat") fields
 
--- the checks of the length, in their order
+-- the checks of the length, in their order; a final upload has that of its parts, and none is asked for
 abbrev pub length_rows : List Field → ℕ → List (Row HeaderFault)
-length_rows fields max_size = (not (has_length fields), BadLength) ∷ (nat_lt max_size (length_in fields), TooLong) ∷ []
+length_rows fields max_size =
+    if is_final (concat_in fields) then []
+    else (not (has_length fields), BadLength) ∷ (nat_lt max_size (length_in fields), TooLong) ∷ []
 
--- the checks of a creation, in their order
-abbrev pub creation_rows : List Field → ℕ → List (Row HeaderFault)
-creation_rows fields max_size =
-    length_rows fields max_size
-    ++ (is_joined fields, BadConcat)
-    ∷ (is_err (reading (metadata_in fields)), BadMetadata)
-    ∷ []
+-- the checks behind them, in their order, by what the text of the concatenation says
+abbrev pub said_rows : List Field → Option Concat → List (Row HeaderFault)
+said_rows fields said = (is_none said, BadConcat) ∷ (is_err (reading (metadata_in fields)), BadMetadata) ∷ []
 
 -- the text, where it isn't empty
 abbrev pub some_text : List ℕ → Option (List ℕ)
@@ -56,11 +54,33 @@ abbrev pub pairs_or_none : Result (List Pair) MetadataFault → List Pair
 pairs_or_none (Ok pairs) = pairs
 pairs_or_none (Err fault) = []
 
+-- the length that was sent; 0 for a final upload
+abbrev pub new_length : List Field → ℕ
+new_length fields = if is_final (concat_in fields) then 0 else length_in fields
+
 -- the upload, where no check fails
-abbrev pub new_upload_of : List Field → NewUpload
-new_upload_of fields = record {
-  kind = Plain;
-  length = length_in fields;
+abbrev pub new_upload_of : List Field → Concat → NewUpload
+new_upload_of fields said = record {
+  kind = said.0;
+  length = new_length fields;
+  parts = said.1;
   pairs = pairs_or_none (reading (metadata_in fields));
   metadata = some_text (metadata_in fields);
+  concat = some_text (concat_in fields);
 }
+
+-- the answer has the upload, by what the text of the concatenation says
+abbrev pub Makes : {X : Type 0} → (NewUpload → X) → List Field → Option Concat → Result X HeaderFault → Type 0
+Makes made fields None result = ⊥
+Makes made fields (Some said) result = result ≡ Ok (made (new_upload_of fields said))
+
+-- what is answered where no check of the length has failed
+abbrev pub CreatesSaid : {X : Type 0} → (NewUpload → X) → List Field → Result X HeaderFault → Type 0
+CreatesSaid made fields result =
+    (said : Option Concat) × IsConcat (concat_in fields) said
+    × Then (first_that_holds (said_rows fields said)) result (Makes made fields said result)
+
+-- what the checks of a creation answer, in their order
+abbrev pub Creates : {X : Type 0} → (NewUpload → X) → List Field → ℕ → Result X HeaderFault → Type 0
+Creates made fields max_size result =
+    Then (first_that_holds (length_rows fields max_size)) result (CreatesSaid made fields result)

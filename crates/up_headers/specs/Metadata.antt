@@ -1,31 +1,20 @@
 -- The text of `Upload-Metadata`, and the pairs that it reads as (tus 1.0.0, Upload-Metadata).
 use Rattle.std.specs.Prelude.{◌≡◌, ℕ, ◌<◌, ◌==◌, Bool, true, false, not, List, [], ◌∷◌, ◌++◌, length, bytes_eq, IsTrue}
 use Rattle.std.specs.List.{list_all, list_any}
-use Rattle.httparse.specs.Ascii.{space, comma}
+use Rattle.httparse.specs.Ascii.{comma}
 use Rattle.base64.specs.Engines.{standard}
 use Rattle.base64.specs.GeneralPurpose.{encode_of, IsBytes}
 use Rattle.up_headers.specs.declared.metadata_fault.MetadataFault.{MetadataFault}
 use Rattle.up_headers.specs.declared.metadata_fault.MetadataFault.TheVariants as Fault
+use Rattle.up_headers.specs.Words.{AreSpaces, IsWord, BeginsWith}
 
 -- a key and a value
 abbrev pub Pair : Type 0
 Pair = List ℕ × List ℕ
 
--- the one blank that metadata knows
-abbrev pub is_space : ℕ → Bool
-is_space b = b == space
-
--- any byte but a space
-abbrev pub is_no_space : ℕ → Bool
-is_no_space b = not (b == space)
-
 -- any byte but a comma
 abbrev pub is_no_comma : ℕ → Bool
 is_no_comma b = not (b == comma)
-
--- spaces alone, or nothing
-abbrev pub AreSpaces : List ℕ → Type 0
-AreSpaces text = IsTrue (list_all is_space text)
 
 -- what can stand between two commas
 abbrev pub HasNoComma : List ℕ → Type 0
@@ -46,10 +35,6 @@ with_commas (part ∷ next ∷ parts) = part ++ comma ∷ with_commas (next ∷ 
 abbrev pub AreParts : List ℕ → List (List ℕ) → Type 0
 AreParts text parts = (text ≡ with_commas parts) × HaveNoCommas parts
 
--- not empty, and without spaces
-abbrev pub IsKey : List ℕ → Type 0
-IsKey key = (0 < length key) × IsTrue (list_all is_no_space key)
-
 -- spaces, the key, perhaps one or more spaces and the value's encoding, spaces; an empty value has the empty encoding
 pub record IsPart (part : List ℕ) (pair : Pair) : Type 0 where
   pub left : List ℕ
@@ -57,7 +42,7 @@ pub record IsPart (part : List ℕ) (pair : Pair) : Type 0 where
   pub right : List ℕ
   pub spelled : part ≡ left ++ (pair.0 ++ (gap ++ (encode_of standard pair.1 ++ right)))
   pub spaces : AreSpaces left × AreSpaces gap × AreSpaces right
-  pub is_key : IsKey pair.0
+  pub is_key : IsWord pair.0
   pub is_value : IsBytes pair.1
   pub apart : 0 < length pair.1 → 0 < length gap
 
@@ -76,19 +61,9 @@ ArePairs before (part ∷ parts) [] = ⊥
 abbrev pub ReadsPairs : List ℕ → List Pair → Type 0
 ReadsPairs text pairs = (parts : List (List ℕ)) × AreParts text parts × ArePairs [] parts pairs
 
--- nothing, or a text that begins with a space
-abbrev pub EndsKey : List ℕ → Type 0
-EndsKey [] = Unit {0}
-EndsKey (b ∷ bs) = b ≡ space
-
 -- behind spaces, the part begins with the key, which is all up to the next space
-pub record HasKey (part key : List ℕ) : Type 0 where
-  pub left : List ℕ
-  pub rest : List ℕ
-  pub spelled : part ≡ left ++ (key ++ rest)
-  pub spaces : AreSpaces left
-  pub is_key : IsKey key
-  pub ends : EndsKey rest
+abbrev pub HasKey : List ℕ → List ℕ → Type 0
+HasKey part key = (rest : List ℕ) × BeginsWith part key rest
 
 -- the fault of a part behind the pairs `before`: it has no key, or one that stands before, or a new one and is no pair
 abbrev pub IsPartFault : List Pair → List ℕ → MetadataFault → Type 0

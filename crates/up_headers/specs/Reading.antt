@@ -1,42 +1,22 @@
 -- How a metadata text is read, step by step: the same as `ReadsPairs` and `HasFault`, as functions.
 use Rattle.std.specs.Borrow.{Bor}
-use Rattle.std.specs.Prelude.{◌≡◌, ℕ, ◌-◌, ◌==◌, Bool, Option, None, Some, List, [], ◌∷◌, ◌++◌, length, take, reverse, Result, Ok, Err, MatchResult, if◌then◌else◌}
+use Rattle.std.specs.Prelude.{◌≡◌, ℕ, ◌==◌, Option, None, Some, List, [], ◌∷◌, ◌++◌, length, Result, Ok, Err, MatchResult, if◌then◌else◌}
 use Rattle.base64.specs.Engines.{standard}
 use Rattle.base64.specs.GeneralPurpose.{decode_of, IsBytes}
 use Rattle.base64.specs.declared.decode.DecodeError.{DecodeError}
 use Rattle.up_wire.specs.Fields.{split_commas}
 use Rattle.up_headers.specs.declared.metadata_fault.MetadataFault.{MetadataFault}
 use Rattle.up_headers.specs.declared.metadata_fault.MetadataFault.TheVariants as Fault
-use Rattle.up_headers.specs.Metadata.{Pair, is_space, is_no_space, has_key, ReadsPairs, HasFault}
-
--- the text behind its first bytes that pass the test
-abbrev pub drop_while : (ℕ → Bool) → List ℕ → List ℕ
-drop_while test [] = []
-drop_while test (b ∷ bs) = if test b then drop_while test bs else b ∷ bs
-
--- without the spaces at the front
-abbrev pub skip_spaces : List ℕ → List ℕ
-skip_spaces text = drop_while is_space text
-
--- from the first space on
-abbrev pub from_space : List ℕ → List ℕ
-from_space text = drop_while is_no_space text
-
--- without the spaces at the end
-abbrev pub trim_end : List ℕ → List ℕ
-trim_end text = reverse (skip_spaces (reverse text))
-
--- up to the first space
-abbrev pub until_space : List ℕ → List ℕ
-until_space text = take (length text - length (from_space text)) text
+use Rattle.up_headers.specs.Metadata.{Pair, has_key, ReadsPairs, HasFault}
+use Rattle.up_headers.specs.Words.{skip_spaces, trim_end, first_word, behind_word}
 
 -- the key of a part, which may be empty
 abbrev pub key_of : List ℕ → List ℕ
-key_of part = until_space (skip_spaces part)
+key_of part = first_word part
 
 -- what stands for a part's value
 abbrev pub value_of : List ℕ → List ℕ
-value_of part = trim_end (skip_spaces (from_space (skip_spaces part)))
+value_of part = trim_end (skip_spaces (behind_word part))
 
 -- the pair of a key and what its value decodes to
 abbrev pub with_value : List ℕ → Result (List ℕ) DecodeError → Result Pair MetadataFault

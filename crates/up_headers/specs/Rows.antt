@@ -1,5 +1,5 @@
 -- Tables of which the first row that holds is answered.
-use Rattle.std.specs.Prelude.{Bool, List, [], ◌∷◌, Option, Some, None, if◌then◌else◌}
+use Rattle.std.specs.Prelude.{◌≡◌, Bool, List, [], ◌∷◌, Option, Some, None, Result, Err, if◌then◌else◌}
 
 -- a row: whether it holds, and what is answered then
 abbrev pub Row : Type 0 → Type 0
@@ -9,3 +9,8 @@ Row X = Bool × X
 abbrev pub first_that_holds : {X : Type 0} → List (Row X) → Option X
 first_that_holds [] = None
 first_that_holds (row ∷ rows) = if row.0 then Some row.1 else first_that_holds rows
+
+-- the error that a row answers, or what holds where none does
+abbrev pub Then : {X E : Type 0} → Option E → Result X E → Type 0 → Type 0
+Then (Some found) result more = result ≡ Err found
+Then None result more = more

@@ -9,8 +9,8 @@ use Rattle.up_headers.specs.declared.verb.Verb.{Verb}
 use Rattle.up_headers.specs.declared.place.Place.{Place}
 use Rattle.up_headers.specs.Rows.{first_that_holds}
 use Rattle.up_headers.specs.Verbs.{chosen_verb}
-use Rattle.up_headers.specs.Creations.{length_rows, length_in, creation_rows, new_upload_of}
-use Rattle.up_headers.specs.Table.{early_rows, Then, IsAnswerAt}
+use Rattle.up_headers.specs.Creations.{length_rows, new_length, Creates}
+use Rattle.up_headers.specs.Table.{early_rows, IsAnswerAt}
 
 -- a check that fails answers this fault, one that doesn't has none
 abbrev pub Passes : Result ⊤ HeaderFault → Option HeaderFault → Type 0
@@ -22,16 +22,16 @@ abbrev pub IsChosen : List ℕ → List Field → Result Verb HeaderFault → Ty
 IsChosen name fields (Ok verb) = (first_that_holds (early_rows name fields) ≡ None) × (verb ≡ chosen_verb name fields)
 IsChosen name fields (Err found) = first_that_holds (early_rows name fields) ≡ Some found
 
--- the length, where none of its checks fails
+-- the length of a new upload, where none of its checks fails
 abbrev pub IsLength : List Field → ℕ → Result ℕ HeaderFault → Type 0
-IsLength fields max_size (Ok length) = (first_that_holds (length_rows fields max_size) ≡ None) × (length ≡ length_in fields) × (length ≤ max_size)
+IsLength fields max_size (Ok length) = (first_that_holds (length_rows fields max_size) ≡ None) × (length ≡ new_length fields) × (length ≤ max_size)
 IsLength fields max_size (Err found) = first_that_holds (length_rows fields max_size) ≡ Some found
 
 -- the upload that is to be made, where none of its checks fails; want of memory may stand in its place
 abbrev pub IsCreation : List Field → ℕ → Result NewUpload HeaderFault → Type 0
 IsCreation fields max_size result =
     (result ≡ Err fault.NoMemory)
-    ⊎ Then (first_that_holds (creation_rows fields max_size)) result (result ≡ Ok (new_upload_of fields))
+    ⊎ Creates (λ new. new) fields max_size result
 
 -- what the checks say at a place; want of memory may stand in its place
 abbrev pub IsStep : Verb → Place → List Field → List ℕ → ℕ → Result Request HeaderFault → Type 0

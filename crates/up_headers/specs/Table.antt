@@ -1,5 +1,5 @@
 -- What a message asks for: the checks in their one order, and the request where none fails.
-use Rattle.std.specs.Prelude.{◌≡◌, ℕ, ◌≤◌, ◌⊎◌, Bool, true, false, not, ◌&&◌, ◌||◌, List, [], ◌∷◌, codes, bytes_eq, Option, Some, None, Result, Ok, Err}
+use Rattle.std.specs.Prelude.{◌≡◌, ℕ, ◌≤◌, ◌⊎◌, Bool, true, false, not, ◌&&◌, ◌||◌, List, [], ◌∷◌, codes, bytes_eq, Result, Ok, Err}
 use Rattle.std.specs.List.{list_any}
 use Rattle.up_wire.specs.Fields.{Field}
 use Rattle.up_wire.specs.declared.message.Message.{Message}
@@ -11,11 +11,11 @@ use Rattle.up_headers.specs.declared.verb.Verb.{Verb}
 use Rattle.up_headers.specs.declared.verb.Verb.TheVariants as method
 use Rattle.up_headers.specs.declared.place.Place.{Place}
 use Rattle.up_headers.specs.declared.place.Place.TheVariants as place
-use Rattle.up_headers.specs.Rows.{Row, first_that_holds}
+use Rattle.up_headers.specs.Rows.{Row, first_that_holds, Then}
 use Rattle.up_headers.specs.Verbs.{chosen_verb}
 use Rattle.up_headers.specs.Places.{IsAt, is_creation, is_upload, is_nowhere}
 use Rattle.up_headers.specs.Fields.{stands, is_repeated, value_in}
-use Rattle.up_headers.specs.Creations.{creation_rows, new_upload_of}
+use Rattle.up_headers.specs.Creations.{Creates}
 use Rattle.up_headers.specs.Patches.{patch_of}
 
 -- whether the version that was sent is 1.0.0
@@ -70,15 +70,9 @@ place_rows verb at fields =
     ∷ (repeats verb fields, fault.Repeated)
     ∷ []
 
--- the first fault, or what holds where there is none
-abbrev pub Then : {X : Type 0} → Option HeaderFault → Result X HeaderFault → Type 0 → Type 0
-Then (Some found) result more = result ≡ Err found
-Then None result more = more
-
 -- the request where no check before has failed
 abbrev pub Asks : Verb → Place → List Field → List ℕ → ℕ → Result Request HeaderFault → Type 0
-Asks method.Post place.Creation fields body max_size result =
-    Then (first_that_holds (creation_rows fields max_size)) result (result ≡ Ok (request.Create (new_upload_of fields)))
+Asks method.Post place.Creation fields body max_size result = Creates request.Create fields max_size result
 Asks method.Head (place.Upload id) fields body max_size result = result ≡ Ok (request.Head id)
 Asks method.Patch (place.Upload id) fields body max_size result = result ≡ Ok (request.Patch (patch_of id fields body))
 Asks method.Delete (place.Upload id) fields body max_size result = result ≡ Ok (request.Delete id)

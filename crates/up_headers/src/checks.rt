@@ -15,8 +15,8 @@ use std::alloc::Global;
 use up_events::Id;
 use up_wire::{Field, Message, Values, find_value};
 
-/// What the message asks for (tus 1.0.0, Core protocol, Creation and Termination). The checks come
-/// in this order, and the first that fails is the fault:
+/// What the message asks for (tus 1.0.0, Core protocol, Creation, Termination and Concatenation). The
+/// checks come in this order, and the first that fails is the fault:
 ///
 /// 1. `X-HTTP-Method-Override` twice. Where it stands once, its value is the method. OPTIONS is
 ///    then a request, whatever its target, and nothing more is checked.
@@ -25,8 +25,9 @@ use up_wire::{Field, Message, Values, find_value};
 ///    of an id, an upload's.
 /// 4. The method: POST for the creation URL, HEAD, PATCH, DELETE and GET for an upload.
 /// 5. A field that the request reads and that stands twice.
-/// 6. For a creation its length, a number of at most `max_size`, then `Upload-Concat`, which must
-///    be empty or absent, then its metadata.
+/// 6. For a creation its length, a number of at most `max_size`, which isn't looked at where
+///    `Upload-Concat` begins with `final;`; then `Upload-Concat`, which must be empty or absent,
+///    `partial`, or `final;` and one or more URLs of uploads between spaces; then its metadata.
 ///
 /// 1 and 2 need no memory. From 3 on `NoMemory` stands in place of the answer where memory is refused.
 pub fn request_of(alloc: Global, message: Message, max_size: u64) -> Result<Request, HeaderFault>

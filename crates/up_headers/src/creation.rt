@@ -1,19 +1,20 @@
 //! An upload that is to be made.
 ghost use Rattle.std.specs.Prelude.{◌≡◌, ◌≤◌, IfOk};
-ghost use Rattle.up_headers.specs.Creations.{some_text, is_joined};
+ghost use Rattle.up_headers.specs.Creations.{some_text};
 ghost use Rattle.up_headers.specs.Steps.{IsCreation, IsLength};
 
+use crate::concat::{concat_of, is_final};
 use crate::fields::{stands, value_in};
 use crate::header_fault::HeaderFault;
 use crate::metadata::read_pairs;
 use crate::metadata_fault::MetadataFault;
 use crate::request::NewUpload;
 use std::alloc::{AllocError, Global};
-use up_events::Kind;
 use up_wire::{Field, Sequence, is_digits, number};
 
-/// The upload that a creation asks for (tus 1.0.0, Creation), of at most `max_size` bytes. Its
-/// length is checked first, then that it is no part and is not made of parts, then its metadata.
+/// The upload that a creation asks for (tus 1.0.0, Creation and Concatenation), of at most `max_size`
+/// bytes. Its length is checked first, which a final upload need not have, then what its
+/// `Upload-Concat` says, then its metadata.
 pub(crate) fn new_upload(
     alloc: Global,
     fields: &[Field],
@@ -23,27 +24,34 @@ pub(crate) fn new_upload(
     ensures bounded { IfOk result (λ new. new.length ≤ max_size) }
 {
     let length = length_of(fields, max_size)?;
-    if is_joined(fields) {
+    let concat = value_in(fields, b"upload-concat");
+    let Some((kind, parts)) = concat_of(alloc, concat)? else {
         return Err(HeaderFault::BadConcat);
-    }
-    let text = value_in(fields, b"upload-metadata");
-    let pairs = match read_pairs(alloc, text) {
+    };
+    let metadata = value_in(fields, b"upload-metadata");
+    let pairs = match read_pairs(alloc, metadata) {
         Ok(pairs) => pairs,
         Err(MetadataFault::NoMemory) => return Err(HeaderFault::NoMemory),
         Err(_) => return Err(HeaderFault::BadMetadata),
     };
     Ok(NewUpload {
-        kind: Kind::Plain,
+        kind,
         length,
+        parts,
         pairs,
-        metadata: some_text(alloc, text)?,
+        metadata: some_text(alloc, metadata)?,
+        concat: some_text(alloc, concat)?,
     })
 }
 
-/// The length of an upload that is to be made.
+/// The length of an upload that is to be made. That of a final one isn't looked at, and 0 stands for
+/// it.
 fn length_of(fields: &[Field], max_size: u64) -> Result<u64, HeaderFault>
     ensures { IsLength fields.now max_size result }
 {
+    if is_final(value_in(fields, b"upload-concat")) {
+        return Ok(0);
+    }
     let text = value_in(fields, b"upload-length");
     if !is_digits(text) || stands(fields, b"upload-defer-length") {
         return Err(HeaderFault::BadLength);
@@ -52,14 +60,6 @@ fn length_of(fields: &[Field], max_size: u64) -> Result<u64, HeaderFault>
         Some(length) if length <= max_size => Ok(length),
         _ => Err(HeaderFault::TooLong),
     }
-}
-
-/// Whether the upload is to be made of others, or to become a part of one (tus 1.0.0,
-/// Concatenation).
-fn is_joined(fields: &[Field]) -> bool
-    ensures { result ≡ is_joined fields.now }
-{
-    !value_in(fields, b"upload-concat").is_empty()
 }
 
 /// A copy of the text, where it isn't empty.

@@ -22,13 +22,14 @@ pub enum HeaderFault {
     /// A field that the request reads stands twice (RFC 9110, section 5.3).
     #[error("field repeated")]
     Repeated,
-    /// A creation without a length that is a number, or with one that is to come later (tus 1.0.0, Creation).
+    /// A creation without a length that is a number, or with one that is to come later, and not of a final upload
+    /// (tus 1.0.0, Creation).
     #[error("bad length")]
     BadLength,
     /// A creation of more bytes than an upload may have (tus 1.0.0, Creation).
     #[error("too long")]
     TooLong,
-    /// An `Upload-Concat` that isn't served (tus 1.0.0, Concatenation).
+    /// An `Upload-Concat` that is neither `partial` nor `final;` and the URLs of uploads (tus 1.0.0, Upload-Concat).
     #[error("bad concatenation")]
     BadConcat,
     /// Metadata that reads as no list of pairs (tus 1.0.0, Upload-Metadata).

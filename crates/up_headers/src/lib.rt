@@ -1,7 +1,9 @@
-//! From a message to a request of the tus protocol 1.0.0: the table of header checks in its one order, and metadata.
+//! From a message to a request of the tus protocol 1.0.0: the table of header checks in its one order, metadata and
+//! concatenations.
 #![tactic(auto)]
 
 mod checks;
+mod concat;
 mod creation;
 mod fields;
 mod header_fault;
@@ -14,10 +16,11 @@ mod request;
 #[cfg(test)]
 mod tests;
 mod verb;
+mod words;
 
 pub use checks::request_of;
 pub use header_fault::HeaderFault;
-pub use law::metadata_reads_once;
+pub use law::{concat_reads_once, metadata_reads_once};
 pub use metadata::pairs_of;
 pub use metadata_fault::MetadataFault;
 pub use request::{NewUpload, Pairs, Patch, Request};

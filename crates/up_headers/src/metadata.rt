@@ -3,50 +3,15 @@ ghost use Rattle.std.specs.Result.{IfErr};
 ghost use Rattle.std.specs.Prelude.{◌≡◌, ◌∷◌, IfOk};
 ghost use Rattle.up_wire.specs.Fields.{split_commas};
 ghost use Rattle.up_headers.specs.Metadata.{ReadsPairs, IsRefusal, has_key};
-ghost use Rattle.up_headers.specs.Reading.{Answers, reading, parts_of, part_reading, skip_spaces, from_space, trim_end};
+ghost use Rattle.up_headers.specs.Reading.{Answers, reading, parts_of, part_reading};
 
 use crate::metadata_fault::MetadataFault;
 use crate::request::Pairs;
+use crate::words::{first_word, skip_spaces, trim_end};
 use base64::DecodeAllocError;
 use base64::engine::general_purpose::STANDARD;
 use std::alloc::Global;
 use up_wire::Sequence;
-
-/// The text behind the spaces at its front.
-fn skip_spaces(mut text: &[u8]) -> &[u8]
-    ensures { result.now ≡ skip_spaces text.now }
-{
-    while let [first, rest @ ..] = text
-        && *first == b' '
-    {
-        text = rest;
-    }
-    text
-}
-
-/// The text from its first space on.
-fn from_space(mut text: &[u8]) -> &[u8]
-    ensures { result.now ≡ from_space text.now }
-{
-    while let [first, rest @ ..] = text
-        && *first != b' '
-    {
-        text = rest;
-    }
-    text
-}
-
-/// The text without the spaces at its end.
-fn trim_end(mut text: &[u8]) -> &[u8]
-    ensures { result.now ≡ trim_end text.now }
-{
-    while let [rest @ .., last] = text
-        && *last == b' '
-    {
-        text = rest;
-    }
-    text
-}
 
 /// Whether one of the pairs has the key.
 fn has_key(pairs: &[(Sequence<u8>, Sequence<u8>)], key: &[u8]) -> bool
@@ -63,12 +28,9 @@ fn read_part(
 ) -> Result<(Sequence<u8>, Sequence<u8>), MetadataFault>
     ensures { Answers result (part_reading before.now part.now) }
 {
-    let text = skip_spaces(part);
-    let behind = from_space(text);
-    let key = &text[..text.len() - behind.len()];
-    if key.is_empty() {
+    let Some((key, behind)) = first_word(part) else {
         return Err(MetadataFault::EmptyKey);
-    }
+    };
     if has_key(before, key) {
         return Err(MetadataFault::KeyTwice);
     }

@@ -26,11 +26,15 @@ pub enum Request {
 #[derive(Drop)]
 pub struct NewUpload {
     pub kind: Kind,
-    /// In bytes.
+    /// In bytes. 0 for a final upload, which has the length of its parts.
     pub length: u64,
+    /// The uploads that a final one joins, in order and at least one. None for any other upload.
+    pub parts: Sequence<Id>,
     pub pairs: Pairs,
     /// The metadata text as it was sent, where it isn't empty.
     pub metadata: Option<Sequence<u8>>,
+    /// The text of `Upload-Concat` as it was sent, where it isn't empty.
+    pub concat: Option<Sequence<u8>>,
 }
 
 /// Bytes for an upload.

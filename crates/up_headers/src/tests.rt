@@ -1,4 +1,5 @@
 //! What the proofs can't see: whether the clauses say what the rules mean, and that calls succeed.
+mod concats;
 mod creations;
 mod faults;
 mod methods;
@@ -82,4 +83,14 @@ fn words(answer: &Result<Request, HeaderFault>) -> &'static str {
 /// What is answered to a message, in words.
 fn told(rt: &impl Abort, alloc: Global, method: &str, target: &str, lines: &str) -> &'static str {
     words(&answer(rt, alloc, method, target, lines))
+}
+
+/// What is answered to a creation with these fields.
+fn created(rt: &impl Abort, alloc: Global, lines: &str) -> Result<NewUpload, HeaderFault> {
+    let lines = format!(in alloc; "Tus-Resumable: 1.0.0\n{lines}").expect(rt, "memory");
+    match answer(rt, alloc, "POST", "/files", lines.as_str()) {
+        Ok(Request::Create(new)) => Ok(new),
+        Ok(_) => panic!(rt; "another request"),
+        Err(fault) => Err(fault),
+    }
 }

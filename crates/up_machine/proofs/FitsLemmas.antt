@@ -1,11 +1,11 @@
 -- The content goes on fitting the accepted changes.
-use Rattle.std.proofs.Common.{◌≡◌, ℕ, ◌+◌, ◌≤◌, Bool, true, false, cond, eqb, ◌&&◌, not, Some, None, is_some, option_map, unwrap_or, List, [], ◌∷◌, ◌++◌, length, refl, sym, ap, ◌∙◌, subst, arith, length-append}
+use Rattle.std.proofs.Common.{◌≡◌, ℕ, ◌+◌, ◌≤◌, Bool, true, false, cond, eqb, ◌&&◌, not, Option, Some, None, is_some, option_map, unwrap_or, List, [], ◌∷◌, ◌++◌, length, refl, sym, ap, ◌∙◌, subst, arith, length-append}
 use Rattle.std.specs.FinMap as map
 use Rattle.std.specs.FinMap.{get-empty, get-insert, get-remove}
 use Rattle.std.specs.Ordering.{nat_cmp, eq_by_cmp}
 use Rattle.std.specs.Cmp.{nat_cmp_total}
 use Rattle.std.proofs.lemmas.Bool.{eqb-true, false≢true}
-use Rattle.up_events.specs.History.{id_of, creation_of, length_of, kind_of, offset_of, is_known, is_terminated, is_alive, CanFollow, IsLegal}
+use Rattle.up_events.specs.History.{id_of, creation_of, length_of, kind_of, is_final, is_final_kind, offset_of, is_known, is_terminated, is_alive, CanFollow, IsLegal}
 use Rattle.up_events.specs.Lists.{EachFollows}
 use Rattle.up_events.specs.declared.event.Accepted.{Accepted}
 use Rattle.up_events.specs.declared.event.Accepted.TheVariants.{Created, Appended, Terminated}
@@ -71,33 +71,41 @@ fits_removed content changes c fits dead =
 
 -- ---- what may follow
 
+final_is : (o : Option (ℕ × Kind)) (kind : Kind) → option_map (λ (p : ℕ × Kind). p.1) o ≡ Some kind → is_final o ≡ is_final_kind kind
+final_is None kind e = absurd (cc)
+final_is (Some p) kind e = ap is_final_kind (some_same p.1 kind e)
+
+not_final : (content : Contents) (changes : List Accepted) (u : ℕ) (x : Content) → Fits content changes → map.get content u ≡ Some x → is_final_kind x.kind ≡ false → is_final (creation_of changes u) ≡ false
+not_final content changes u x fits g plain = final_is (creation_of changes u) x.kind (fits.each u x g).0 ∙ plain
+
 pub alive_at : (content : Contents) (changes : List Accepted) (u : ℕ) (x : Content) → Fits content changes → map.get content u ≡ Some x → is_alive changes u ≡ true
 alive_at content changes u x fits g = sym (fits.ids u) ∙ ap is_some g
 
--- bytes for which there is room may be appended
-pub can_append : (content : Contents) (changes : List Accepted) (u n : ℕ) (x : Content) → Fits content changes → map.get content u ≡ Some x → 1 ≤ n → HasRoom n x → CanFollow changes (Appended u n)
-can_append content changes u n x fits g some room =
+-- bytes for which there is room may be appended to an upload that isn't final
+pub can_append : (content : Contents) (changes : List Accepted) (u n : ℕ) (x : Content) → Fits content changes → map.get content u ≡ Some x → is_final_kind x.kind ≡ false → 1 ≤ n → HasRoom n x → CanFollow changes (Appended u n)
+can_append content changes u n x fits g plain some room =
     let t = fits.each u x g in
     let length_is : unwrap_or (length_of changes u) 0 ≡ x.length = ap (λ o. unwrap_or o 0) t.1 in
-    (alive_at content changes u x fits g, some, omega (arith, t.2))
+    (alive_at content changes u x fits g, not_final content changes u x fits g plain, some, omega (arith, t.2))
 
-pub fits_appended : (content : Contents) (changes : List Accepted) (u : ℕ) (x : Content) (more : List ℕ) → Fits content changes → map.get content u ≡ Some x → Fits (map.insert content u (with_more x more)) (changes ++ Appended u (length more) ∷ [])
-fits_appended content changes u x more fits g =
+pub fits_appended : (content : Contents) (changes : List Accepted) (u : ℕ) (x : Content) (more : List ℕ) → Fits content changes → map.get content u ≡ Some x → is_final_kind x.kind ≡ false → Fits (map.insert content u (with_more x more)) (changes ++ Appended u (length more) ∷ [])
+fits_appended content changes u x more fits g plain =
     let c : Accepted = Appended u (length more) in
     let t = fits.each u x g in
     let known = creation_of-appended changes u (length more) u in
     let alive : is_alive (changes ++ c ∷ []) u ≡ true = rw (known, is_terminated-appended changes u (length more) u) (alive_at content changes u x fits g) in
-    let offset = offset_of-appended changes u (length more) in
+    let offset = offset_of-appended changes u (length more) (not_final content changes u x fits g plain) in
     fits_put content changes c (with_more x more) fits alive (ap (option_map (λ (p : ℕ × Kind). p.1)) known ∙ t.0, ap (option_map (λ (p : ℕ × Kind). p.0)) known ∙ t.1, length-append x.bytes more ∙ ap (λ k. k + length more) t.2 ∙ sym offset)
 
-pub fits_created : (content : Contents) (changes : List Accepted) (u : ℕ) (x : Content) → IsLegal changes → Fits content changes → is_known changes u ≡ false → x.bytes ≡ [] → Fits (map.insert content u x) (changes ++ Created u x.length x.kind ∷ [])
-fits_created content changes u x legal fits new none =
+-- an upload that begins with all of its bytes where it is final, and with none where it isn't
+pub fits_created : (content : Contents) (changes : List Accepted) (u : ℕ) (x : Content) → IsLegal changes → Fits content changes → is_known changes u ≡ false → length x.bytes ≡ cond (is_final_kind x.kind) x.length 0 → Fits (map.insert content u x) (changes ++ Created u x.length x.kind ∷ [])
+fits_created content changes u x legal fits new bytes =
     let s = sound changes legal u in
     let c : Accepted = Created u x.length x.kind in
     let known = creation_of-created changes u x.length x.kind new in
     let alive : is_alive (changes ++ c ∷ []) u ≡ true = rw (known, is_terminated-created changes u x.length u x.kind, s.not_ended new) refl in
-    let offset = offset_of-created changes u x.length x.kind (s.no_bytes new) in
-    fits_put content changes c x fits alive (ap (option_map (λ (p : ℕ × Kind). p.1)) known, ap (option_map (λ (p : ℕ × Kind). p.0)) known, ap length none ∙ sym offset)
+    let offset = offset_of-created changes u x.length x.kind new (s.no_bytes new) in
+    fits_put content changes c x fits alive (ap (option_map (λ (p : ℕ × Kind). p.1)) known, ap (option_map (λ (p : ℕ × Kind). p.0)) known, bytes ∙ sym offset)
 
 and_not_true : (a : Bool) → (a && not true) ≡ false
 and_not_true true = refl
@@ -121,4 +129,5 @@ pub sound_after : (s : State) (c : Accepted) (content : Contents) (journal : Rec
 sound_after s c content journal was can is fits = record {
   legal = subst (λ (r : Records). IsLegal r.accepted) (sym is) (EachFollows-snoc CanFollow [] s.journal.accepted c was.legal can);
   fits = subst (λ (r : Records). Fits content r.accepted) (sym is) fits;
+  small = was.small;
 }

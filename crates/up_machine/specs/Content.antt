@@ -1,8 +1,9 @@
 -- What an upload is, whatever keeps it.
-use Rattle.std.specs.Prelude.{◌≡◌, ◌++◌, ◌+◌, ◌≤◌, ℕ, Bool, true, List, [], Option, Some, None, length, refl}
+use Rattle.std.specs.Prelude.{◌≡◌, ◌++◌, ◌+◌, ◌≤◌, ℕ, Bool, true, false, List, Option, Some, None, length, refl, if◌then◌else◌}
 use Rattle.std.specs.Coded.{Coded, code_by, coded×, coded_ℕ, coded_list, coded_option, coded_bool}
 use Rattle.up_events.specs.declared.event.Kind.{Kind}
-use Rattle.up_events.specs.declared.event.Kind.TheVariants.{Plain}
+use Rattle.up_events.specs.declared.event.Kind.TheVariants.{Plain, Partial, Final}
+use Rattle.up_events.specs.History.{is_final_kind}
 use Rattle.up_headers.specs.declared.request.NewUpload.{NewUpload}
 
 -- kind, length and bytes, and the texts that its client sent
@@ -14,9 +15,10 @@ pub record Content : Type 0 where
   pub pairs : List (List ℕ × List ℕ)
   pub concat : Option (List ℕ)
 
--- a new upload, which has no bytes yet
-abbrev pub made_of : NewUpload → Content
-made_of new = record { kind = new.kind; length = new.length; bytes = []; metadata = new.metadata; pairs = new.pairs; concat = None }
+-- a new upload that begins with these bytes: a final one has just them
+abbrev pub made_of : NewUpload → List ℕ → Content
+made_of new bytes =
+    record { kind = new.kind; length = if is_final_kind new.kind then length bytes else new.length; bytes = bytes; metadata = new.metadata; pairs = new.pairs; concat = new.concat }
 
 -- with more bytes at the end
 abbrev pub with_more : Content → List ℕ → Content
@@ -32,18 +34,24 @@ HasRoom count x = length x.bytes + count ≤ x.length
 
 -- ---- the codes by which a proof tells values apart
 
-pub kind_to : Kind → Bool
-kind_to Plain = true
+pub kind_to : Kind → Option Bool
+kind_to Plain = None
+kind_to Partial = Some false
+kind_to Final = Some true
 
-pub kind_from : Bool → Kind
-kind_from _ = Plain
+pub kind_from : Option Bool → Kind
+kind_from None = Plain
+kind_from (Some false) = Partial
+kind_from (Some true) = Final
 
 pub kind_back : (kind : Kind) → kind_from (kind_to kind) ≡ kind
 unfolding kind_to kind_from
 kind_back Plain = refl
+kind_back Partial = refl
+kind_back Final = refl
 
 abbrev pub kind_code : Coded Kind
-kind_code = code_by Bool coded_bool kind_to kind_from kind_back
+kind_code = code_by (Option Bool) (coded_option coded_bool) kind_to kind_from kind_back
 
 abbrev pub text_code : Coded (List ℕ)
 text_code = coded_list coded_ℕ

@@ -1,16 +1,20 @@
 -- What is answered to a request: the first refusal that holds, in the order of the table, or the response with the change.
 use Rattle.std.specs.Prelude.{◌≡◌, ◌⊎◌, ◌+◌, ◌++◌, ℕ, Bool, true, false, not, ◌==◌, nat_lt, List, [], ◌∷◌, Option, Some, None, is_none, Result, Ok, Err, IsOk, length, if◌then◌else◌}
 use Rattle.std.specs.FinMap as map
-use Rattle.up_events.specs.History.{is_known}
+use Rattle.std.specs.List.{list_any}
+use Rattle.up_events.specs.History.{is_final_kind, is_known}
 use Rattle.up_events.specs.declared.event.Accepted.{Accepted}
 use Rattle.up_events.specs.declared.event.Accepted.TheVariants.{Created, Appended, Terminated}
 use Rattle.up_headers.specs.Rows.{Row, first_that_holds}
+use Rattle.up_events.specs.declared.event.Kind.{Kind}
+use Rattle.up_events.specs.declared.event.Kind.TheVariants.{Plain, Partial, Final}
+use Rattle.up_headers.specs.declared.request.NewUpload.{NewUpload}
 use Rattle.up_headers.specs.declared.request.Patch.{Patch}
 use Rattle.up_headers.specs.declared.request.Request.{Request}
 use Rattle.up_headers.specs.declared.request.Request.TheVariants as request
 use Rattle.up_machine.specs.Content.{Content, made_of}
 use Rattle.up_machine.specs.Responses.{can_do, created, downloaded, reached_offset, removed, standing}
-use Rattle.up_machine.specs.State.{State, bytes_of}
+use Rattle.up_machine.specs.State.{Contents, State, bytes_of, first_bytes, joined}
 use Rattle.up_machine.specs.declared.plan.Asked.{Asked}
 use Rattle.up_machine.specs.declared.plan.Asked.TheVariants.{Skipped}
 use Rattle.up_machine.specs.declared.plan.Done.{Done}
@@ -35,20 +39,49 @@ is_offset (Some m) n = m == n
 -- the rows of bytes for an upload
 abbrev pub patch_rows : Patch → Content → List (Row Refusal)
 patch_rows p x =
-    (not p.media, refusal.MediaType)
+    (is_final_kind x.kind, refusal.FinalUpload)
+    ∷ (not p.media, refusal.MediaType)
     ∷ (is_none p.offset, refusal.BadOffset)
     ∷ (not (is_offset p.offset (length x.bytes)), refusal.WrongOffset)
     ∷ (nat_lt x.length (length x.bytes + length p.bytes), refusal.TooMuch)
     ∷ []
 
+-- whether all bytes of the upload have come
+abbrev pub is_complete : Content → Bool
+is_complete x = length x.bytes == x.length
+
 -- the row of an upload whose bytes are asked
 abbrev pub get_rows : Content → List (Row Refusal)
-get_rows x = (not (length x.bytes == x.length), refusal.Unfinished) ∷ []
+get_rows x = (not (is_complete x), refusal.Unfinished) ∷ []
+
+-- whether the upload is a part of others to come
+abbrev pub is_partial : Kind → Bool
+is_partial Plain = false
+is_partial Partial = true
+is_partial Final = false
+
+-- whether there is such an upload, and the test holds of it
+abbrev pub passes : (Content → Bool) → Option Content → Bool
+passes test None = false
+passes test (Some x) = test x
+
+-- the rows of the parts of a final upload; each looks at all of them
+abbrev pub part_rows : Contents → ℕ → List ℕ → List (Row Refusal)
+part_rows content max_size parts =
+    (list_any (λ part. is_none (map.get content part)) parts, refusal.PartUnknown)
+    ∷ (list_any (λ part. not (passes (λ x. is_partial x.kind) (map.get content part))) parts, refusal.PartNotPartial)
+    ∷ (list_any (λ part. not (passes is_complete (map.get content part))) parts, refusal.PartUnfinished)
+    ∷ (nat_lt max_size (length (joined content parts)), refusal.SumTooLong)
+    ∷ []
+
+-- the rows of a new upload
+abbrev pub create_rows : Contents → ℕ → NewUpload → List (Row Refusal)
+create_rows content max_size new = if is_final_kind new.kind then part_rows content max_size new.parts else []
 
 -- the rows that a plan checks, in order
 abbrev pub planned_rows : State → Request → List (Row Refusal)
 planned_rows s request.Options = []
-planned_rows s (request.Create new) = (s.closed, refusal.Closed) ∷ []
+planned_rows s (request.Create new) = (s.closed, refusal.Closed) ∷ create_rows s.content s.max_size new
 planned_rows s (request.Head u) = rows_at (map.get s.content u) (λ x. [])
 planned_rows s (request.Patch p) = (s.closed, refusal.Closed) ∷ rows_at (map.get s.content p.id) (patch_rows p)
 planned_rows s (request.Delete u) = (s.closed, refusal.Closed) ∷ rows_at (map.get s.content u) (λ x. [])
@@ -83,7 +116,7 @@ appended u count = if count == 0 then None else Some (Appended u count)
 -- what a request changes that no row refuses
 abbrev pub change_of : State → Request → ℕ → Option Accepted
 change_of s request.Options id = None
-change_of s (request.Create new) id = let x = made_of new in Some (Created id x.length x.kind)
+change_of s (request.Create new) id = let x = made_of new (first_bytes s.content new) in Some (Created id x.length x.kind)
 change_of s (request.Head u) id = None
 change_of s (request.Patch p) id = appended p.id (length p.bytes)
 change_of s (request.Delete u) id = Some (Terminated u)

@@ -1,5 +1,5 @@
 -- The content and the accepted changes tell of the same uploads.
-use Rattle.std.specs.Prelude.{◌≡◌, ℕ, List, Some, is_some, length}
+use Rattle.std.specs.Prelude.{◌≡◌, ◌≤◌, ◌^◌, ℕ, List, Some, is_some, length}
 use Rattle.std.specs.FinMap as map
 use Rattle.up_events.specs.History.{is_alive, kind_of, length_of, offset_of, IsLegal}
 use Rattle.up_events.specs.declared.event.Accepted.{Accepted}
@@ -15,3 +15,4 @@ pub record Fits (content : Contents) (accepted : List Accepted) : Type 0 where
 pub record IsSoundBook (s : State) : Type 0 where
   pub legal : IsLegal s.journal.accepted
   pub fits : Fits s.content s.journal.accepted
+  pub small : s.max_size ≤ 2 ^ 30

@@ -1,10 +1,12 @@
 -- What a book stands for, and what a request makes of it.
-use Rattle.std.specs.Prelude.{ℕ, Bool, false, List, [], Option, Some, None}
+use Rattle.std.specs.Prelude.{ℕ, Bool, false, List, [], Option, Some, None, flat_map, if◌then◌else◌}
 use Rattle.std.specs.FinMap as map
 use Rattle.std.specs.FinMap.{FinMap}
 use Rattle.std.specs.Ordering.{nat_cmp}
+use Rattle.up_events.specs.History.{is_final_kind}
 use Rattle.up_events.specs.Records.{Records, noted}
 use Rattle.up_events.specs.declared.event.Accepted.{Accepted}
+use Rattle.up_headers.specs.declared.request.NewUpload.{NewUpload}
 use Rattle.up_headers.specs.declared.request.Request.{Request}
 use Rattle.up_headers.specs.declared.request.Request.TheVariants as request
 use Rattle.up_machine.specs.Content.{Content, made_of, with_more}
@@ -30,6 +32,14 @@ abbrev pub bytes_of : Option Content → List ℕ
 bytes_of None = []
 bytes_of (Some x) = x.bytes
 
+-- the bytes of these uploads, one after another
+abbrev pub joined : Contents → List ℕ → List ℕ
+joined content parts = flat_map (λ part. bytes_of (map.get content part)) parts
+
+-- the bytes that a new upload begins with: a final one with those of its parts
+abbrev pub first_bytes : Contents → NewUpload → List ℕ
+first_bytes content new = if is_final_kind new.kind then joined content new.parts else []
+
 -- the content with more bytes at an upload's end
 abbrev pub extended : Contents → ℕ → List ℕ → Option Content → Contents
 extended content u more None = content
@@ -38,7 +48,7 @@ extended content u more (Some x) = map.insert content u (with_more x more)
 -- the content after a request that is carried out
 abbrev pub next : Contents → Request → ℕ → Contents
 next content request.Options id = content
-next content (request.Create new) id = map.insert content id (made_of new)
+next content (request.Create new) id = map.insert content id (made_of new (first_bytes content new))
 next content (request.Head u) id = content
 next content (request.Patch p) id = extended content p.id p.bytes (map.get content p.id)
 next content (request.Delete u) id = map.remove content u

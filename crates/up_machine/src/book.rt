@@ -2,13 +2,13 @@
 ghost use Rattle.std.specs.Prelude.{◌≡◌, ◌≤◌, ◌<◌, ◌^◌, true, IfOk, OnErr};
 ghost use Rattle.std.specs.FinMap as map;
 
-use crate::answer;
 use crate::checks::{check_asked, check_patch};
 use crate::plan::{Asked, Done, Plan};
 use crate::refusal::Refusal;
 use crate::upload::Upload;
 use crate::uploads::Uploads;
 use crate::view::View;
+use crate::{answer, parts};
 use std::alloc::Global;
 use std::marker::Model;
 use up_events::{Accepted, Id, Journal, NoMemory};
@@ -49,10 +49,11 @@ impl Book {
     ghost use Rattle.up_machine.specs.Views.{Shows};
     ghost use Rattle.up_machine.specs.declared.plan.Asked.TheVariants.{Skipped};
 
-    /// A book with no upload, with a log for each lane, that tells clients of this most size of an upload, in bytes.
+    /// A book with no upload, with a log for each lane, and with this most size of an upload, in bytes.
     pub fn new(alloc: Global, lanes: u64, max_size: u64) -> Result<Book, NoMemory>
         requires some_lane { 0 < lanes }
         requires few_lanes { lanes ≤ 16 }
+        requires small { max_size ≤ 2 ^ 30 }
         ensures { IfOk result (λ book. book ≡ empty_state lanes max_size) }
     {
         Ok(Book {
@@ -124,7 +125,7 @@ impl Book {
         if self.closed {
             return Err(Refusal::Closed);
         }
-        Ok(())
+        parts::check_new(&self.uploads, self.max_size, new)
     }
 
     /// What refuses a creation.
@@ -154,9 +155,10 @@ impl Book {
     {
         self.check_new(&new, id, asked)?;
         let response = answer::to_create(alloc, id)?;
-        let length = new.length;
-        let kind = new.kind;
-        let upload = Upload::new(alloc, new);
+        let bytes = parts::first_bytes(alloc, &self.uploads, &new)?;
+        let upload = Upload::new(new, bytes);
+        let length = upload.length();
+        let kind = upload.kind();
         let change = Accepted::Created { id, length, kind };
         self.uploads.create(&mut self.journal, change, id, upload)?;
         let change = Some(Accepted::Created { id, length, kind });

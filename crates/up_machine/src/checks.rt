@@ -10,6 +10,7 @@ use crate::plan::Asked;
 use crate::refusal::Refusal;
 use crate::upload::Upload;
 use crate::uploads::Uploads;
+use up_events::Kind;
 use up_headers::Patch;
 
 /// What refuses a PATCH, or else the offset that the upload has after it.
@@ -30,6 +31,9 @@ pub fn check_patch(uploads: &Uploads, closed: bool, patch: &Patch) -> Result<u64
 fn check_bytes(upload: &Upload, patch: &Patch) -> Result<u64, Refusal>
     ensures { result ≡ unless (first_that_holds (patch_rows patch.now upload.now)) (length upload.now.bytes + length patch.now.bytes) }
 {
+    if upload.kind() == Kind::Final {
+        return Err(Refusal::FinalUpload);
+    }
     let reached = upload.offset();
     if !patch.media {
         return Err(Refusal::MediaType);

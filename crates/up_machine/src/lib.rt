@@ -5,6 +5,7 @@
 mod answer;
 mod book;
 mod checks;
+mod parts;
 mod plan;
 mod refusal;
 mod store;

@@ -18,6 +18,9 @@ pub enum Refusal {
     /// No upload has the id: it was never made, or it was removed (404).
     #[error("no upload has the id")]
     NotFound,
+    /// Bytes are sent for a final upload, which has all of its bytes (403; tus 1.0.0, Concatenation).
+    #[error("a final upload takes no bytes")]
+    FinalUpload,
     /// The bytes of a PATCH aren't of the media type that they must have (415).
     #[error("the bytes are not of the media type for bytes at an offset")]
     MediaType,
@@ -30,6 +33,18 @@ pub enum Refusal {
     /// With the bytes of a PATCH the upload would have more than its length (413).
     #[error("more bytes than the upload is to have")]
     TooMuch,
+    /// A part of a final upload isn't there (400).
+    #[error("a part is not there")]
+    PartUnknown,
+    /// A part of a final upload isn't a partial one (400).
+    #[error("a part is not a partial upload")]
+    PartNotPartial,
+    /// Not all bytes of a part of a final upload have come (400).
+    #[error("a part is not complete")]
+    PartUnfinished,
+    /// Together the parts of a final upload are longer than an upload may be (413).
+    #[error("the parts are too long together")]
+    SumTooLong,
     /// The id for a new upload was given before (500).
     #[error("the id was given before")]
     IdTaken,
@@ -57,10 +72,15 @@ pub fn response_of(alloc: Global, refusal: &Refusal) -> Result<Response, NoMemor
     let (status, text) = match refusal {
         Refusal::Closed => (503, "20 Closed\n"),
         Refusal::NotFound => (404, "21 NotFound\n"),
+        Refusal::FinalUpload => (403, "22 FinalUpload\n"),
         Refusal::MediaType => (415, "23 MediaType\n"),
         Refusal::BadOffset => (400, "24 BadOffset\n"),
         Refusal::WrongOffset => (409, "25 WrongOffset\n"),
         Refusal::TooMuch => (413, "26 TooMuch\n"),
+        Refusal::PartUnknown => (400, "27 PartUnknown\n"),
+        Refusal::PartNotPartial => (400, "28 PartNotPartial\n"),
+        Refusal::PartUnfinished => (400, "29 PartUnfinished\n"),
+        Refusal::SumTooLong => (413, "30 SumTooLong\n"),
         Refusal::IdTaken => (500, "32 IdTaken\n"),
         Refusal::Unfinished => (409, "33 Unfinished\n"),
         Refusal::NoMemory => return Ok(answer::out_of_memory(alloc)),

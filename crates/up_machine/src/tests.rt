@@ -3,6 +3,7 @@ ghost use Rattle.std.specs.Prelude.{◌≤◌, ◌<◌, ◌^◌, IfOk};
 ghost use Rattle.up_headers.specs.Table.{FitsWithin};
 
 mod answers;
+mod concatenation;
 mod drawn;
 mod events;
 mod plain;
@@ -27,8 +28,12 @@ const ID_COUNT: u64 = 8;
 #[derive(Clone, Copy)]
 enum Ask<'a> {
     Options,
-    /// With this length and metadata text.
+    /// A plain upload, with this length and metadata text.
     Create(u8, &'a str),
+    /// A partial one, with this length.
+    Partial(u8),
+    /// A final one of the uploads with these numbers, with this text of `Upload-Concat`.
+    Final(&'a [u128], &'a str),
     Head,
     /// With a right or a wrong media type, this offset and these bytes.
     Patch(bool, Option<u64>, &'a [u8]),
@@ -41,25 +46,56 @@ fn patch(offset: u64, bytes: &[u8]) -> Ask {
     Ask::Patch(true, Some(offset), bytes)
 }
 
-/// The request in full. A text that is empty is none.
+/// A text as bytes. One that is empty is none.
+fn text_of(alloc: Global, text: &str) -> Result<Option<Sequence<u8>>, AllocError> {
+    if text.is_empty() {
+        return Ok(None);
+    }
+    Ok(Some(Sequence::from_slice(alloc, text.as_bytes())?))
+}
+
+/// The ids that have these numbers, in the same order.
+fn ids_of(alloc: Global, numbers: &[u128]) -> Result<Sequence<Id>, AllocError> {
+    let mut ids = Sequence::new(alloc);
+    for number in numbers {
+        ids.push(Id::new(*number))?;
+    }
+    Ok(ids)
+}
+
+/// A new upload without parts and texts.
+fn upload_of(alloc: Global, kind: Kind, length: u8) -> NewUpload
+    ensures { result.length ≤ 2 ^ 30 }
+{
+    NewUpload {
+        kind,
+        length: u64::from(length),
+        parts: Sequence::new(alloc),
+        pairs: Sequence::new(alloc),
+        metadata: None,
+        concat: None,
+    }
+}
+
+/// The request in full.
 fn request_of(alloc: Global, id: Id, ask: Ask) -> Result<Request, AllocError>
     ensures { IfOk result (FitsWithin (2 ^ 30)) }
 {
     Ok(match ask {
         Ask::Options => Request::Options,
-        Ask::Create(length, text) => {
-            let metadata = if text.is_empty() {
-                None
-            } else {
-                Some(Sequence::from_slice(alloc, text.as_bytes())?)
-            };
-            Request::Create(NewUpload {
-                kind: Kind::Plain,
-                length: u64::from(length),
-                pairs: Sequence::new(alloc),
-                metadata,
-            })
-        }
+        Ask::Create(length, metadata) => Request::Create(NewUpload {
+            metadata: text_of(alloc, metadata)?,
+            ..upload_of(alloc, Kind::Plain, length)
+        }),
+        Ask::Partial(length) => Request::Create(NewUpload {
+            concat: text_of(alloc, "partial")?,
+            ..upload_of(alloc, Kind::Partial, length)
+        }),
+        Ask::Final(parts, concat) => Request::Create(NewUpload {
+            parts: ids_of(alloc, parts)?,
+            concat: text_of(alloc, concat)?,
+            ..upload_of(alloc, Kind::Final, 0)
+        }),
         Ask::Head => Request::Head(id),
         Ask::Patch(media, offset, bytes) => Request::Patch(Patch {
             id,
@@ -137,7 +173,7 @@ fn assert_same_upload(rt: &impl Abort, view: View, upload: &PlainUpload) {
     assert_eq!(rt; view.offset, upload.bytes.len() as u64);
     assert_eq!(rt; view.bytes, upload.bytes.as_slice());
     assert_eq!(rt; view.metadata, upload.metadata.as_deref());
-    assert!(rt; view.concat.is_none());
+    assert_eq!(rt; view.concat, upload.concat.as_deref());
 }
 
 /// A book, and the plain program beside it.
@@ -151,6 +187,7 @@ impl Both {
     fn new(alloc: Global, lanes: u64, max_size: u64) -> Result<Both, Fail>
         requires some_lane { 0 < lanes }
         requires few_lanes { lanes ≤ 16 }
+        requires small { max_size ≤ 2 ^ 30 }
     {
         Ok(Both {
             book: Book::new(alloc, lanes, max_size)?,

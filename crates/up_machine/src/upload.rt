@@ -53,23 +53,31 @@ impl Upload {
     ghost use Rattle.up_events.specs.Records.{noted};
     ghost use Rattle.up_events.specs.declared.event.Accepted.TheVariants.{Appended};
 
-    /// A new upload, which has no bytes yet. Takes no memory.
-    pub fn new(alloc: Global, new: NewUpload) -> Self
-        ensures { result ≡ made_of new }
+    /// A new upload that begins with these bytes: a final one has just them, any other none.
+    pub fn new(new: NewUpload, bytes: Vec<u8>) -> Self
+        requires { IsWithinLength (made_of new bytes.items) }
+        ensures { result ≡ made_of new bytes.items }
     {
         let NewUpload {
             kind,
             length,
+            parts: _,
             pairs,
             metadata,
+            concat,
         } = new;
+        let length = if kind == Kind::Final {
+            bytes.len() as u64
+        } else {
+            length
+        };
         Upload {
             kind,
             length,
-            bytes: Store::Open(Vec::new(alloc)),
+            bytes: Store::Open(bytes).settled(length),
             metadata,
             pairs,
-            concat: None,
+            concat,
         }
     }
 

@@ -1,5 +1,5 @@
 -- A dispatcher's fields after one more request.
-use Rattle.std.proofs.Common.{◌≡◌, ◌⊎◌, inl, inr, ℕ, ◌+◌, ◌<◌, ◌≤◌, ◌%◌, true, false, Option, Some, None, is_some, Result, Ok, Err, List, [], ◌∷◌, ◌++◌, length, zero, suc, refl, sym, ap, ◌∙◌, subst, arith, Vec, slice_get, slice_set, length-append, eqb, cond}
+use Rattle.std.proofs.Common.{◌≡◌, ◌⊎◌, inl, inr, ℕ, ◌+◌, ◌<◌, ◌≤◌, ◌%◌, true, false, Option, Some, None, is_some, Ok, Err, List, [], ◌∷◌, ◌++◌, length, zero, suc, refl, sym, ap, ◌∙◌, subst, arith, Vec, slice_get, slice_set, length-append, eqb, cond}
 use Rattle.std.proofs.Math.ListN.{length-set}
 use Rattle.std.proofs.lemmas.Bool.{eqb-true}
 use Rattle.std.proofs.lemmas.List.Elements.{Contains-append_left}
@@ -8,7 +8,6 @@ use Rattle.std.specs.declared.alloc.Global.{Global}
 use Rattle.up_events.proofs.HistoryLemmas.{log_of-snoc, creation_of-other}
 use Rattle.up_events.proofs.JournalLemmas.{each_set, get-push}
 use Rattle.up_events.proofs.Sound.{creation_of-appended, creation_of-terminated}
-use Rattle.up_events.specs.Delivery.{IsWithin}
 use Rattle.up_events.specs.History.{id_of, creation_of, is_known, events_of, steps_of}
 use Rattle.up_events.specs.Log.{log_of, numbered}
 use Rattle.up_events.specs.Records.{Records, lane_log, noted}
@@ -18,8 +17,9 @@ use Rattle.up_events.specs.declared.event.Event.{Event}
 use Rattle.up_headers.specs.Rows.{first_that_holds}
 use Rattle.up_headers.specs.declared.request.Request.{Request}
 use Rattle.up_headers.specs.declared.request.Request.TheVariants as request
+use Rattle.up_machine.specs.Content.{made_of}
 use Rattle.up_machine.specs.Decision.{decide, unless, change_of, appended, response_to, rows_of}
-use Rattle.up_machine.specs.State.{State, empty_state, after}
+use Rattle.up_machine.specs.State.{State, empty_state, after, first_bytes}
 use Rattle.up_machine.specs.declared.plan.Asked.TheVariants.{Skipped}
 use Rattle.up_machine.specs.declared.plan.Done.{Done}
 use Rattle.up_machine.specs.declared.refusal.Refusal.{Refusal}
@@ -105,7 +105,8 @@ older_appended id n c u = elim (eqb n 0) as (λ b. cond b None (Some (Appended i
 older_change : (s : State) (asks : Request) (last : ℕ) (c : Accepted) (u : ℕ) → change_of s asks (last + 1) ≡ Some c → last_after last asks < u → IsOlder c u
 older_change s request.Options last c u is above = absurd (cc)
 older_change s (request.Create new) last c u is above =
-    let h : Created (last + 1) new.length new.kind ≡ c = cc in
+    let x = made_of new (first_bytes s.content new) in
+    let h : Created (last + 1) x.length x.kind ≡ c = cc in
     subst (λ d. IsOlder d u) h above
 older_change s (request.Head v) last c u is above = absurd (cc)
 older_change s (request.Patch p) last c u is above = older_appended p.id (length p.bytes) c u is

@@ -3,6 +3,7 @@ pub mod HandsLemmas
 pub mod FeedLemmas
 pub mod Each
 pub mod CourseLemmas
+pub mod PlanLemmas
 pub mod Writing
 pub mod TurnLemmas
 pub mod ReportLemmas

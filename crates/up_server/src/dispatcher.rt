@@ -87,10 +87,11 @@ impl Dispatcher {
     ghost use Rattle.up_machine.specs.State.{empty_state};
     ghost use Rattle.up_server.specs.Course.{AreOfTheirLanes, IsAnsweredTo};
 
-    /// A dispatcher with no upload, that tells clients of this most size of an upload, in bytes.
+    /// A dispatcher with no upload, and with this most size of an upload, in bytes.
     pub fn new(alloc: Global, lanes: u64, capacity: u64, max_size: u64) -> Result<Self, NoMemory>
         requires some_lane { 0 < lanes }
         requires few_lanes { lanes ≤ 16 }
+        requires small { max_size ≤ 2 ^ 30 }
         ensures { IfOk result (λ dispatcher. dispatcher ≡ record { book = empty_state lanes max_size; last_id = 0 }) }
     {
         Ok(Dispatcher {

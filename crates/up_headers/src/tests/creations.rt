@@ -2,15 +2,6 @@
 use super::*;
 use up_events::Kind;
 
-fn created(rt: &impl Abort, alloc: Global, lines: &str) -> Result<NewUpload, HeaderFault> {
-    let lines = format!(in alloc; "Tus-Resumable: 1.0.0\n{lines}").expect(rt, "memory");
-    match answer(rt, alloc, "POST", "/files", lines.as_str()) {
-        Ok(Request::Create(new)) => Ok(new),
-        Ok(_) => panic!(rt; "another request"),
-        Err(fault) => Err(fault),
-    }
-}
-
 #[test]
 fn reads_lengths(rt: HostRuntime) {
     let bad = Err(HeaderFault::BadLength);
@@ -40,14 +31,9 @@ fn reads_lengths(rt: HostRuntime) {
 }
 
 #[test]
-fn refuses_concatenation_and_bad_metadata(rt: HostRuntime) {
-    let bad_concat = Err(HeaderFault::BadConcat);
+fn refuses_bad_metadata(rt: HostRuntime) {
     let bad_metadata = Err(HeaderFault::BadMetadata);
     for (lines, wanted) in [
-        ("Upload-Concat:", Ok(0)),
-        ("Upload-Concat: partial", bad_concat),
-        ("upload-concat: final;/files/a", bad_concat),
-        ("Upload-Concat: x", bad_concat),
         ("Upload-Metadata:", Ok(0)),
         ("Upload-Metadata: a", Ok(1)),
         ("upload-METADATA: a YQ==,b YWI=", Ok(2)),

@@ -26,7 +26,7 @@ const WRONGS: [(Wrong, &str); 9] = [
     ),
     (Wrong::Lines("Upload-Defer-Length: 1"), "14 BadLength"),
     (Wrong::Length("11"), "15 TooLong"),
-    (Wrong::Lines("Upload-Concat: partial"), "16 BadConcat"),
+    (Wrong::Lines("Upload-Concat: Partial"), "16 BadConcat"),
     (Wrong::Lines("Upload-Metadata: a b"), "17 BadMetadata"),
 ];
 

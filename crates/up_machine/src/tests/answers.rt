@@ -1,4 +1,6 @@
 //! What is answered to each refusal, what a closed book still shows, and what is shown of an upload.
+ghost use Rattle.std.specs.Prelude.{◌≤◌, ◌^◌};
+
 use super::*;
 
 #[test]
@@ -6,10 +8,15 @@ fn answers_refusals(rt: HostRuntime) -> Result<(), Fail> {
     for (refusal, status, text) in [
         (Refusal::Closed, 503, "20 Closed"),
         (Refusal::NotFound, 404, "21 NotFound"),
+        (Refusal::FinalUpload, 403, "22 FinalUpload"),
         (Refusal::MediaType, 415, "23 MediaType"),
         (Refusal::BadOffset, 400, "24 BadOffset"),
         (Refusal::WrongOffset, 409, "25 WrongOffset"),
         (Refusal::TooMuch, 413, "26 TooMuch"),
+        (Refusal::PartUnknown, 400, "27 PartUnknown"),
+        (Refusal::PartNotPartial, 400, "28 PartNotPartial"),
+        (Refusal::PartUnfinished, 400, "29 PartUnfinished"),
+        (Refusal::SumTooLong, 413, "30 SumTooLong"),
         (Refusal::IdTaken, 500, "32 IdTaken"),
         (Refusal::Unfinished, 409, "33 Unfinished"),
     ] {
@@ -22,16 +29,22 @@ fn answers_refusals(rt: HostRuntime) -> Result<(), Fail> {
     Ok(())
 }
 
+/// Holds what is answered to OPTIONS with this max size.
+fn hold_options(rt: &impl Abort, alloc: Global, max_size: u64) -> Result<(), Fail>
+    requires small { max_size ≤ 2 ^ 30 }
+{
+    let wanted = format!(in alloc;
+        "204 Tus-Version: 1.0.0; Tus-Extension: creation,termination,concatenation; Tus-Max-Size: {max_size}; []"
+    )?;
+    let mut both = Both::new(alloc, 1, max_size)?;
+    both.hold(rt, alloc, &[(0, Ask::Options, wanted.as_str())])
+}
+
 #[test]
 fn tells_what_it_can_do(rt: HostRuntime) -> Result<(), Fail> {
-    let front =
-        "204 Tus-Version: 1.0.0; Tus-Extension: creation,termination,concatenation; Tus-Max-Size: ";
-    for max_size in [1, 1_048_576, 1_073_741_824] {
-        let wanted = format!(in rt.alloc(); "{front}{max_size}; []")?;
-        let mut both = Both::new(rt.alloc(), 1, max_size)?;
-        both.hold(&rt, rt.alloc(), &[(0, Ask::Options, wanted.as_str())])?;
-    }
-    Ok(())
+    hold_options(&rt, rt.alloc(), 1)?;
+    hold_options(&rt, rt.alloc(), 1_048_576)?;
+    hold_options(&rt, rt.alloc(), 1_073_741_824)
 }
 
 /// A book with the upload 1, of five bytes and with metadata, to which "abc" was sent.

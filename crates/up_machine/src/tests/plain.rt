@@ -9,6 +9,7 @@ pub(crate) struct PlainUpload {
     pub(crate) length: u64,
     pub(crate) bytes: Vec<u8>,
     pub(crate) metadata: Option<Vec<u8>>,
+    pub(crate) concat: Option<Vec<u8>>,
 }
 
 /// All that there is.
@@ -33,6 +34,43 @@ fn name_and_target(request: &Request) -> (&'static str, Option<Id>) {
         Request::Get(id) => ("Get", Some(*id)),
     }
 }
+
+/// The uploads that a new one joins, in order.
+fn parts_of(new: &NewUpload) -> &[Id] {
+    match new.kind {
+        Kind::Final => new.parts.as_slice(),
+        Kind::Plain | Kind::Partial => &[],
+    }
+}
+
+/// The uploads that a request joins, in order.
+fn joined(request: &Request) -> &[Id] {
+    match request {
+        Request::Create(new) => parts_of(new),
+        _ => &[],
+    }
+}
+
+fn copy_of(alloc: Global, text: &Option<Sequence<u8>>) -> Result<Option<Vec<u8>>, AllocError> {
+    match text {
+        Some(text) => Ok(Some(Vec::from_slice(alloc, text.as_slice())?)),
+        None => Ok(None),
+    }
+}
+
+/// Adds a field, where there is a text for it.
+fn push_field(words: &mut String, name: &str, text: &Option<Vec<u8>>) -> Result<(), AllocError> {
+    if let Some(text) = text {
+        words.push_str(name)?;
+        words.push_str(": ")?;
+        push_bytes(words, text)?;
+        words.push_str("; ")?;
+    }
+    Ok(())
+}
+
+/// A row of the table of refusals: number, name, status, the requests that it names, and whether it holds.
+type Row = (u32, &'static str, u16, &'static str, bool);
 
 /// What a PATCH says of its media type, its offset and how many bytes it has.
 fn sent(request: &Request) -> (bool, Option<u64>, u64) {
@@ -67,30 +105,64 @@ impl Plain {
         (0, 0)
     }
 
-    /// The first row of the table that names the request and holds, as it is answered. At planning there is no new id yet.
+    fn is_final(&self, target: Option<Id>) -> bool {
+        self.uploads.iter().any(|upload| Some(upload.id) == target && upload.kind == Kind::Final)
+    }
+
+    /// Whether a part isn't there, whether one isn't partial, whether one isn't complete, and whether all are too long together.
+    fn part_faults(&self, parts: &[Id]) -> (bool, bool, bool, bool) {
+        let mut is_unknown = false;
+        let mut is_other = false;
+        let mut is_unfinished = false;
+        let mut sum = 0u64;
+        for part in parts {
+            let (offset, length) = self.reached(Some(*part));
+            match self.find(*part) {
+                Some(upload) => is_other |= upload.kind != Kind::Partial,
+                None => is_unknown = true,
+            }
+            is_unfinished |= offset != length;
+            sum = sum.saturating_add(offset);
+        }
+        (is_unknown, is_other, is_unfinished, sum > self.max_size)
+    }
+
+    /// The table of refusals. At planning there is no new id yet.
+    fn table(&self, request: &Request, new: Option<Id>) -> [Row; 13] {
+        let (_, target) = name_and_target(request);
+        let is_missing = !self.uploads.iter().any(|upload| Some(upload.id) == target);
+        let is_final = self.is_final(target);
+        let is_given = self.given.iter().any(|id| Some(*id) == new);
+        let (offset, length) = self.reached(target);
+        let (media, sent_offset, count) = sent(request);
+        let is_above = offset.saturating_add(count) > length;
+        let (is_unknown, is_other, is_unfinished, is_long) = self.part_faults(joined(request));
+        [
+            (20, "Closed", 503, "Create, Patch, Delete", self.closed),
+            (21, "NotFound", 404, "Head, Patch, Delete, Get", is_missing),
+            (22, "FinalUpload", 403, "Patch", is_final),
+            (23, "MediaType", 415, "Patch", !media),
+            (24, "BadOffset", 400, "Patch", sent_offset.is_none()),
+            (25, "WrongOffset", 409, "Patch", sent_offset != Some(offset)),
+            (26, "TooMuch", 413, "Patch", is_above),
+            (27, "PartUnknown", 400, "Create", is_unknown),
+            (28, "PartNotPartial", 400, "Create", is_other),
+            (29, "PartUnfinished", 400, "Create", is_unfinished),
+            (30, "SumTooLong", 413, "Create", is_long),
+            (32, "IdTaken", 500, "Create", is_given),
+            (33, "Unfinished", 409, "Get", offset != length),
+        ]
+    }
+
+    /// The first row of the table that names the request and holds, as it is answered.
     fn refusal(
         &self,
         alloc: Global,
         request: &Request,
         new: Option<Id>,
     ) -> Result<Option<String>, Fail> {
-        let (request_name, target) = name_and_target(request);
-        let is_missing = !self.uploads.iter().any(|upload| Some(upload.id) == target);
-        let is_given = self.given.iter().any(|id| Some(*id) == new);
-        let (offset, length) = self.reached(target);
-        let (media, sent_offset, count) = sent(request);
-        let is_above = offset.saturating_add(count) > length;
-        let table = [
-            (20, "Closed", 503, "Create, Patch, Delete", self.closed),
-            (21, "NotFound", 404, "Head, Patch, Delete, Get", is_missing),
-            (23, "MediaType", 415, "Patch", !media),
-            (24, "BadOffset", 400, "Patch", sent_offset.is_none()),
-            (25, "WrongOffset", 409, "Patch", sent_offset != Some(offset)),
-            (26, "TooMuch", 413, "Patch", is_above),
-            (32, "IdTaken", 500, "Create", is_given),
-            (33, "Unfinished", 409, "Get", offset != length),
-        ];
-        for (number, name, status, requests, holds) in table {
+        let (request_name, _) = name_and_target(request);
+        for (number, name, status, requests, holds) in self.table(request, new) {
             if holds && requests.contains(request_name) {
                 let words = format!(in alloc;
                     "{status} Content-Type: text/plain; [{number} {name}\n]"
@@ -146,24 +218,34 @@ impl Plain {
         }
     }
 
+    /// The bytes of the parts, one after another.
+    fn joined_bytes(&self, alloc: Global, parts: &[Id]) -> Result<Vec<u8>, AllocError> {
+        let mut bytes = Vec::new(alloc);
+        for part in parts {
+            if let Some(upload) = self.find(*part) {
+                bytes.extend_from_slice(&upload.bytes)?;
+            }
+        }
+        Ok(bytes)
+    }
+
     fn create(&mut self, alloc: Global, new: &NewUpload, id: Id) -> Result<(), AllocError> {
-        let metadata = match &new.metadata {
-            Some(text) => Some(Vec::from_slice(alloc, text.as_slice())?),
-            None => None,
+        let kind = new.kind;
+        let bytes = self.joined_bytes(alloc, parts_of(new))?;
+        let length = match kind {
+            Kind::Final => bytes.len() as u64,
+            Kind::Plain | Kind::Partial => new.length,
         };
         self.uploads.push(PlainUpload {
             id,
-            kind: new.kind,
-            length: new.length,
-            bytes: Vec::new(alloc),
-            metadata,
+            kind,
+            length,
+            bytes,
+            metadata: copy_of(alloc, &new.metadata)?,
+            concat: copy_of(alloc, &new.concat)?,
         })?;
         self.given.push(id)?;
-        self.accepted.push(Accepted::Created {
-            id,
-            length: new.length,
-            kind: new.kind,
-        })?;
+        self.accepted.push(Accepted::Created { id, length, kind })?;
         Ok(())
     }
 
@@ -207,11 +289,8 @@ impl Plain {
         let mut words = format!(in alloc;
             "200 Upload-Offset: {offset}; Upload-Length: {length}; "
         )?;
-        if let Some(text) = &upload.metadata {
-            words.push_str("Upload-Metadata: ")?;
-            push_bytes(&mut words, text)?;
-            words.push_str("; ")?;
-        }
+        push_field(&mut words, "Upload-Metadata", &upload.metadata)?;
+        push_field(&mut words, "Upload-Concat", &upload.concat)?;
         words.push_str("[]")?;
         Ok(words)
     }

@@ -79,8 +79,8 @@ fn a_lane_that_cannot_take_has_stopped(rt: HostRuntime) -> Result<(), Fail> {
 fn follows_a_log_that_grows(rt: HostRuntime) -> Result<(), Fail> {
     let log = [first(), second(), third()];
     let mut feed = Feed::new(rt.alloc(), 1)?;
-    for count in [0, 1, 1, 3] {
-        feed.follow(&log[..count]);
+    for part in [&log[..0], &log[..1], &log[..1], &log[..3]] {
+        feed.follow(part);
     }
     let LaneReport { handed, how } = feed.finish();
     assert_eq!(rt; handed.as_slice(), log.as_slice());

@@ -1,6 +1,7 @@
 //! Whole conversations: what is asked, and what is then answered and reported, to the byte.
 mod asking;
 mod command_lines;
+mod concatenating;
 mod creating;
 mod failing;
 mod framed;

@@ -1,14 +1,17 @@
-use Rattle.std.proofs.Common.{◌≡◌, ◌≤◌, ◌^◌, false, ◌++◌, ◌∷◌, [], sym, ap, ◌∙◌, subst, arith}
+use Rattle.std.proofs.Common.{◌≡◌, ◌≤◌, ◌^◌, true, false, cond, ◌++◌, ◌∷◌, [], length, refl, sym, ap, ◌∙◌, subst}
 use Rattle.std.specs.FinMap as map
 use Rattle.up_events.specs.declared.event.Accepted.{Accepted}
 use Rattle.up_events.specs.declared.event.Accepted.TheVariants.{Created}
-use Rattle.up_events.specs.History.{is_known}
-use Rattle.up_machine.specs.Content.{Content}
-use Rattle.up_machine.specs.State.{Contents, State}
+use Rattle.up_events.specs.History.{is_final_kind, is_known}
+use Rattle.up_machine.specs.Content.{Content, IsWithinLength, made_of}
+use Rattle.up_machine.specs.State.{Contents, State, first_bytes, joined}
 use Rattle.up_machine.specs.Fits.{Fits}
 use Rattle.up_machine.proofs.FitsLemmas.{fits_created, sound_after}
-use Rattle.up_machine.proofs.DecisionLemmas.{create_passed}
+use Rattle.up_machine.proofs.DecisionLemmas.{create_passed, made_bytes, made_small, made_within}
 use Rattle.up_machine.proofs.book.Book.create.Goals as goal
+
+pub new-upload-requires : goal.new-upload-requires
+new-upload-requires c = subst (λ b. IsWithinLength (made_of c.args.new b)) (sym c.in_ok-bytes.ensures) (made_within c.self.inside.uploads c.args.new)
 
 pub invariant_of-self-2 : goal.invariant_of-self-2
 invariant_of-self-2 c =
@@ -16,10 +19,14 @@ invariant_of-self-2 c =
     let s : State = record { content = a.uploads; journal = a.journal; closed = a.closed; max_size = a.max_size } in
     let new = c.args.new in
     let x : Content = c.new-upload.result in
-    let change : Accepted = Created c.args.id new.length new.kind in
-    let known : is_known a.journal.accepted c.args.id ≡ false =
-    ap (λ (t : State). is_known t.journal.accepted c.args.id) c.self.view_is ∙ create_passed c.args.self.now new c.args.id c.args.asked.now c.in_ok-check_new.field-0 tt c.in_ok-check_new.ensures in
-    let fits : Fits (map.insert a.uploads c.args.id x) (a.journal.accepted ++ change ∷ []) = subst (λ (y : Content). Fits (map.insert a.uploads c.args.id x) (a.journal.accepted ++ Created c.args.id y.length y.kind ∷ [])) c.new-upload.ensures
-    (fits_created a.uploads a.journal.accepted c.args.id x c.self.invariant.legal c.self.invariant.fits known (ap (λ (y : Content). y.bytes) c.new-upload.ensures)) in
-    sound_after s change c.create.new.self c.create.new.journal c.self.invariant (known, c.requires.bounded) c.in_ok-create.ensures.noted
-    (subst (λ (m : Contents). Fits m (a.journal.accepted ++ change ∷ [])) (sym c.in_ok-create.ensures.ok) fits)
+    let made : x ≡ made_of new (first_bytes a.uploads new) = c.new-upload.ensures ∙ ap (made_of new) c.in_ok-bytes.ensures in
+    let passed = create_passed c.args.self.now new c.args.id c.args.asked.now c.in_ok-check_new.field-0 tt c.in_ok-check_new.ensures in
+    let known : is_known a.journal.accepted c.args.id ≡ false = ap (λ (t : State). is_known t.journal.accepted c.args.id) c.self.view_is ∙ passed.0 in
+    let sum = subst (λ (t : State). is_final_kind new.kind ≡ true → length (joined t.content new.parts) ≤ t.max_size) (sym c.self.view_is) passed.1 in
+    let small : x.length ≤ 2 ^ 30 = subst (λ (y : Content). y.length ≤ 2 ^ 30) (sym made) (made_small a.uploads a.max_size new c.requires.bounded c.self.invariant.small sum) in
+    let bytes : length x.bytes ≡ cond (is_final_kind x.kind) x.length 0 = subst (λ (y : Content). length y.bytes ≡ cond (is_final_kind y.kind) y.length 0) (sym made) (made_bytes a.uploads new) in
+    let fits = fits_created a.uploads a.journal.accepted c.args.id x c.self.invariant.legal c.self.invariant.fits known bytes in
+    let is : Created c.args.id c.length-length.result c.kind-kind.result ≡ Created c.args.id x.length x.kind = rw (c.length-length.ensures, c.kind-kind.ensures) refl in
+    let noted = c.in_ok-create.ensures.noted in
+    sound_after s (Created c.args.id x.length x.kind) c.create.new.self c.create.new.journal c.self.invariant (known, small) (rw is at noted)
+    (subst (λ (m : Contents). Fits m (a.journal.accepted ++ Created c.args.id x.length x.kind ∷ [])) (sym c.in_ok-create.ensures.ok) fits)

@@ -13,4 +13,5 @@ invariant_of-result c =
     record {
       legal = subst IsLegal (sym none) legal_empty;
       fits = subst (λ (m : Contents). Fits m c.in_ok-new.field-0.accepted) (sym c.new.ensures) (subst (λ l. Fits map.empty l) (sym none) fits_empty);
+      small = c.requires.small;
     }

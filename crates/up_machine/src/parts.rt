@@ -1,0 +1,133 @@
+//! The parts of a final upload (tus 1.0.0, Concatenation).
+ghost use Rattle.std.specs.Prelude.{◌≡◌, length, is_none, nat_lt, not, None, Some, if◌then◌else◌, IfOk};
+ghost use Rattle.std.specs.FinMap as map;
+ghost use Rattle.std.specs.List.{list_any};
+ghost use Rattle.up_headers.specs.Rows.{first_that_holds};
+ghost use Rattle.up_machine.specs.State.{bytes_of, first_bytes, joined};
+ghost use Rattle.up_machine.specs.Decision.{create_rows, is_complete, is_partial, part_rows, passes, unless};
+
+use crate::refusal::Refusal;
+use crate::uploads::Uploads;
+use std::alloc::Global;
+use up_events::{Id, Kind, NoMemory};
+use up_headers::NewUpload;
+
+fn is_missing(uploads: &Uploads, id: Id) -> bool
+    ensures { result ≡ is_none (map.get uploads.now id) }
+{
+    uploads.get(id).is_none()
+}
+
+fn is_partial(uploads: &Uploads, id: Id) -> bool
+    ensures { result ≡ passes (λ x. is_partial x.kind) (map.get uploads.now id) }
+{
+    match uploads.get(id) {
+        Some(upload) => upload.kind() == Kind::Partial,
+        None => false,
+    }
+}
+
+fn is_complete(uploads: &Uploads, id: Id) -> bool
+    ensures { result ≡ passes is_complete (map.get uploads.now id) }
+{
+    match uploads.get(id) {
+        Some(upload) => upload.offset() == upload.length(),
+        None => false,
+    }
+}
+
+fn any_missing(uploads: &Uploads, parts: &[Id]) -> bool
+    ensures { result ≡ list_any (λ part. is_none (map.get uploads.now part)) parts.now }
+{
+    parts.iter().any(|part| is_missing(uploads, *part))
+}
+
+fn any_not_partial(uploads: &Uploads, parts: &[Id]) -> bool
+    ensures { result ≡ list_any (λ part. not (passes (λ x. is_partial x.kind) (map.get uploads.now part))) parts.now }
+{
+    parts.iter().any(|part| !is_partial(uploads, *part))
+}
+
+fn any_incomplete(uploads: &Uploads, parts: &[Id]) -> bool
+    ensures { result ≡ list_any (λ part. not (passes is_complete (map.get uploads.now part))) parts.now }
+{
+    parts.iter().any(|part| !is_complete(uploads, *part))
+}
+
+/// The bytes of an upload, none where there is none.
+fn bytes_of(uploads: &Uploads, id: Id) -> &[u8]
+    ensures { result.now ≡ bytes_of (map.get uploads.now id) }
+{
+    match uploads.get(id) {
+        Some(upload) => upload.bytes(),
+        None => &[],
+    }
+}
+
+/// How many bytes the parts have together, where these are at most so many.
+fn sum_within(uploads: &Uploads, parts: &[Id], most: u64) -> Option<u64>
+    ensures { result ≡ (if nat_lt most (length (joined uploads.now parts.now)) then None else Some (length (joined uploads.now parts.now))) }
+{
+    let mut sum = 0;
+    for part in parts {
+        let count = bytes_of(uploads, *part).len() as u64;
+        if count > most - sum {
+            return None;
+        }
+        sum += count;
+    }
+    Some(sum)
+}
+
+/// What refuses these parts.
+fn check_parts(uploads: &Uploads, max_size: u64, parts: &[Id]) -> Result<(), Refusal>
+    ensures { result ≡ unless (first_that_holds (part_rows uploads.now max_size parts.now)) tt }
+{
+    if any_missing(uploads, parts) {
+        return Err(Refusal::PartUnknown);
+    }
+    if any_not_partial(uploads, parts) {
+        return Err(Refusal::PartNotPartial);
+    }
+    if any_incomplete(uploads, parts) {
+        return Err(Refusal::PartUnfinished);
+    }
+    if sum_within(uploads, parts, max_size).is_none() {
+        return Err(Refusal::SumTooLong);
+    }
+    Ok(())
+}
+
+/// What refuses a new upload because of its parts.
+pub fn check_new(uploads: &Uploads, max_size: u64, new: &NewUpload) -> Result<(), Refusal>
+    ensures { result ≡ unless (first_that_holds (create_rows uploads.now max_size new.now)) tt }
+{
+    if new.kind == Kind::Final {
+        check_parts(uploads, max_size, new.parts.as_slice())
+    } else {
+        Ok(())
+    }
+}
+
+/// The bytes of the parts, one after another, in room that is made once.
+fn join(alloc: Global, uploads: &Uploads, parts: &[Id]) -> Result<Vec<u8>, NoMemory>
+    ensures { IfOk result (λ bytes. bytes.items ≡ joined uploads.now parts.now) }
+{
+    let count = sum_within(uploads, parts, u64::MAX).unwrap_or(0);
+    let mut bytes = Vec::with_capacity(alloc, count as usize)?;
+    for part in parts {
+        bytes.extend_from_slice(bytes_of(uploads, *part))?;
+    }
+    Ok(bytes)
+}
+
+/// The bytes that a new upload begins with: those of its parts, if it is a final one, else none.
+pub fn first_bytes(alloc: Global, uploads: &Uploads, new: &NewUpload) -> Result<Vec<u8>, NoMemory>
+    ensures { IfOk result (λ bytes. bytes.items ≡ first_bytes uploads.now new.now) }
+{
+    if new.kind == Kind::Final {
+        join(alloc, uploads, new.parts.as_slice())
+    } else {
+        Ok(Vec::new(alloc))
+    }
+}
