@@ -18,9 +18,6 @@ use Rattle.up_events.specs.Records.{Records, noted}
 use Rattle.up_machine.specs.State.{Contents, State}
 use Rattle.up_machine.specs.Fits.{Fits, IsSoundBook}
 
-true_known : (a b : Bool) → a ≡ true → b ≡ false → (a && not b) ≡ true
-true_known a b e h = rw (e, h) refl
-
 at_other : (k u : ℕ) → eq_by_cmp nat_cmp u k ≡ false → eqb k u ≡ false
 at_other k u e = elim (eqb k u) as (λ b. eqb k u ≡ b → b ≡ false) [ true ↦ λ h. absurd (false≢true (sym e ∙ grind (arith, eqb-true k u h, nat_cmp_total))) | false ↦ λ h. refl ] refl
 
