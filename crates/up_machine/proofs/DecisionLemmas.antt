@@ -1,23 +1,33 @@
 -- What is known where no refusal holds.
-use Rattle.std.proofs.Common.{◌≡◌, ℕ, ◌+◌, ◌≤◌, ◌^◌, Bool, true, false, cond, Option, Some, None, Ok, List, [], ◌∷◌, ◌++◌, length, refl, sym, ap, ◌∙◌, arith}
+use Rattle.std.proofs.Common.{◌≡◌, ℕ, ◌+◌, ◌≤◌, ◌^◌, Bool, true, false, cond, Option, Some, None, Result, Ok, Err, IsErrAnd, inl, List, [], ◌∷◌, ◌++◌, length, refl, sym, ap, ◌∙◌, arith}
 use Rattle.std.specs.FinMap as map
 use Rattle.std.proofs.lemmas.Bool.{ltb-false}
+use Rattle.std.proofs.lemmas.Result.{err_from_is_err_and}
 use Rattle.up_machine.specs.Content.{Content, HasRoom, IsWithinLength, made_of}
 use Rattle.up_headers.specs.Rows.{Row, first_that_holds}
 use Rattle.up_machine.specs.State.{Contents, State, first_bytes, joined}
-use Rattle.up_machine.specs.Decision.{unless, asked_rows, create_rows, part_rows, rows_at, patch_rows, rows_of, planned_rows}
+use Rattle.up_machine.specs.Decision.{Answers, unless, asked_rows, create_rows, part_rows, rows_at, patch_rows, rows_of, planned_rows}
 use Rattle.up_machine.specs.declared.refusal.Refusal.{Refusal}
 use Rattle.up_headers.specs.declared.request.NewUpload.{NewUpload}
 use Rattle.up_headers.specs.declared.request.Patch.{Patch}
 use Rattle.up_headers.specs.declared.request.Request.TheVariants as request
 use Rattle.up_machine.specs.declared.plan.Asked.{Asked}
-use Rattle.up_machine.specs.declared.plan.Asked.TheVariants.{Skipped}
 use Rattle.up_machine.specs.declared.refusal.Refusal.TheVariants as refusal
 use Rattle.up_events.specs.History.{is_final_kind, is_known}
 
 unless_ok : {T : Type 0} (o : Option Refusal) (n m : T) → Ok n ≡ unless o m → o ≡ None
 unless_ok None n m e = refl
 unless_ok (Some r) n m e = absurd (cc)
+
+refused_alike : {T S : Type 0} (o : Option Refusal) (n : T) (m : S) (r : Refusal) → Err r ≡ unless o n → Err r ≡ unless o m
+refused_alike None n m r e = absurd (cc)
+refused_alike (Some found) n m r e = let h : r ≡ found = cc in ap Err h
+
+-- what refuses a check refuses the request, whatever would have come of it
+pub refused_by : {T S : Type 0} (o : Option Refusal) (n : T) (m : S) (r : Refusal) (result : Result S Refusal) → IsErrAnd result (λ e. e ≡ r) → Err r ≡ unless o n → Answers result (unless o m)
+refused_by o n m r result handed e =
+    let p = err_from_is_err_and result handed in
+    inl (p.1 ∙ ap Err p.2 ∙ refused_alike o n m r e)
 
 row_passed : (b : Bool) (r : Refusal) (rows : List (Row Refusal)) → first_that_holds ((b, r) ∷ rows) ≡ None → (b ≡ false) × (first_that_holds rows ≡ None)
 row_passed true r rows e = absurd (cc)
@@ -60,11 +70,11 @@ parts_passed content max_size new e final =
 
 -- a creation that nothing refuses has an id that was never given, and parts that are not too long
 pub create_passed : (s : State) (new : NewUpload) (id : ℕ) (asked : Asked) (r m : Unit {0}) → Ok r ≡ unless (first_that_holds (rows_of s (request.Create new) id asked)) m → (is_known s.journal.accepted id ≡ false) × (is_final_kind new.kind ≡ true → length (joined s.content new.parts) ≤ s.max_size)
-create_passed s new id Skipped r m e =
-    let all = unless_ok (first_that_holds (rows_of s (request.Create new) id Skipped)) r m e in
+create_passed s new id asked r m e =
+    let all = unless_ok (first_that_holds (rows_of s (request.Create new) id asked)) r m e in
     let taken : List (Row Refusal) = (is_known s.journal.accepted id, refusal.IdTaken) ∷ [] in
-    let both = append_passed (planned_rows s (request.Create new) ++ asked_rows Skipped) taken all in
-    let planned = append_passed (planned_rows s (request.Create new)) (asked_rows Skipped) both.0 in
+    let both = append_passed (planned_rows s (request.Create new) ++ asked_rows asked) taken all in
+    let planned = append_passed (planned_rows s (request.Create new)) (asked_rows asked) both.0 in
     let opened = row_passed s.closed refusal.Closed (create_rows s.content s.max_size new) planned.0 in
     ((none_holds taken both.1).0, parts_passed s.content s.max_size new opened.1)
 

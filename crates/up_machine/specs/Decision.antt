@@ -12,14 +12,16 @@ use Rattle.up_headers.specs.declared.request.NewUpload.{NewUpload}
 use Rattle.up_headers.specs.declared.request.Patch.{Patch}
 use Rattle.up_headers.specs.declared.request.Request.{Request}
 use Rattle.up_headers.specs.declared.request.Request.TheVariants as request
+use Rattle.up_machine.specs.Asks.{ask_of}
 use Rattle.up_machine.specs.Content.{Content, made_of}
 use Rattle.up_machine.specs.Responses.{can_do, created, downloaded, reached_offset, removed, standing}
 use Rattle.up_machine.specs.State.{Contents, State, bytes_of, first_bytes, joined}
+use Rattle.up_machine.specs.declared.ask.Point.TheVariants as point
 use Rattle.up_machine.specs.declared.plan.Asked.{Asked}
-use Rattle.up_machine.specs.declared.plan.Asked.TheVariants.{Skipped}
+use Rattle.up_machine.specs.declared.plan.Asked.TheVariants.{Skipped, Allowed, Refused}
 use Rattle.up_machine.specs.declared.plan.Done.{Done}
 use Rattle.up_machine.specs.declared.plan.Plan.{Plan}
-use Rattle.up_machine.specs.declared.plan.Plan.TheVariants.{Answer, Ready}
+use Rattle.up_machine.specs.declared.plan.Plan.TheVariants.{Answer, Ask, Ready}
 use Rattle.up_machine.specs.declared.refusal.Refusal.{Refusal}
 use Rattle.up_machine.specs.declared.refusal.Refusal.TheVariants as refusal
 use Rattle.up_wire.specs.declared.response.Response.{Response}
@@ -87,9 +89,26 @@ planned_rows s (request.Patch p) = (s.closed, refusal.Closed) ∷ rows_at (map.g
 planned_rows s (request.Delete u) = (s.closed, refusal.Closed) ∷ rows_at (map.get s.content u) (λ x. [])
 planned_rows s (request.Get u) = rows_at (map.get s.content u) get_rows
 
--- the rows of what was asked before a change: none where nothing was
+-- the rows of what was asked before a change: none where nobody was asked, or nobody refuses
 abbrev pub asked_rows : Asked → List (Row Refusal)
 asked_rows Skipped = []
+asked_rows Allowed = []
+asked_rows (Refused status reason) = (true, refusal.ByHook status reason) ∷ []
+
+-- whether closures are asked before such a request
+abbrev pub is_asked : Request → Bool
+is_asked request.Options = false
+is_asked (request.Create new) = true
+is_asked (request.Head u) = false
+is_asked (request.Patch p) = false
+is_asked (request.Delete u) = true
+is_asked (request.Get u) = false
+
+-- whether a closure refuses
+abbrev pub is_refusal : Asked → Bool
+is_refusal Skipped = false
+is_refusal Allowed = false
+is_refusal (Refused status reason) = true
 
 -- the rows that a commit checks: behind those of the plan, what was asked, and whether the new id was given before
 abbrev pub rows_of : State → Request → ℕ → Asked → List (Row Refusal)
@@ -138,13 +157,23 @@ decide s request id asked =
 abbrev pub answer_to : State → Request → Result Response Refusal
 answer_to s request = unless (first_that_holds (planned_rows s request)) (response_to s request 0)
 
--- a request that changes nothing is answered at once, and the others are to be committed
+-- what is asked before an upload is made
+abbrev pub plan_to_create : State → NewUpload → Plan
+plan_to_create s new = Ask (ask_of point.Create None (made_of new (first_bytes s.content new)))
+
+-- what is asked before an upload is removed
+abbrev pub plan_to_remove : ℕ → Option Content → Plan
+plan_to_remove u None = Ready
+plan_to_remove u (Some x) = Ask (ask_of point.Terminate (Some u) x)
+
+-- a request that changes nothing is answered at once, the closures are asked of one that makes or removes an upload, and bytes are to be
+-- committed
 abbrev pub plan_of : State → Request → Plan
 plan_of s request.Options = Answer (response_to s request.Options 0)
-plan_of s (request.Create new) = Ready
+plan_of s (request.Create new) = plan_to_create s new
 plan_of s (request.Head u) = Answer (response_to s (request.Head u) 0)
 plan_of s (request.Patch p) = Ready
-plan_of s (request.Delete u) = Ready
+plan_of s (request.Delete u) = plan_to_remove u (map.get s.content u)
 plan_of s (request.Get u) = Answer (response_to s (request.Get u) 0)
 
 -- the decision at planning

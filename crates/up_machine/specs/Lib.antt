@@ -1,10 +1,14 @@
 -- The definitions that the contracts cite.
 pub mod Content
+pub mod Reasons
+pub mod Padded
+pub mod Asks
 pub mod Stored
 pub mod State
 pub mod StateCode
 pub mod Responses
 pub mod Refusals
 pub mod Decision
+pub mod Plans
 pub mod Fits
 pub mod Views

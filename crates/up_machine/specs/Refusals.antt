@@ -1,11 +1,11 @@
 -- What is answered to a request that is refused.
-use Rattle.std.specs.Prelude.{ℕ, List, codes}
+use Rattle.std.specs.Prelude.{◌++◌, codes}
 use Rattle.up_machine.specs.Responses.{out_of_memory, refused_with}
 use Rattle.up_machine.specs.declared.refusal.Refusal.{Refusal}
 use Rattle.up_machine.specs.declared.refusal.Refusal.TheVariants as refusal
 use Rattle.up_wire.specs.declared.response.Response.{Response}
 
--- the response to each refusal: its status, and a line with its number and name
+-- the response to each refusal: its status, and a line with its number and name, or with the reason of a closure
 abbrev pub response_of : Refusal → Response
 response_of refusal.Closed = refused_with 503 (codes "20 Closed\n")
 response_of refusal.NotFound = refused_with 404 (codes "21 NotFound\n")
@@ -18,6 +18,7 @@ response_of refusal.PartUnknown = refused_with 400 (codes "27 PartUnknown\n")
 response_of refusal.PartNotPartial = refused_with 400 (codes "28 PartNotPartial\n")
 response_of refusal.PartUnfinished = refused_with 400 (codes "29 PartUnfinished\n")
 response_of refusal.SumTooLong = refused_with 413 (codes "30 SumTooLong\n")
+response_of (refusal.ByHook status reason) = refused_with status (reason ++ codes "\n")
 response_of refusal.IdTaken = refused_with 500 (codes "32 IdTaken\n")
 response_of refusal.Unfinished = refused_with 409 (codes "33 Unfinished\n")
 response_of refusal.NoMemory = out_of_memory

@@ -1,7 +1,8 @@
 //! The book: the uploads and the journal, and what is decided on requests.
-ghost use Rattle.std.specs.Prelude.{◌≡◌, ◌≤◌, ◌<◌, ◌^◌, true, IfOk, OnErr};
+ghost use Rattle.std.specs.Prelude.{◌≡◌, ◌≤◌, ◌<◌, ◌^◌, true, length, IfOk, IsErr, OnErr};
 ghost use Rattle.std.specs.FinMap as map;
 
+use crate::ask::Ask;
 use crate::checks::{check_asked, check_patch};
 use crate::plan::{Asked, Done, Plan};
 use crate::refusal::Refusal;
@@ -44,8 +45,8 @@ impl Book {
     ghost use Rattle.up_headers.specs.Rows.{first_that_holds};
     ghost use Rattle.up_headers.specs.Table.{FitsWithin};
     ghost use Rattle.up_headers.specs.declared.request.Request.TheVariants as request;
-    ghost use Rattle.up_machine.specs.State.{empty_state, after};
-    ghost use Rattle.up_machine.specs.Decision.{Answers, answer_to, decide, decide_plan, planned_rows, rows_of, unless};
+    ghost use Rattle.up_machine.specs.State.{empty_state, after, first_bytes};
+    ghost use Rattle.up_machine.specs.Decision.{Answers, answer_to, decide, decide_plan, is_asked, is_refusal, planned_rows, rows_of, unless};
     ghost use Rattle.up_machine.specs.Views.{Shows};
     ghost use Rattle.up_machine.specs.declared.plan.Asked.TheVariants.{Skipped};
 
@@ -118,9 +119,9 @@ impl Book {
         Ok(answer::to_get(alloc, upload)?)
     }
 
-    /// What refuses a creation at planning.
-    fn check_create(&self, new: &NewUpload) -> Result<(), Refusal>
-        ensures { result ≡ unless (first_that_holds (planned_rows self.now (request.Create new.now))) tt }
+    /// What refuses a creation at planning, or else how many bytes the upload begins with.
+    fn check_create(&self, new: &NewUpload) -> Result<u64, Refusal>
+        ensures { result ≡ unless (first_that_holds (planned_rows self.now (request.Create new.now))) (length (first_bytes self.now.content new.now)) }
     {
         if self.closed {
             return Err(Refusal::Closed);
@@ -197,6 +198,27 @@ impl Book {
         }
     }
 
+    /// What closures are asked before an upload is made.
+    fn plan_create(&self, alloc: Global, new: &NewUpload) -> Result<Plan, Refusal>
+        ensures { Answers result (decide_plan self.now (request.Create new.now)) }
+    {
+        let offset = self.check_create(new)?;
+        Ok(Plan::Ask(Ask::to_create(alloc, new, offset)?))
+    }
+
+    /// What closures are asked before an upload is removed.
+    fn plan_delete(&self, alloc: Global, id: Id) -> Result<Plan, Refusal>
+        ensures { Answers result (decide_plan self.now (request.Delete id)) }
+    {
+        if self.closed {
+            return Err(Refusal::Closed);
+        }
+        let Some(upload) = self.uploads.get(id) else {
+            return Err(Refusal::NotFound);
+        };
+        Ok(Plan::Ask(Ask::to_remove(alloc, id, upload)?))
+    }
+
     /// Removes an upload (tus 1.0.0, Termination). Its id is never given again.
     fn delete(&mut self, alloc: Global, id: Id, asked: &Asked) -> Result<Done, Refusal>
         ensures answer { Answers result (decide self.old (request.Delete id) 0 asked.now) }
@@ -221,23 +243,18 @@ impl Book {
             Request::Options => Ok(Plan::Answer(self.options(alloc)?)),
             Request::Head(id) => Ok(Plan::Answer(self.head(alloc, *id)?)),
             Request::Get(id) => Ok(Plan::Answer(self.get(alloc, *id)?)),
-            Request::Create(new) => {
-                self.check_create(new)?;
-                Ok(Plan::Ready)
-            }
+            Request::Create(new) => self.plan_create(alloc, new),
             Request::Patch(patch) => {
                 check_patch(&self.uploads, self.closed, patch)?;
                 Ok(Plan::Ready)
             }
-            Request::Delete(id) => {
-                self.check_delete(*id)?;
-                Ok(Plan::Ready)
-            }
+            Request::Delete(id) => self.plan_delete(alloc, *id),
         }
     }
 
     /// Decides on a request, and carries it out where nothing refuses it. The id is for a new upload, the others bring their
-    /// own. A request that is refused changes nothing; `NoMemory` comes only to one that nothing else refuses.
+    /// own. A request that is refused changes nothing; `NoMemory` comes only to one that nothing else refuses. A creation or a removal
+    /// that a closure refuses is refused, if not for another reason, and changes nothing.
     pub fn commit(
         &mut self,
         alloc: Global,
@@ -249,6 +266,7 @@ impl Book {
         ensures answer { Answers result (decide self.old request id asked.now) }
         ensures ok { IfOk result (λ done. self.new ≡ after self.old request id done.change) }
         ensures err { OnErr result (self.new ≡ self.old) }
+        ensures closure_refuses { is_asked request ≡ true → is_refusal asked.now ≡ true → IsErr result × (self.new ≡ self.old) }
     {
         match request {
             Request::Options => Ok(Done::unchanged(self.options(alloc)?)),

@@ -56,6 +56,10 @@ pub fn check_asked(asked: &Asked) -> Result<(), Refusal>
     ensures { result ≡ unless (first_that_holds (asked_rows asked.now)) tt }
 {
     match asked {
-        Asked::Skipped => Ok(()),
+        Asked::Skipped | Asked::Allowed => Ok(()),
+        Asked::Refused { status, reason } => Err(Refusal::ByHook {
+            status: *status,
+            reason: *reason,
+        }),
     }
 }

@@ -3,10 +3,13 @@
 #![tactic(auto)]
 
 mod answer;
+mod ask;
 mod book;
 mod checks;
+mod law;
 mod parts;
 mod plan;
+mod reason;
 mod refusal;
 mod store;
 #[cfg(test)]
@@ -15,7 +18,10 @@ mod upload;
 mod uploads;
 mod view;
 
+pub use ask::{Ask, Point, Verdict};
 pub use book::Book;
+pub use law::refusals_of_plans_are_kept;
 pub use plan::{Asked, Done, Plan};
+pub use reason::Reason;
 pub use refusal::{Refusal, response_of};
 pub use view::View;

@@ -79,9 +79,9 @@ fn sum_within(uploads: &Uploads, parts: &[Id], most: u64) -> Option<u64>
     Some(sum)
 }
 
-/// What refuses these parts.
-fn check_parts(uploads: &Uploads, max_size: u64, parts: &[Id]) -> Result<(), Refusal>
-    ensures { result ≡ unless (first_that_holds (part_rows uploads.now max_size parts.now)) tt }
+/// What refuses these parts, or else how many bytes they have together.
+fn check_parts(uploads: &Uploads, max_size: u64, parts: &[Id]) -> Result<u64, Refusal>
+    ensures { result ≡ unless (first_that_holds (part_rows uploads.now max_size parts.now)) (length (joined uploads.now parts.now)) }
 {
     if any_missing(uploads, parts) {
         return Err(Refusal::PartUnknown);
@@ -92,20 +92,20 @@ fn check_parts(uploads: &Uploads, max_size: u64, parts: &[Id]) -> Result<(), Ref
     if any_incomplete(uploads, parts) {
         return Err(Refusal::PartUnfinished);
     }
-    if sum_within(uploads, parts, max_size).is_none() {
-        return Err(Refusal::SumTooLong);
+    match sum_within(uploads, parts, max_size) {
+        Some(sum) => Ok(sum),
+        None => Err(Refusal::SumTooLong),
     }
-    Ok(())
 }
 
-/// What refuses a new upload because of its parts.
-pub fn check_new(uploads: &Uploads, max_size: u64, new: &NewUpload) -> Result<(), Refusal>
-    ensures { result ≡ unless (first_that_holds (create_rows uploads.now max_size new.now)) tt }
+/// What refuses a new upload because of its parts, or else how many bytes it begins with.
+pub fn check_new(uploads: &Uploads, max_size: u64, new: &NewUpload) -> Result<u64, Refusal>
+    ensures { result ≡ unless (first_that_holds (create_rows uploads.now max_size new.now)) (length (first_bytes uploads.now new.now)) }
 {
     if new.kind == Kind::Final {
         check_parts(uploads, max_size, new.parts.as_slice())
     } else {
-        Ok(())
+        Ok(0)
     }
 }
 

@@ -1,4 +1,6 @@
 //! What is found out of a request before it is carried out, and what came of one that was.
+use crate::ask::Ask;
+use crate::reason::Reason;
 use up_events::Accepted;
 use up_wire::Response;
 
@@ -7,6 +9,8 @@ use up_wire::Response;
 pub enum Plan {
     /// It changes nothing, and this is its response.
     Answer(Response),
+    /// The closures are to be asked this, and then it is to be committed.
+    Ask(Ask),
     /// It is to be committed.
     Ready,
 }
@@ -14,8 +18,12 @@ pub enum Plan {
 /// What was said to a request before it is committed.
 #[derive(Clone, Copy, Debug, PartialEq, Eq)]
 pub enum Asked {
-    /// Nobody was asked.
+    /// Nobody was asked, which counts as allowed.
     Skipped,
+    /// No closure refuses.
+    Allowed,
+    /// A closure refuses, with this status and reason.
+    Refused { status: u16, reason: Reason },
 }
 
 /// What came of a request that was carried out.

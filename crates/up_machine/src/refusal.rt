@@ -4,6 +4,7 @@ ghost use Rattle.up_machine.specs.Refusals.{response_of};
 ghost use Rattle.up_machine.specs.declared.refusal.Refusal.TheVariants.{NoMemory as out_of_memory};
 
 use crate::answer;
+use crate::reason::Reason;
 use std::alloc::Global;
 use thiserror::Error;
 use up_events::NoMemory;
@@ -45,6 +46,9 @@ pub enum Refusal {
     /// Together the parts of a final upload are longer than an upload may be (413).
     #[error("the parts are too long together")]
     SumTooLong,
+    /// A closure refuses the request (with the status and the reason that it gave).
+    #[error("a closure refuses")]
+    ByHook { status: u16, reason: Reason },
     /// The id for a new upload was given before (500).
     #[error("the id was given before")]
     IdTaken,
@@ -65,7 +69,7 @@ impl From<NoMemory> for Refusal {
 }
 
 /// What is answered to a request that is refused: its status, and a line with the number and the name of the refusal. To
-/// `NoMemory` it is an empty 503, which takes no memory.
+/// `ByHook` it is the closure's status, and a line with its reason; to `NoMemory` an empty 503, which takes no memory.
 pub fn response_of(alloc: Global, refusal: &Refusal) -> Result<Response, NoMemory>
     ensures { IfOk result (λ made. made ≡ response_of refusal.now) }
 {
@@ -81,6 +85,9 @@ pub fn response_of(alloc: Global, refusal: &Refusal) -> Result<Response, NoMemor
         Refusal::PartNotPartial => (400, "28 PartNotPartial\n"),
         Refusal::PartUnfinished => (400, "29 PartUnfinished\n"),
         Refusal::SumTooLong => (413, "30 SumTooLong\n"),
+        Refusal::ByHook { status, reason } => return answer::refused_because(
+            alloc, *status, reason,
+        ),
         Refusal::IdTaken => (500, "32 IdTaken\n"),
         Refusal::Unfinished => (409, "33 Unfinished\n"),
         Refusal::NoMemory => return Ok(answer::out_of_memory(alloc)),

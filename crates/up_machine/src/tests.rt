@@ -3,14 +3,17 @@ ghost use Rattle.std.specs.Prelude.{◌≤◌, ◌<◌, ◌^◌, IfOk};
 ghost use Rattle.up_headers.specs.Table.{FitsWithin};
 
 mod answers;
+mod asks;
 mod concatenation;
 mod drawn;
 mod events;
 mod plain;
 mod rows;
 
+use crate::ask::Ask;
 use crate::book::Book;
 use crate::plan::{Asked, Done, Plan};
+use crate::reason::Reason;
 use crate::refusal::{Refusal, response_of};
 use crate::view::View;
 use plain::{Plain, PlainUpload};
@@ -18,7 +21,7 @@ use std::alloc::{AllocError, Global};
 use std::process::Abort;
 use std::test::Fail;
 use up_events::{Accepted, Event, Hook, Id, Kind};
-use up_headers::{NewUpload, Patch, Request};
+use up_headers::{NewUpload, Patch, Request, pairs_of};
 use up_wire::{Response, Sequence};
 
 /// The ids of these tests are the numbers below this one.
@@ -26,13 +29,13 @@ const ID_COUNT: u64 = 8;
 
 /// A request in short, of the upload whose id is given beside it.
 #[derive(Clone, Copy)]
-enum Ask<'a> {
+enum Short<'a> {
     Options,
     /// A plain upload, with this length and metadata text.
     Create(u8, &'a str),
-    /// A partial one, with this length.
+    /// A partial one, with this length and the metadata text "part".
     Partial(u8),
-    /// A final one of the uploads with these numbers, with this text of `Upload-Concat`.
+    /// A final one of the uploads with these numbers, with this text of `Upload-Concat` and the metadata text "whole".
     Final(&'a [u128], &'a str),
     Head,
     /// With a right or a wrong media type, this offset and these bytes.
@@ -42,8 +45,8 @@ enum Ask<'a> {
 }
 
 /// A PATCH with all that it must have.
-fn patch(offset: u64, bytes: &[u8]) -> Ask {
-    Ask::Patch(true, Some(offset), bytes)
+fn patch(offset: u64, bytes: &[u8]) -> Short {
+    Short::Patch(true, Some(offset), bytes)
 }
 
 /// A text as bytes. One that is empty is none.
@@ -63,48 +66,47 @@ fn ids_of(alloc: Global, numbers: &[u128]) -> Result<Sequence<Id>, AllocError> {
     Ok(ids)
 }
 
-/// A new upload without parts and texts.
-fn upload_of(alloc: Global, kind: Kind, length: u8) -> NewUpload
-    ensures { result.length ≤ 2 ^ 30 }
+/// A new upload without parts, with this metadata text and the pairs of it.
+fn upload_of(alloc: Global, kind: Kind, length: u8, metadata: &str) -> Result<NewUpload, Fail>
+    ensures { IfOk result (λ new. new.length ≤ 2 ^ 30) }
 {
-    NewUpload {
+    Ok(NewUpload {
         kind,
         length: u64::from(length),
         parts: Sequence::new(alloc),
-        pairs: Sequence::new(alloc),
-        metadata: None,
+        pairs: pairs_of(alloc, metadata.as_bytes())?,
+        metadata: text_of(alloc, metadata)?,
         concat: None,
-    }
+    })
 }
 
 /// The request in full.
-fn request_of(alloc: Global, id: Id, ask: Ask) -> Result<Request, AllocError>
+fn request_of(alloc: Global, id: Id, short: Short) -> Result<Request, Fail>
     ensures { IfOk result (FitsWithin (2 ^ 30)) }
 {
-    Ok(match ask {
-        Ask::Options => Request::Options,
-        Ask::Create(length, metadata) => Request::Create(NewUpload {
-            metadata: text_of(alloc, metadata)?,
-            ..upload_of(alloc, Kind::Plain, length)
-        }),
-        Ask::Partial(length) => Request::Create(NewUpload {
+    Ok(match short {
+        Short::Options => Request::Options,
+        Short::Create(length, metadata) => {
+            Request::Create(upload_of(alloc, Kind::Plain, length, metadata)?)
+        }
+        Short::Partial(length) => Request::Create(NewUpload {
             concat: text_of(alloc, "partial")?,
-            ..upload_of(alloc, Kind::Partial, length)
+            ..upload_of(alloc, Kind::Partial, length, "part")?
         }),
-        Ask::Final(parts, concat) => Request::Create(NewUpload {
+        Short::Final(parts, concat) => Request::Create(NewUpload {
             parts: ids_of(alloc, parts)?,
             concat: text_of(alloc, concat)?,
-            ..upload_of(alloc, Kind::Final, 0)
+            ..upload_of(alloc, Kind::Final, 0, "whole")?
         }),
-        Ask::Head => Request::Head(id),
-        Ask::Patch(media, offset, bytes) => Request::Patch(Patch {
+        Short::Head => Request::Head(id),
+        Short::Patch(media, offset, bytes) => Request::Patch(Patch {
             id,
             media,
             offset,
             bytes: Sequence::from_slice(alloc, bytes)?,
         }),
-        Ask::Delete => Request::Delete(id),
-        Ask::Get => Request::Get(id),
+        Short::Delete => Request::Delete(id),
+        Short::Get => Request::Get(id),
     })
 }
 
@@ -116,16 +118,25 @@ fn push_bytes(words: &mut String, bytes: &[u8]) -> Result<(), AllocError> {
     Ok(())
 }
 
+/// Adds pairs, as "name: value; " each.
+fn push_pairs(
+    words: &mut String,
+    pairs: &[(Sequence<u8>, Sequence<u8>)],
+) -> Result<(), AllocError> {
+    for pair in pairs {
+        push_bytes(words, pair.0.as_slice())?;
+        words.push_str(": ")?;
+        push_bytes(words, pair.1.as_slice())?;
+        words.push_str("; ")?;
+    }
+    Ok(())
+}
+
 /// A response in words, as "200 Upload-Offset: 0; Upload-Length: 5; []": status, fields in order, and body.
 fn response_words(alloc: Global, response: &Response) -> Result<String, Fail> {
     let status = response.status;
     let mut words = format!(in alloc; "{status} ")?;
-    for field in response.fields.as_slice() {
-        push_bytes(&mut words, field.0.as_slice())?;
-        words.push_str(": ")?;
-        push_bytes(&mut words, field.1.as_slice())?;
-        words.push_str("; ")?;
-    }
+    push_pairs(&mut words, response.fields.as_slice())?;
     words.push_str("[")?;
     push_bytes(&mut words, response.body.as_slice())?;
     words.push_str("]")?;
@@ -137,10 +148,21 @@ fn refusal_words(alloc: Global, refusal: &Refusal) -> Result<String, Fail> {
     response_words(alloc, &response_of(alloc, refusal)?)
 }
 
-/// What is said at planning, in words. A request that can be committed is "ready".
+/// What closures are asked, in words, as "Create None Plain 0/5 [name: ab; ]": point, target, kind, offset and length, and pairs.
+fn ask_words(alloc: Global, ask: &Ask) -> Result<String, Fail> {
+    let (point, target, kind) = (ask.point, ask.target, ask.kind);
+    let (offset, length) = (ask.offset, ask.length);
+    let mut words = format!(in alloc; "{point:?} {target:?} {kind:?} {offset}/{length} [")?;
+    push_pairs(&mut words, ask.pairs.as_slice())?;
+    words.push_str("]")?;
+    Ok(words)
+}
+
+/// What is said at planning, in words. A request of which nobody is to be asked before it is committed is "ready".
 fn plan_words(alloc: Global, planned: &Result<Plan, Refusal>) -> Result<String, Fail> {
     match planned {
         Ok(Plan::Answer(response)) => response_words(alloc, response),
+        Ok(Plan::Ask(ask)) => ask_words(alloc, ask),
         Ok(Plan::Ready) => Ok(String::from_str(alloc, "ready")?),
         Err(refusal) => refusal_words(alloc, refusal),
     }
@@ -215,15 +237,28 @@ impl Both {
         }
     }
 
-    /// Holds that both plan the same and decide the same, and that planning changes nothing.
-    fn step(&mut self, rt: &impl Abort, alloc: Global, id: Id, ask: Ask) -> Result<Reply, Fail> {
-        let request = request_of(alloc, id, ask)?;
-        let planned = plan_words(alloc, &self.book.plan(alloc, &request))?;
-        let expected = self.plain.plan(alloc, &request)?;
+    /// Holds that both plan the same, in these words, and that planning changes nothing.
+    fn plan(&self, rt: &impl Abort, alloc: Global, request: &Request) -> Result<String, Fail> {
+        let planned = plan_words(alloc, &self.book.plan(alloc, request))?;
+        let expected = self.plain.plan(alloc, request)?;
         assert_eq!(rt; planned.as_str(), expected.as_str());
         self.assert_same(rt);
-        let expected = self.plain.decide(alloc, &request, id)?;
-        let decided = self.book.commit(alloc, request, id, &Asked::Skipped);
+        Ok(planned)
+    }
+
+    /// Holds that both plan the same and decide the same.
+    fn step(
+        &mut self,
+        rt: &impl Abort,
+        alloc: Global,
+        id: Id,
+        short: Short,
+        asked: &Asked,
+    ) -> Result<Reply, Fail> {
+        let request = request_of(alloc, id, short)?;
+        self.plan(rt, alloc, &request)?;
+        let expected = self.plain.decide(alloc, &request, id, asked)?;
+        let decided = self.book.commit(alloc, request, id, asked);
         let found = reply_of(alloc, &decided)?;
         assert_eq!(rt; found.words.as_str(), expected.words.as_str());
         assert_eq!(rt; found.change, expected.change);
@@ -231,17 +266,28 @@ impl Both {
         Ok(found)
     }
 
-    /// Holds that both answer these requests so.
+    /// Holds that both answer these requests so, where this was said to them before.
+    fn hold_asked(
+        &mut self,
+        rt: &impl Abort,
+        alloc: Global,
+        asked: &Asked,
+        rows: &[(u128, Short, &str)],
+    ) -> Result<(), Fail> {
+        for (number, short, wanted) in rows {
+            let reply = self.step(rt, alloc, Id::new(*number), *short, asked)?;
+            assert_eq!(rt; reply.words.as_str(), *wanted);
+        }
+        Ok(())
+    }
+
+    /// Holds that both answer these requests so, before which nobody was asked.
     fn hold(
         &mut self,
         rt: &impl Abort,
         alloc: Global,
-        rows: &[(u128, Ask, &str)],
+        rows: &[(u128, Short, &str)],
     ) -> Result<(), Fail> {
-        for (number, ask, wanted) in rows {
-            let reply = self.step(rt, alloc, Id::new(*number), *ask)?;
-            assert_eq!(rt; reply.words.as_str(), *wanted);
-        }
-        Ok(())
+        self.hold_asked(rt, alloc, &Asked::Skipped, rows)
     }
 }

@@ -117,6 +117,13 @@ impl Upload {
         text(&self.metadata)
     }
 
+    /// The pairs of the metadata text.
+    pub fn pairs(&self) -> &[(Sequence<u8>, Sequence<u8>)]
+        ensures { result.now ≡ self.now.pairs }
+    {
+        self.pairs.as_slice()
+    }
+
     /// The text of its concatenation, where there is one.
     pub fn concat(&self) -> Option<&[u8]>
         ensures { option_copied result ≡ self.now.concat }

@@ -1,10 +1,8 @@
 -- A dispatcher's fields after one more request.
-use Rattle.std.proofs.Common.{◌≡◌, ◌⊎◌, inl, inr, ℕ, ◌+◌, ◌<◌, ◌≤◌, ◌%◌, true, false, Option, Some, None, is_some, Ok, Err, List, [], ◌∷◌, ◌++◌, length, zero, suc, refl, sym, ap, ◌∙◌, subst, arith, Vec, slice_get, slice_set, length-append, eqb, cond}
+use Rattle.std.proofs.Common.{◌≡◌, ◌⊎◌, inl, inr, ℕ, ◌+◌, ◌<◌, ◌≤◌, ◌%◌, true, false, Option, Some, None, is_some, Ok, Err, List, [], ◌∷◌, ◌++◌, length, zero, suc, refl, sym, ap, ◌∙◌, subst, arith, slice_get, slice_set, length-append, eqb, cond}
 use Rattle.std.proofs.Math.ListN.{length-set}
 use Rattle.std.proofs.lemmas.Bool.{eqb-true}
 use Rattle.std.proofs.lemmas.List.Elements.{Contains-append_left}
-use Rattle.std.specs.Vec.{with_item}
-use Rattle.std.specs.declared.alloc.Global.{Global}
 use Rattle.up_events.proofs.HistoryLemmas.{log_of-snoc, creation_of-other}
 use Rattle.up_events.proofs.JournalLemmas.{each_set, get-push}
 use Rattle.up_events.proofs.Sound.{creation_of-appended, creation_of-terminated}
@@ -18,17 +16,15 @@ use Rattle.up_headers.specs.Rows.{first_that_holds}
 use Rattle.up_headers.specs.declared.request.Request.{Request}
 use Rattle.up_headers.specs.declared.request.Request.TheVariants as request
 use Rattle.up_machine.specs.Content.{made_of}
-use Rattle.up_machine.specs.Decision.{decide, unless, change_of, appended, response_to, rows_of}
+use Rattle.up_machine.specs.Decision.{unless, change_of, appended, response_to, rows_of}
 use Rattle.up_machine.specs.State.{State, empty_state, after, first_bytes}
-use Rattle.up_machine.specs.declared.plan.Asked.TheVariants.{Skipped}
 use Rattle.up_machine.specs.declared.plan.Done.{Done}
 use Rattle.up_machine.specs.declared.refusal.Refusal.{Refusal}
 use Rattle.up_machine.specs.declared.refusal.Refusal.TheVariants as refusal
 use Rattle.up_server.proofs.Each.{AreOfLanes}
-use Rattle.up_server.specs.Course.{AreNew, AreOfTheirLanes, last_after}
+use Rattle.up_server.specs.Course.{AreNew, AreOfTheirLanes, Gives, IsCommitted, last_after}
 use Rattle.up_server.specs.Passage.{Passage, IsFrom}
 use Rattle.up_server.specs.Sound.{IsSound, AreFed}
-use Rattle.up_server.specs.declared.dispatcher.Dispatcher.TheInside.{Inside}
 
 -- a log that grows at its end
 from_more : (log more : List Event) (f : Passage) → IsFrom log f → IsFrom (log ++ more) f
@@ -54,7 +50,7 @@ fed_followed j feeds i f0 f fed was put =
 pub AreNew-push : (n : ℕ) (feeds : List Passage) (f : Passage) → AreNew n feeds → ((log : List Event) → IsFrom log f) → AreNew (n + 1) (feeds ++ f ∷ [])
 AreNew-push n feeds f are here = record { rows = length-append feeds (f ∷ []) ∙ omega (arith, are.rows); new = get-push (λ g. (log : List Event) → IsFrom log g) feeds f are.new here }
 
-pub sound_new : (book : State) (feeds : Vec Passage Global) (lanes max_size : ℕ) → 0 < lanes → book ≡ empty_state lanes max_size → AreNew lanes feeds.items → IsSound (record { book = book; feeds = feeds; last_id = 0 })
+pub sound_new : (book : State) (feeds : List Passage) (lanes max_size : ℕ) → 0 < lanes → book ≡ empty_state lanes max_size → AreNew lanes feeds → IsSound book feeds 0
 unfolding creation_of
 sound_new book feeds lanes max_size some is are = record {
   some = subst (λ (s : State). 0 < s.journal.lanes) (sym is) some;
@@ -84,9 +80,9 @@ get-push_at P (y ∷ ys) new old here zero x e = old zero x e
 get-push_at P (y ∷ ys) new old here (suc k) x e = get-push_at (λ j. P (suc j)) ys new (λ k x e. old (suc k) x e) here k x e
 
 -- no lane has reported
-pub none_reported : (journal : Records) → AreOfTheirLanes journal []
-none_reported journal zero r e = absurd (cc)
-none_reported journal (suc k) r e = absurd (cc)
+pub none_reported : {H : Type 0} (handed : H → List Event) (journal : Records) → AreOfTheirLanes handed journal []
+none_reported handed journal zero r e = absurd (cc)
+none_reported handed journal (suc k) r e = absurd (cc)
 
 -- ---- ids
 
@@ -132,46 +128,46 @@ last_rises last (request.Get u) = omega arith
 -- ---- a dispatcher after a request
 
 -- the book is as before
-pub sound_kept : (a : Inside) (asks : Request) (s : State) → IsSound a → s ≡ a.book → IsSound (record { book = s; feeds = a.feeds; last_id = last_after a.last_id asks })
-sound_kept a asks s sound is = record {
+pub sound_kept : (book s : State) (feeds : List Passage) (last : ℕ) (asks : Request) → IsSound book feeds last → s ≡ book → IsSound s feeds (last_after last asks)
+sound_kept book s feeds last asks sound is = record {
   some = subst (λ (s : State). 0 < s.journal.lanes) (sym is) sound.some;
   rows = sound.rows ∙ ap (λ (s : State). s.journal.lanes) (sym is);
-  feeds = subst (λ (s : State). AreFed s.journal a.feeds.items) (sym is) sound.feeds;
-  fresh = λ u above. subst (λ (s : State). is_known s.journal.accepted u ≡ false) (sym is) (sound.fresh u (omega (arith, last_rises a.last_id asks)));
+  feeds = subst (λ (s : State). AreFed s.journal feeds) (sym is) sound.feeds;
+  fresh = λ u above. subst (λ (s : State). is_known s.journal.accepted u ≡ false) (sym is) (sound.fresh u (omega (arith, last_rises last asks)));
 }
 
-sound_noted : (a : Inside) (asks : Request) (c : Accepted) → IsSound a → change_of a.book asks (a.last_id + 1) ≡ Some c → IsSound (record { book = after a.book asks (a.last_id + 1) (Some c); feeds = a.feeds; last_id = last_after a.last_id asks })
-sound_noted a asks c sound is = record {
+sound_noted : (book : State) (feeds : List Passage) (last : ℕ) (asks : Request) (c : Accepted) → IsSound book feeds last → change_of book asks (last + 1) ≡ Some c → IsSound (after book asks (last + 1) (Some c)) feeds (last_after last asks)
+sound_noted book feeds last asks c sound is = record {
   some = sound.some;
   rows = sound.rows;
-  feeds = fed_noted a.book.journal a.feeds.items c sound.feeds;
-  fresh = λ u above. unknown_after a.book.journal.accepted c u (sound.fresh u (omega (arith, last_rises a.last_id asks))) (older_change a.book asks a.last_id c u is above);
+  feeds = fed_noted book.journal feeds c sound.feeds;
+  fresh = λ u above. unknown_after book.journal.accepted c u (sound.fresh u (omega (arith, last_rises last asks))) (older_change book asks last c u is above);
 }
 
-sound_changed : (a : Inside) (asks : Request) (change : Option Accepted) → IsSound a → change ≡ change_of a.book asks (a.last_id + 1) → IsSound (record { book = after a.book asks (a.last_id + 1) change; feeds = a.feeds; last_id = last_after a.last_id asks })
-sound_changed a asks None sound is = sound_kept a asks a.book sound refl
-sound_changed a asks (Some c) sound is = sound_noted a asks c sound (sym is)
+sound_changed : (book : State) (feeds : List Passage) (last : ℕ) (asks : Request) (change : Option Accepted) → IsSound book feeds last → change ≡ change_of book asks (last + 1) → IsSound (after book asks (last + 1) change) feeds (last_after last asks)
+sound_changed book feeds last asks None sound is = sound_kept book book feeds last asks sound refl
+sound_changed book feeds last asks (Some c) sound is = sound_noted book feeds last asks c sound (sym is)
 
 unless_change : (r : Option Refusal) (e d : Done) → Ok d ≡ unless r e → d.change ≡ e.change
 unless_change None e d is = let h : d ≡ e = cc in ap (λ (x : Done). x.change) h
 unless_change (Some r) e d is = absurd (cc)
 
-change_done : (s : State) (asks : Request) (id : ℕ) (d : Done) → (Ok d ≡ decide s asks id Skipped) ⊎ (Ok d ≡ Err refusal.NoMemory) → d.change ≡ change_of s asks id
-change_done s asks id d (inl is) = unless_change (first_that_holds (rows_of s asks id Skipped)) (record { response = response_to s asks id; change = change_of s asks id }) d is
-change_done s asks id d (inr refused) = absurd (cc)
+change_done : (gives : Gives) (s : State) (asks : Request) (id : ℕ) (d : Done) → IsCommitted gives s asks id (Ok d) ⊎ (Ok d ≡ Err refusal.NoMemory) → d.change ≡ change_of s asks id
+change_done gives s asks id d (inl committed) = unless_change (first_that_holds (rows_of s asks id committed.0)) (record { response = response_to s asks id; change = change_of s asks id }) d committed.2
+change_done gives s asks id d (inr refused) = absurd (cc)
 
 -- a request was carried out with the next id, and no lane has followed yet
-pub sound_after : (a : Inside) (asks : Request) (id : ℕ) (s : State) (d : Done) → IsSound a → id ≡ a.last_id + 1 → (Ok d ≡ decide a.book asks id Skipped) ⊎ (Ok d ≡ Err refusal.NoMemory) → s ≡ after a.book asks id d.change → IsSound (record { book = s; feeds = a.feeds; last_id = last_after a.last_id asks })
-sound_after a asks id s d sound next decided is =
-    let made : d.change ≡ change_of a.book asks (a.last_id + 1) = change_done a.book asks id d decided ∙ ap (change_of a.book asks) next in
-    subst (λ (t : State). IsSound (record { book = t; feeds = a.feeds; last_id = last_after a.last_id asks })) (sym (is ∙ ap (λ n. after a.book asks n d.change) next))
-    (sound_changed a asks d.change sound made)
+pub sound_after : (gives : Gives) (book s : State) (feeds : List Passage) (last : ℕ) (asks : Request) (id : ℕ) (d : Done) → IsSound book feeds last → id ≡ last + 1 → IsCommitted gives book asks id (Ok d) ⊎ (Ok d ≡ Err refusal.NoMemory) → s ≡ after book asks id d.change → IsSound s feeds (last_after last asks)
+sound_after gives book s feeds last asks id d sound next decided is =
+    let made : d.change ≡ change_of book asks (last + 1) = change_done gives book asks id d decided ∙ ap (change_of book asks) next in
+    subst (λ (t : State). IsSound t feeds (last_after last asks)) (sym (is ∙ ap (λ n. after book asks n d.change) next))
+    (sound_changed book feeds last asks d.change sound made)
 
 -- a lane has followed its log
-pub sound_followed : (a : Inside) (i : ℕ) (f0 f : Passage) → IsSound a → slice_get a.feeds.items i ≡ Some f0 → (IsFrom (lane_log a.book.journal i) f0 → IsFrom (lane_log a.book.journal i) f) → IsSound (record { book = a.book; feeds = with_item a.feeds i f; last_id = a.last_id })
-sound_followed a i f0 f sound was put = record {
+pub sound_followed : (book : State) (feeds : List Passage) (last i : ℕ) (f0 f : Passage) → IsSound book feeds last → slice_get feeds i ≡ Some f0 → (IsFrom (lane_log book.journal i) f0 → IsFrom (lane_log book.journal i) f) → IsSound book (slice_set feeds i f) last
+sound_followed book feeds last i f0 f sound was put = record {
   some = sound.some;
-  rows = length-set a.feeds.items i f ∙ sound.rows;
-  feeds = fed_followed a.book.journal a.feeds.items i f0 f sound.feeds was put;
+  rows = length-set feeds i f ∙ sound.rows;
+  feeds = fed_followed book.journal feeds i f0 f sound.feeds was put;
   fresh = sound.fresh;
 }

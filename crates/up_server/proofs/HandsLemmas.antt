@@ -10,11 +10,8 @@ use Rattle.up_events.proofs.JournalLemmas.{same_id, other_id}
 use Rattle.up_events.specs.Delivery.{IsWithin, count_of, IsNumbered}
 use Rattle.up_server.specs.Hands.{Hands, AreFrom}
 use Rattle.up_server.specs.Counting.{IsCounting}
-use Rattle.up_server.specs.declared.lane.Lane.TheInside.{Inside}
-use Rattle.std.specs.Prelude.{Vec}
 use Rattle.std.specs.List.{swap_remove}
 use Rattle.std.proofs.lemmas.List.Sorted.{IsPermutation-sym, IsPermutation-swap_remove, Contains-permutation}
-use Rattle.std.specs.declared.alloc.Global.{Global}
 
 filter-own : (u : ℕ) (xs : List Event) (e : Event) → eqb e.id u ≡ true → filter (is_of u) (xs ++ e ∷ []) ≡ filter (is_of u) xs ++ e ∷ []
 filter-own u xs e is = filter-append (is_of u) xs (e ∷ []) ∙ ap (λ b. filter (is_of u) xs ++ cond b (e ∷ []) []) is
@@ -45,19 +42,16 @@ last_counted m n xs e old updates is u =
       | false ↦ λ h. old u ∙ sym (ap length (filter-other u xs e (other_id e.id u h)))
     ] refl
 
-pub counting_after : (a : Inside) (last : BTreeMap ℕ ℕ) (handed : Vec Event Global) (e : Event) → IsCounting a → e.number ≡ count_of e.id a.handed.items + 1 → Updates nat_cmp a.last last e.id (Some e.number) → handed.items ≡ a.handed.items ++ e ∷ [] → IsCounting (record { last = last; early = a.early; handed = handed })
-counting_after a last handed e k is updates grown = record {
-  numbered = subst IsNumbered (sym grown) (numbered_push a.handed.items e k.numbered is);
-  last = λ u. last_counted a.last last a.handed.items e k.last updates is u ∙ ap (count_of u) (sym grown);
+pub counting_after : (handed more : List Event) (table last : BTreeMap ℕ ℕ) (e : Event) → IsCounting handed table → e.number ≡ count_of e.id handed + 1 → Updates nat_cmp table last e.id (Some e.number) → more ≡ handed ++ e ∷ [] → IsCounting more last
+counting_after handed more table last e k is updates grown = record {
+  numbered = subst IsNumbered (sym grown) (numbered_push handed e k.numbered is);
+  last = λ u. last_counted table last handed e k.last updates is u ∙ ap (count_of u) (sym grown);
 }
 
 -- ---- members
 
 pub within_push : (xs log : List Event) (e : Event) → IsWithin xs log → Contains log e → IsWithin (xs ++ e ∷ []) log
 within_push xs log e w h x c = elim (Contains-push_cases xs e x c) [ inl old ↦ w x old | inr is ↦ subst (Contains log) is h ]
-
-pub from_handed : (log : List Event) (h : Hands) (e : Event) → AreFrom log h → Contains h.early e → AreFrom log (record h { handed = h.handed ++ e ∷ [] })
-from_handed log h e from there = (from.0, within_push h.handed log e from.1 (from.0 e there))
 
 pub from_offered : (log : List Event) (h : Hands) (e : Event) → AreFrom log h → Contains log e → AreFrom log (record h { handed = h.handed ++ e ∷ [] })
 from_offered log h e from has = (from.0, within_push h.handed log e from.1 has)

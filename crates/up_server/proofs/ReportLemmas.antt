@@ -4,11 +4,12 @@ use Rattle.std.specs.Io.KnownBytes.{Appends}
 use Rattle.up_server.specs.ReportText.{lane_text, lanes_text}
 use Rattle.std.proofs.KnownBytes.{Appends-trans}
 use Rattle.up_wire.specs.Response.{WritesFront}
+use Rattle.up_hooks.specs.declared.recorder.Recorder.{Recorder}
 use Rattle.up_server.specs.declared.feed.LaneReport.{LaneReport}
 use Rattle.up_server.proofs.Writing.{front_then, front_cut}
 
 -- the lanes up to one, that one, and the others
-pub lanes_text-split : (number : ℕ) (lanes : List LaneReport) (i : ℕ) (d : LaneReport) → i < length lanes
+pub lanes_text-split : {F : Type 0} (number : ℕ) (lanes : List (LaneReport (Recorder F))) (i : ℕ) (d : LaneReport (Recorder F)) → i < length lanes
     → lanes_text number lanes ≡ (lanes_text number (take i lanes) ++ lane_text (number + i) (get_or lanes i d)) ++ lanes_text (number + i + 1) (drop (suc i) lanes)
 lanes_text-split number [] i d inside = absurd (omega arith)
 lanes_text-split number (lane ∷ lanes) zero d inside = let e : number + zero ≡ number = omega arith in rw e refl
@@ -20,7 +21,7 @@ lanes_text-split number (lane ∷ lanes) (suc i) d inside =
     ∙ ap (λ t. t ++ lanes_text (number + suc i + 1) (drop (suc i) lanes)) (sym (append_assoc (lane_text number lane) (lanes_text (number + 1) (take i lanes)) (lane_text (number + suc i) (get_or lanes i d))))
 
 -- what one more lane adds
-pub lanes_text-more : (number : ℕ) (lanes : List LaneReport) (i : ℕ) (d : LaneReport) → i < length lanes
+pub lanes_text-more : {F : Type 0} (number : ℕ) (lanes : List (LaneReport (Recorder F))) (i : ℕ) (d : LaneReport (Recorder F)) → i < length lanes
     → lanes_text number (take (suc i) lanes) ≡ lanes_text number (take i lanes) ++ lane_text (number + i) (get_or lanes i d)
 lanes_text-more number [] i d inside = absurd (omega arith)
 lanes_text-more number (lane ∷ lanes) zero d inside = let e : number + zero ≡ number = omega arith in append-nil (lane_text number lane) ∙ ap (λ n. lane_text n lane) (sym e)
@@ -30,7 +31,7 @@ lanes_text-more number (lane ∷ lanes) (suc i) d inside =
     ∙ sym (append_assoc (lane_text number lane) (lanes_text (number + 1) (take i lanes)) (lane_text (number + suc i) (get_or lanes i d)))
 
 -- the lanes break off in one
-pub lanes_cut : (a b c : Option (List ℕ)) (lanes : List LaneReport) (i : ℕ) (d : LaneReport) → i < length lanes
+pub lanes_cut : {F : Type 0} (a b c : Option (List ℕ)) (lanes : List (LaneReport (Recorder F))) (i : ℕ) (d : LaneReport (Recorder F)) → i < length lanes
     → Appends a b (lanes_text 0 (take i lanes)) → WritesFront b c (lane_text i (get_or lanes i d)) → WritesFront a c (lanes_text 0 lanes)
 lanes_cut a b c lanes i d inside before next =
     let e : 0 + i ≡ i = omega arith in
@@ -40,7 +41,7 @@ lanes_cut a b c lanes i d inside before next =
     subst (WritesFront a c) (sym whole) (front_cut a c (lanes_text 0 (take i lanes) ++ lane_text i (get_or lanes i d)) (lanes_text (i + 1) (drop (suc i) lanes)) some)
 
 -- the lanes up to one, and that one
-pub lanes_more : (a b c : Option (List ℕ)) (lanes : List LaneReport) (i : ℕ) (d : LaneReport) → i < length lanes
+pub lanes_more : {F : Type 0} (a b c : Option (List ℕ)) (lanes : List (LaneReport (Recorder F))) (i : ℕ) (d : LaneReport (Recorder F)) → i < length lanes
     → Appends a b (lanes_text 0 (take i lanes)) → Appends b c (lane_text i (get_or lanes i d)) → Appends a c (lanes_text 0 (take (i + 1) lanes))
 lanes_more a b c lanes i d inside before next =
     let one : i + 1 ≡ suc i = omega arith in

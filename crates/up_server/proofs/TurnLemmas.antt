@@ -5,13 +5,11 @@ use Rattle.up_events.specs.Delivery.{IsPrefix}
 use Rattle.up_events.specs.declared.event.Accepted.{Accepted}
 use Rattle.up_headers.specs.declared.request.Request.{Request}
 use Rattle.up_headers.specs.declared.request.Request.TheVariants as request
-use Rattle.up_machine.specs.Decision.{decide}
 use Rattle.up_machine.specs.State.{State, after}
-use Rattle.up_machine.specs.declared.plan.Asked.TheVariants.{Skipped}
 use Rattle.up_machine.specs.declared.plan.Done.{Done}
 use Rattle.up_machine.specs.declared.refusal.Refusal.{Refusal}
 use Rattle.up_server.proofs.Prefixes.{prefix_same, prefix_then}
-use Rattle.up_server.specs.Course.{Course, IsAnsweredTo, IsDecided, IsOutOfMemory, last_after}
+use Rattle.up_server.specs.Course.{Course, Gives, IsAnsweredTo, IsCarriedOut, IsDecided, IsOutOfMemory, last_after}
 use Rattle.up_server.specs.Turn.{GoesOn, IsFaultSent, IsServed, Sends, Stand, TakesTurn, Passes, unanswered}
 use Rattle.up_server.specs.declared.conversation.Ended.{Ended}
 use Rattle.up_wire.specs.Device.{Device}
@@ -60,14 +58,14 @@ grows_decided : (old new : State) (asks : Request) (id : ℕ) (response : Respon
 grows_decided old new asks id response (Ok d) is = subst (Grows old) (sym is.1) (grows_after old asks id d.change)
 grows_decided old new asks id response (Err refused) is = grows_same old new is.1
 
-grows_answered : (old new : State) (asks : Request) (id : ℕ) (response : Response) (decision : Result Done Refusal) → IsDecided old new asks id response decision ⊎ IsOutOfMemory old new response → Grows old new
-grows_answered old new asks id response decision (inl is) = grows_decided old new asks id response decision is
-grows_answered old new asks id response decision (inr none) = grows_same old new none.1
+grows_answered : (gives : Gives) (old new : State) (asks : Request) (id : ℕ) (response : Response) → IsCarriedOut gives old new asks id response ⊎ IsOutOfMemory old new response → Grows old new
+grows_answered gives old new asks id response (inl is) = grows_decided old new asks id response is.0 is.2
+grows_answered gives old new asks id response (inr none) = grows_same old new none.1
 
 -- a request was answered
-pub goes_on_answered : (old new : Course) (asks : Request) (response : Response) → IsAnsweredTo old new asks response → GoesOn 1 old new
-goes_on_answered old new asks response is =
-    let grown = grows_answered old.book new.book asks (old.last_id + 1) response (decide old.book asks (old.last_id + 1) Skipped) is.answer in
+pub goes_on_answered : (gives : Gives) (old new : Course) (asks : Request) (response : Response) → IsAnsweredTo gives old new asks response → GoesOn 1 old new
+goes_on_answered gives old new asks response is =
+    let grown = grows_answered gives old.book new.book asks (old.last_id + 1) response is.answer in
     record {
       lanes = grown.0;
       history = grown.1;
@@ -76,14 +74,14 @@ goes_on_answered old new asks response is =
 
 -- ---- turns
 
-pub no_passes : (max_size : ℕ) (stand : Stand) → Passes max_size 0 stand stand
+pub no_passes : (gives : Gives) (max_size : ℕ) (stand : Stand) → Passes gives max_size 0 stand stand
 unfolding Passes
-no_passes max_size stand = refl
+no_passes gives max_size stand = refl
 
-pub passes_more : (max_size turns : ℕ) (old mid new : Stand) → Passes max_size turns old mid → TakesTurn max_size (eqb (turns + 1) 10000) mid new None → Passes max_size (turns + 1) old new
+pub passes_more : (gives : Gives) (max_size turns : ℕ) (old mid new : Stand) → Passes gives max_size turns old mid → TakesTurn gives max_size (eqb (turns + 1) 10000) mid new None → Passes gives max_size (turns + 1) old new
 unfolding Passes
-passes_more max_size turns old mid new before turn =
-    subst (λ n. Passes max_size n old new) (sym (add-one turns)) (mid, before, turn)
+passes_more gives max_size turns old mid new before turn =
+    subst (λ n. Passes gives max_size n old new) (sym (add-one turns)) (mid, before, turn)
 
 -- an answer that closes the conversation ends it
 closing_sent : (before after : Device) (text : List ℕ) → Sends before after text true None → ⊥
@@ -94,16 +92,16 @@ fault_sent None fault bare before after sent = closing_sent before after (respon
 fault_sent (Some how) fault bare before after sent = let ended = sent.1 in absurd (cc)
 
 -- the last turn ends the conversation
-last_served : (taken : Taken) (max_size : ℕ) (old new : Course) (before after : Device) → IsServed taken max_size true old new before after None → ⊥
-last_served (Taken.Message m) max_size old new before after served = closing_sent before after (response_text served.0 m.bare true) served.2
-last_served (Taken.Cut m) max_size old new before after served = let ended = served.2 in absurd (cc)
-last_served (Taken.Fault fault bare) max_size old new before after served = fault_sent (unanswered fault) fault bare before after served.1
-last_served Taken.End max_size old new before after served = let ended = served.2 in absurd (cc)
+last_served : (gives : Gives) (taken : Taken) (max_size : ℕ) (old new : Course) (before after : Device) → IsServed gives taken max_size true old new before after None → ⊥
+last_served gives (Taken.Message m) max_size old new before after served = closing_sent before after (response_text served.0 m.bare true) served.2
+last_served gives (Taken.Cut m) max_size old new before after served = let ended = served.2 in absurd (cc)
+last_served gives (Taken.Fault fault bare) max_size old new before after served = fault_sent (unanswered fault) fault bare before after served.1
+last_served gives Taken.End max_size old new before after served = let ended = served.2 in absurd (cc)
 
-pub passes_few : (max_size turns : ℕ) (old new : Stand) → 10000 ≤ turns → turns ≤ 10000 → Passes max_size turns old new → ⊥
+pub passes_few : (gives : Gives) (max_size turns : ℕ) (old new : Stand) → 10000 ≤ turns → turns ≤ 10000 → Passes gives max_size turns old new → ⊥
 unfolding Passes
-passes_few max_size zero old new least most passes = absurd (omega arith)
-passes_few max_size (suc turns) old new least most passes =
+passes_few gives max_size zero old new least most passes = absurd (omega arith)
+passes_few gives max_size (suc turns) old new least most passes =
     let all : turns + 1 ≡ 10000 = omega arith in
-    let turn = subst (λ b. TakesTurn max_size b passes.0 new None) (eq-eqb (turns + 1) 10000 all) passes.2 in
-    last_served turn.taken max_size passes.0.course new.course turn.sink new.sink turn.is_served
+    let turn = subst (λ b. TakesTurn gives max_size b passes.0 new None) (eq-eqb (turns + 1) 10000 all) passes.2 in
+    last_served gives turn.taken max_size passes.0.course new.course turn.sink new.sink turn.is_served

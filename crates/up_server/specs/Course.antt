@@ -5,11 +5,15 @@ use Rattle.up_events.specs.Records.{Records, lane_log}
 use Rattle.up_events.specs.declared.event.Event.{Event}
 use Rattle.up_headers.specs.declared.request.Request.{Request}
 use Rattle.up_headers.specs.declared.request.Request.TheVariants as request
-use Rattle.up_machine.specs.Decision.{decide}
+use Rattle.up_machine.specs.Decision.{decide, decide_plan}
 use Rattle.up_machine.specs.Refusals.{response_of}
 use Rattle.up_machine.specs.Responses.{out_of_memory}
 use Rattle.up_machine.specs.State.{State, after}
+use Rattle.up_machine.specs.declared.ask.Ask.{Ask}
+use Rattle.up_machine.specs.declared.plan.Asked.{Asked}
 use Rattle.up_machine.specs.declared.plan.Asked.TheVariants.{Skipped}
+use Rattle.up_machine.specs.declared.plan.Plan.{Plan}
+use Rattle.up_machine.specs.declared.plan.Plan.TheVariants as plan
 use Rattle.up_machine.specs.declared.plan.Done.{Done}
 use Rattle.up_machine.specs.declared.refusal.Refusal.{Refusal}
 use Rattle.up_server.specs.Passage.{Passage, IsFrom}
@@ -38,14 +42,35 @@ IsDecided old new request id response (Err refused) = (response ≡ response_of 
 abbrev pub IsOutOfMemory : State → State → Response → Type 0
 IsOutOfMemory old new response = (response ≡ out_of_memory) × (new ≡ old)
 
+-- what closures may answer together to what they are asked
+abbrev pub Gives : Type 1
+Gives = Ask → Asked → Type 0
+
+-- what the closures gave to what a plan asks them; nobody was asked where it asks nothing
+abbrev pub IsAsked : Gives → Result Plan Refusal → Asked → Type 0
+IsAsked gives (Ok (plan.Answer response)) asked = asked ≡ Skipped
+IsAsked gives (Ok (plan.Ask ask)) asked = gives ask asked
+IsAsked gives (Ok plan.Ready) asked = asked ≡ Skipped
+IsAsked gives (Err refused) asked = asked ≡ Skipped
+
+-- a request is decided, with what the closures gave to its plan
+abbrev pub IsCommitted : Gives → State → Request → ℕ → Result Done Refusal → Type 0
+IsCommitted gives s request id result =
+    (asked : Asked) × IsAsked gives (decide_plan s request) asked × (result ≡ decide s request id asked)
+
+-- that is answered, and carried out where nothing refuses it
+abbrev pub IsCarriedOut : Gives → State → State → Request → ℕ → Response → Type 0
+IsCarriedOut gives old new request id response =
+    (decision : Result Done Refusal) × IsCommitted gives old request id decision × IsDecided old new request id response decision
+
 -- a request is decided with the next id, and answered
-pub record IsAnsweredTo (old new : Course) (request : Request) (response : Response) : Type 0 where
-  pub answer : IsDecided old.book new.book request (old.last_id + 1) response (decide old.book request (old.last_id + 1) Skipped) ⊎ IsOutOfMemory old.book new.book response
+pub record IsAnsweredTo (gives : Gives) (old new : Course) (request : Request) (response : Response) : Type 0 where
+  pub answer : IsCarriedOut gives old.book new.book request (old.last_id + 1) response ⊎ IsOutOfMemory old.book new.book response
   pub ids : new.last_id ≡ last_after old.last_id request
 
--- each lane was handed events of its own log
-abbrev pub AreOfTheirLanes : Records → List LaneReport → Type 0
-AreOfTheirLanes journal reports = (k : ℕ) (r : LaneReport) → slice_get reports k ≡ Some r → IsWithin r.handed.items (lane_log journal k)
+-- each lane handed events of its own log to its post-hook
+abbrev pub AreOfTheirLanes : {H : Type 0} → (H → List Event) → Records → List (LaneReport H) → Type 0
+AreOfTheirLanes {H} handed journal reports = (k : ℕ) (r : LaneReport H) → slice_get reports k ≡ Some r → IsWithin (handed r.hook) (lane_log journal k)
 
 -- as many new feeds as there are lanes
 pub record AreNew (lanes : ℕ) (feeds : List Passage) : Type 0 where

@@ -9,3 +9,4 @@ pub mod Replies
 pub mod Turn
 pub mod ReportText
 pub mod Run
+pub mod Rules

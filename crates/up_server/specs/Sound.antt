@@ -5,7 +5,7 @@ use Rattle.up_events.specs.Log.{log_of}
 use Rattle.up_events.specs.Records.{Records}
 use Rattle.up_events.specs.declared.event.Accepted.{Accepted}
 use Rattle.up_server.specs.Passage.{Passage, IsFrom}
-use Rattle.up_server.specs.declared.dispatcher.Dispatcher.TheInside.{Inside}
+use Rattle.up_machine.specs.State.{State}
 
 -- no id above this one was given
 abbrev pub AreFreshAbove : ℕ → List Accepted → Type 0
@@ -15,8 +15,8 @@ AreFreshAbove last accepted = (u : ℕ) → last < u → is_known accepted u ≡
 abbrev pub AreFed : Records → List Passage → Type 0
 AreFed journal feeds = (k : ℕ) (f : Passage) → slice_get feeds k ≡ Some f → IsFrom (log_of journal.lanes journal.accepted k) f
 
-pub record IsSound (a : Inside) : Type 0 where
-  pub some : 0 < a.book.journal.lanes
-  pub rows : length a.feeds.items ≡ a.book.journal.lanes
-  pub feeds : AreFed a.book.journal a.feeds.items
-  pub fresh : AreFreshAbove a.last_id a.book.journal.accepted
+pub record IsSound (book : State) (passages : List Passage) (last_id : ℕ) : Type 0 where
+  pub some : 0 < book.journal.lanes
+  pub rows : length passages ≡ book.journal.lanes
+  pub feeds : AreFed book.journal passages
+  pub fresh : AreFreshAbove last_id book.journal.accepted

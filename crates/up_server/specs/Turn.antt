@@ -6,7 +6,7 @@ use Rattle.up_headers.specs.Table.{IsAnswer}
 use Rattle.up_headers.specs.declared.header_fault.HeaderFault.{HeaderFault}
 use Rattle.up_headers.specs.declared.request.Request.{Request}
 use Rattle.up_headers.specs.declared.request.Request.TheVariants as request
-use Rattle.up_server.specs.Course.{Course, IsAnsweredTo}
+use Rattle.up_server.specs.Course.{Course, Gives, IsAnsweredTo}
 use Rattle.up_server.specs.Replies.{IsReply, reply_to_header_fault, reply_to_wire_fault}
 use Rattle.up_server.specs.declared.conversation.Ended.{Ended}
 use Rattle.up_server.specs.declared.conversation.Ended.TheVariants.{Closed, Cut, ReadFailed, WriteFailed}
@@ -20,29 +20,29 @@ use Rattle.up_wire.specs.declared.wire_fault.WireFault.{WireFault}
 use Rattle.up_wire.specs.declared.wire_fault.WireFault.TheVariants as Fault
 
 -- the answer to a message that reads so, and the dispatcher after it
-abbrev pub IsAnswered : Course → Course → Response → Result Request HeaderFault → Type 0
-IsAnswered old new response (Err fault) = IsReply (reply_to_header_fault fault) response × (new ≡ old)
-IsAnswered old new response (Ok request) = IsAnsweredTo old new request response
+abbrev pub IsAnswered : Gives → Course → Course → Response → Result Request HeaderFault → Type 0
+IsAnswered gives old new response (Err fault) = IsReply (reply_to_header_fault fault) response × (new ≡ old)
+IsAnswered gives old new response (Ok request) = IsAnsweredTo gives old new request response
 
 -- the message is read as a request, the request is decided, and that is answered
-abbrev pub IsTurn : Message → ℕ → Course → Course → Response → Type 0
-IsTurn m max_size old new response =
-    (read : Result Request HeaderFault) × IsAnswer m max_size read × IsAnswered old new response read
+abbrev pub IsTurn : Gives → Message → ℕ → Course → Course → Response → Type 0
+IsTurn gives m max_size old new response =
+    (read : Result Request HeaderFault) × IsAnswer m max_size read × IsAnswered gives old new response read
 
 -- an append is carried out, and its answer dropped; nothing else is
-abbrev pub IsCarriedOut : Course → Course → Result Request HeaderFault → Type 0
-IsCarriedOut old new (Err fault) = new ≡ old
-IsCarriedOut old new (Ok request.Options) = new ≡ old
-IsCarriedOut old new (Ok (request.Create made)) = new ≡ old
-IsCarriedOut old new (Ok (request.Head u)) = new ≡ old
-IsCarriedOut old new (Ok (request.Patch p)) = (response : Response) × IsAnsweredTo old new (request.Patch p) response
-IsCarriedOut old new (Ok (request.Delete u)) = new ≡ old
-IsCarriedOut old new (Ok (request.Get u)) = new ≡ old
+abbrev pub IsCutCarriedOut : Gives → Course → Course → Result Request HeaderFault → Type 0
+IsCutCarriedOut gives old new (Err fault) = new ≡ old
+IsCutCarriedOut gives old new (Ok request.Options) = new ≡ old
+IsCutCarriedOut gives old new (Ok (request.Create made)) = new ≡ old
+IsCutCarriedOut gives old new (Ok (request.Head u)) = new ≡ old
+IsCutCarriedOut gives old new (Ok (request.Patch p)) = (response : Response) × IsAnsweredTo gives old new (request.Patch p) response
+IsCutCarriedOut gives old new (Ok (request.Delete u)) = new ≡ old
+IsCutCarriedOut gives old new (Ok (request.Get u)) = new ≡ old
 
 -- a message that broke off is read as a request
-abbrev pub IsCutTurn : Message → ℕ → Course → Course → Type 0
-IsCutTurn m max_size old new =
-    (read : Result Request HeaderFault) × IsAnswer m max_size read × IsCarriedOut old new read
+abbrev pub IsCutTurn : Gives → Message → ℕ → Course → Course → Type 0
+IsCutTurn gives m max_size old new =
+    (read : Result Request HeaderFault) × IsAnswer m max_size read × IsCutCarriedOut gives old new read
 
 -- so many messages later: the lanes are the same, the history has grown at its end, and each message took an id at most
 pub record GoesOn (turns : ℕ) (old new : Course) : Type 0 where
@@ -77,15 +77,15 @@ IsFaultSent None fault bare before after ended =
 IsFaultSent (Some how) fault bare before after ended = (after ≡ before) × (ended ≡ Some how)
 
 -- what was taken from the input is answered, where it is to be, and only a message leaves a trace in the dispatcher
-abbrev pub IsServed : Taken → ℕ → Bool → Course → Course → Device → Device → Option Ended → Type 0
-IsServed (Taken.Message m) max_size is_last old new before after ended =
-    (response : Response) × IsTurn m max_size old new response
+abbrev pub IsServed : Gives → Taken → ℕ → Bool → Course → Course → Device → Device → Option Ended → Type 0
+IsServed gives (Taken.Message m) max_size is_last old new before after ended =
+    (response : Response) × IsTurn gives m max_size old new response
     × Sends before after (response_text response m.bare (is_last || m.close)) (is_last || m.close) ended
-IsServed (Taken.Cut m) max_size is_last old new before after ended =
-    IsCutTurn m max_size old new × (after ≡ before) × (ended ≡ Some Cut)
-IsServed (Taken.Fault fault bare) max_size is_last old new before after ended =
+IsServed gives (Taken.Cut m) max_size is_last old new before after ended =
+    IsCutTurn gives m max_size old new × (after ≡ before) × (ended ≡ Some Cut)
+IsServed gives (Taken.Fault fault bare) max_size is_last old new before after ended =
     (new ≡ old) × IsFaultSent (unanswered fault) fault bare before after ended
-IsServed Taken.End max_size is_last old new before after ended = (new ≡ old) × (after ≡ before) × (ended ≡ Some Closed)
+IsServed gives Taken.End max_size is_last old new before after ended = (new ≡ old) × (after ≡ before) × (ended ≡ Some Closed)
 
 -- where a conversation stands: the dispatcher, the source that is read and the sink that is written
 pub record Stand : Type 0 where
@@ -94,21 +94,21 @@ pub record Stand : Type 0 where
   pub sink : Device
 
 -- a message, a part of one, a fault or the end is taken from the input, and served
-pub record TakesTurn (max_size : ℕ) (is_last : Bool) (old new : Stand) (ended : Option Ended) : Type 0 where
+pub record TakesTurn (gives : Gives) (max_size : ℕ) (is_last : Bool) (old new : Stand) (ended : Option Ended) : Type 0 where
   pub taken : Taken
   pub sink : Device
   pub is_reading : IsReading max_size old.source new.source old.sink sink taken
-  pub is_served : IsServed taken max_size is_last old.course new.course sink new.sink ended
+  pub is_served : IsServed gives taken max_size is_last old.course new.course sink new.sink ended
 
 -- so many turns, none of which ended the conversation, led from the one stand to the other
-unfoldable pub Passes : ℕ → ℕ → Stand → Stand → Type 0
-Passes max_size zero old new = old ≡ new
-Passes max_size (suc turns) old new =
-    (mid : Stand) × Passes max_size turns old mid × TakesTurn max_size (turns + 1 == 10000) mid new None
+unfoldable pub Passes : Gives → ℕ → ℕ → Stand → Stand → Type 0
+Passes gives max_size zero old new = old ≡ new
+Passes gives max_size (suc turns) old new =
+    (mid : Stand) × Passes gives max_size turns old mid × TakesTurn gives max_size (turns + 1 == 10000) mid new None
 
 -- turn after turn, until one ends the conversation: the 10,000th does at the latest
-pub record Converses (max_size : ℕ) (old new : Stand) (ended : Ended) : Type 0 where
+pub record Converses (gives : Gives) (max_size : ℕ) (old new : Stand) (ended : Ended) : Type 0 where
   pub turns : ℕ
   pub last : Stand
-  pub passes : Passes max_size turns old last
-  pub ends : TakesTurn max_size (turns + 1 == 10000) last new (Some ended)
+  pub passes : Passes gives max_size turns old last
+  pub ends : TakesTurn gives max_size (turns + 1 == 10000) last new (Some ended)

@@ -1,10 +1,11 @@
 //! The words of the command line.
-ghost use Rattle.std.specs.Prelude.{◌≤◌};
+ghost use Rattle.std.specs.Prelude.{◌≡◌, ◌≤◌, IfOk, option_map, string_bytes};
+ghost use Rattle.clap.specs.Words.{first_value, found_of};
 
 use crate::settings::{MOST_CAPACITY, MOST_LANES, MOST_SIZE, Settings, Words};
 use clap::builder::ValueParser;
 use clap::error::ErrorKind;
-use clap::{Arg, ArgMatches, Command, Error};
+use clap::{Arg, ArgAction, ArgMatches, Command, Error};
 use std::alloc::{AllocError, Global};
 
 /// Why the command line asks for nothing.
@@ -43,8 +44,8 @@ fn number<'a>(alloc: Global, id: &'a str, most: u64, default: &'a str, help: &'a
         .help(help)
 }
 
-/// The words that are known.
-fn command<'a>(alloc: Global) -> Result<Command<'a>, AllocError> {
+/// The words that say how large a server is.
+fn with_size<'a>(alloc: Global, command: Command<'a>) -> Result<Command<'a>, AllocError> {
     let lanes = number(
         alloc,
         "lanes",
@@ -66,13 +67,33 @@ fn command<'a>(alloc: Global) -> Result<Command<'a>, AllocError> {
         "1048576",
         "The most bytes of an upload, from 1 to 1073741824",
     );
-    let replay = Command::new(alloc, "replay")
-        .about(
-            "Serves the messages on standard input as one conversation, and reports what was handed over",
-        )
-        .arg(lanes)?
-        .arg(capacity)?
-        .arg(max_size)?;
+    command.arg(lanes)?.arg(capacity)?.arg(max_size)
+}
+
+/// The words that ask for rules.
+fn with_rules<'a>(alloc: Global, command: Command<'a>) -> Result<Command<'a>, AllocError> {
+    let require_key = Arg::new(alloc, "require-key")
+        .long("require-key")
+        .value_name("K")
+        .help("Refuse a plain or final upload whose metadata has no key K");
+    let max_length = Arg::new(alloc, "max-length")
+        .long("max-length")
+        .value_name("N")
+        .value_parser(ValueParser::unsigned(0, u64::MAX))
+        .help("Refuse an upload of more than N bytes, from 0 to 18446744073709551615");
+    let keep = Arg::new(alloc, "keep")
+        .long("keep")
+        .action(ArgAction::SetTrue)
+        .help("Refuse to remove an upload");
+    command.arg(require_key)?.arg(max_length)?.arg(keep)
+}
+
+/// The words that are known.
+fn command<'a>(alloc: Global) -> Result<Command<'a>, AllocError> {
+    let replay = Command::new(alloc, "replay").about(
+        "Serves the messages on standard input as one conversation, and reports what was handed over",
+    );
+    let replay = with_rules(alloc, with_size(alloc, replay)?)?;
     Command::new(alloc, "up_server")
         .about("An upload server for the tus resumable upload protocol 1.0.0")
         .no_binary_name(true)
@@ -89,17 +110,36 @@ fn value_of(matches: &ArgMatches<'_>, id: &str, most: u64) -> u64
     matches.get_one::<u64>(id).unwrap_or(1).clamp(1, most)
 }
 
-/// Reads the words behind the program's name. Refused comes for words that are not known, for a number outside
-/// its limits and for `--help`; Memory where `clap` was refused memory.
-pub fn words(alloc: Global, words: Vec<String>) -> Result<Words, WordsFault> {
-    let matches = command(alloc)?.try_get_matches_from(words.as_slice())?;
-    let settings = match matches.subcommand() {
-        Some((_, replay)) => Settings {
+/// A text of the command line, where it is given.
+fn text_of(alloc: Global, matches: &ArgMatches<'_>, id: &str) -> Result<Option<String>, AllocError>
+    ensures { IfOk result (λ text. option_map string_bytes text ≡ first_value (found_of matches.now) id.now) }
+{
+    match matches.get_str(id) {
+        Some(text) => Ok(Some(String::from_str(alloc, text)?)),
+        None => Ok(None),
+    }
+}
+
+/// What the words behind `replay` ask for.
+fn words_of(alloc: Global, replay: &ArgMatches<'_>) -> Result<Words, AllocError> {
+    Ok(Words {
+        settings: Settings {
             lanes: value_of(replay, "lanes", MOST_LANES),
             capacity: value_of(replay, "capacity", MOST_CAPACITY),
             max_size: value_of(replay, "max-size", MOST_SIZE),
         },
-        None => Settings::default(),
-    };
-    Ok(Words { settings })
+        require_key: text_of(alloc, replay, "require-key")?,
+        max_length: replay.get_one::<u64>("max-length"),
+        keep: replay.get_flag("keep"),
+    })
+}
+
+/// Reads the words behind the program's name. Refused comes for words that are not known, for a word that lacks its value or
+/// stands twice, for a number outside its limits and for `--help`; Memory where memory is wanting.
+pub fn words(alloc: Global, words: Vec<String>) -> Result<Words, WordsFault> {
+    let matches = command(alloc)?.try_get_matches_from(words.as_slice())?;
+    match matches.subcommand() {
+        Some((_, replay)) => Ok(words_of(alloc, replay)?),
+        None => Ok(Words::default()),
+    }
 }

@@ -1,6 +1,7 @@
 //! One conversation: each message is read, decided and answered before the next.
 ghost use Rattle.std.specs.Prelude.{◌≡◌, ◌+◌, ◌<◌, ◌≤◌, ◌^◌};
 ghost use Rattle.up_wire.specs.Device.{device};
+ghost use Rattle.up_hooks.specs.Gives.{ClosuresGive};
 ghost use Rattle.up_wire.specs.Response.{response_text};
 ghost use Rattle.up_server.specs.Turn.{IsTurn, IsCutTurn, Converses, GoesOn, Sends, TakesTurn, unanswered};
 
@@ -8,6 +9,7 @@ use crate::dispatcher::Dispatcher;
 use crate::reply::{reply_to_header_fault, reply_to_wire_fault};
 use std::alloc::Global;
 use up_headers::{Request, request_of};
+use up_hooks::{PostHook, PreHooks};
 use up_wire::{
     Limits, Message, Response, Sink, Source, Taken, WireFault, WriteFailed, read_message,
     write_response,
@@ -31,34 +33,41 @@ pub enum Ended {
 }
 
 /// What is answered to a message, after what it asks for was carried out.
-fn answer_to(
+fn answer_to<H: PostHook + Drop>(
     alloc: Global,
-    dispatcher: &mut Dispatcher,
+    dispatcher: &mut Dispatcher<H>,
+    hooks: &PreHooks,
     message: Message,
     max_size: u64,
 ) -> Response
     requires small { max_size ≤ 2 ^ 30 }
     requires room { dispatcher.old.last_id + 1 < 2 ^ 64 }
-    ensures turn { IsTurn message max_size dispatcher.old dispatcher.new result }
+    ensures turn { IsTurn (ClosuresGive hooks.now) message max_size dispatcher.old dispatcher.new result }
     ensures goes_on { GoesOn 1 dispatcher.old dispatcher.new }
 {
     match request_of(alloc, message, max_size) {
-        Ok(request) => dispatcher.answer(alloc, request),
+        Ok(request) => dispatcher.answer(alloc, hooks, request),
         Err(fault) => reply_to_header_fault(alloc, fault),
     }
 }
 
 /// Carries out an append whose body broke off, with the bytes that came. Any other message that broke off does nothing.
-fn carry_out_cut(alloc: Global, dispatcher: &mut Dispatcher, message: Message, max_size: u64)
+fn carry_out_cut<H: PostHook + Drop>(
+    alloc: Global,
+    dispatcher: &mut Dispatcher<H>,
+    hooks: &PreHooks,
+    message: Message,
+    max_size: u64,
+)
     requires small { max_size ≤ 2 ^ 30 }
     requires room { dispatcher.old.last_id + 1 < 2 ^ 64 }
-    ensures turn { IsCutTurn message max_size dispatcher.old dispatcher.new }
+    ensures turn { IsCutTurn (ClosuresGive hooks.now) message max_size dispatcher.old dispatcher.new }
     ensures goes_on { GoesOn 1 dispatcher.old dispatcher.new }
 {
     match request_of(alloc, message, max_size) {
         Ok(request) => match request {
             Request::Patch(patch) => {
-                dispatcher.answer(alloc, Request::Patch(patch));
+                dispatcher.answer(alloc, hooks, Request::Patch(patch));
             }
             Request::Options => {}
             Request::Create(_) => {}
@@ -95,9 +104,10 @@ fn send<W: Sink>(sink: &mut W, response: &Response, bare: bool, close: bool) -> 
 
 /// Reads a message and answers it, and tells how the conversation ended if it did. A message that can't be read is
 /// answered and closes the conversation; after a failed read or write, or where a body broke off, nothing is answered.
-fn take_turn<R: Source, W: Sink>(
+fn take_turn<H: PostHook + Drop, R: Source, W: Sink>(
     alloc: Global,
-    dispatcher: &mut Dispatcher,
+    dispatcher: &mut Dispatcher<H>,
+    hooks: &PreHooks,
     max_size: u64,
     source: &mut R,
     sink: &mut W,
@@ -105,7 +115,7 @@ fn take_turn<R: Source, W: Sink>(
 ) -> Option<Ended>
     requires small { max_size ≤ 2 ^ 30 }
     requires room { dispatcher.old.last_id + 1 < 2 ^ 64 }
-    ensures turn { TakesTurn max_size is_last
+    ensures turn { TakesTurn (ClosuresGive hooks.now) max_size is_last
         (record {
           course = dispatcher.old;
           source = device (R.left source.old) (R.has_failed source.old) (R.interruptions source.old);
@@ -123,7 +133,7 @@ fn take_turn<R: Source, W: Sink>(
     match read_message(alloc, source, sink, &limits) {
         Taken::End => Some(Ended::Closed),
         Taken::Cut(message) => {
-            carry_out_cut(alloc, dispatcher, message, max_size);
+            carry_out_cut(alloc, dispatcher, hooks, message, max_size);
             Some(Ended::Cut)
         }
         Taken::Fault { fault, bare } => match unanswered(fault) {
@@ -136,7 +146,7 @@ fn take_turn<R: Source, W: Sink>(
         Taken::Message(message) => {
             let bare = message.bare;
             let close = is_last | message.close;
-            let response = answer_to(alloc, dispatcher, message, max_size);
+            let response = answer_to(alloc, dispatcher, hooks, message, max_size);
             send(sink, &response, bare, close)
         }
     }
@@ -144,16 +154,17 @@ fn take_turn<R: Source, W: Sink>(
 
 /// Serves the messages of an input in turn. The 10,000th is the last, and its answer closes the conversation; so does
 /// the answer to a message that asks for it (RFC 9112, section 9.6), and to one of HTTP/1.0.
-pub fn converse<R: Source, W: Sink>(
+pub fn converse<H: PostHook + Drop, R: Source, W: Sink>(
     alloc: Global,
-    dispatcher: &mut Dispatcher,
+    dispatcher: &mut Dispatcher<H>,
+    hooks: &PreHooks,
     max_size: u64,
     source: &mut R,
     sink: &mut W,
 ) -> Ended
     requires small { max_size ≤ 2 ^ 30 }
     requires room { dispatcher.old.last_id + 10000 < 2 ^ 64 }
-    ensures turns { Converses max_size
+    ensures turns { Converses (ClosuresGive hooks.now) max_size
         (record {
           course = dispatcher.old;
           source = device (R.left source.old) (R.has_failed source.old) (R.interruptions source.old);
@@ -169,7 +180,7 @@ pub fn converse<R: Source, W: Sink>(
 {
     for turn in 0..MOST_MESSAGES {
         let is_last = turn + 1 == MOST_MESSAGES;
-        if let Some(ended) = take_turn(alloc, dispatcher, max_size, source, sink, is_last) {
+        if let Some(ended) = take_turn(alloc, dispatcher, hooks, max_size, source, sink, is_last) {
             return ended;
         }
     }

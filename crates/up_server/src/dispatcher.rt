@@ -1,10 +1,9 @@
 //! Requests come in, and the events of each upload go to its lane.
-ghost use Rattle.std.specs.Prelude.{◌≡◌, ◌⊎◌, ◌+◌, ◌<◌, ◌≤◌, ◌^◌, Err, IfOk, OnErr, All, length};
+ghost use Rattle.std.specs.Prelude.{◌≡◌, ◌⊎◌, ◌+◌, ◌<◌, ◌≤◌, ◌^◌, [], Err, IfOk, OnErr, All, length};
 ghost use Rattle.up_headers.specs.Table.{FitsWithin};
-ghost use Rattle.up_machine.specs.Decision.{decide};
+ghost use Rattle.up_hooks.specs.Gives.{ClosuresGive};
 ghost use Rattle.up_machine.specs.State.{after};
-ghost use Rattle.up_machine.specs.declared.plan.Asked.TheVariants.{Skipped};
-ghost use Rattle.up_server.specs.Course.{AreNew, last_after};
+ghost use Rattle.up_server.specs.Course.{AreNew, IsCommitted, last_after};
 
 use crate::feed::{Feed, LaneReport};
 use crate::reply::reply_to_refusal;
@@ -12,26 +11,27 @@ use std::alloc::Global;
 use std::marker::Model;
 use up_events::{Accepted, Id, NoMemory};
 use up_headers::Request;
+use up_hooks::{PostHook, PreHooks};
 use up_machine::{Asked, Book, Done, Plan, Refusal};
 use up_wire::Response;
 
-/// What came of a run: the accepted changes in order, and for each lane in order what it handed over.
+/// What came of a run: the accepted changes in order, and each lane in order, with what it handed over.
 #[derive(Drop)]
-pub struct Report {
+pub struct Report<H> {
     pub accepted: Vec<Accepted>,
-    pub lanes: Vec<LaneReport>,
+    pub lanes: Vec<LaneReport<H>>,
 }
 
 /// The book, and for each lane a queue with the lane that takes from it.
 #[derive(Drop)]
-pub struct Dispatcher {
+pub struct Dispatcher<H: PostHook> {
     book: Book,
-    feeds: Vec<Feed>,
+    feeds: Vec<Feed<H>>,
     /// The id that was given last. Ids are counted from 1.
     last_id: u64,
 }
 
-impl Model for Dispatcher {
+impl<H: PostHook> Model for Dispatcher<H> {
     ghost use Rattle.up_server.specs.Course.{Course};
     ghost use Rattle.up_server.specs.CourseCode.{course_code};
 
@@ -43,16 +43,21 @@ impl Model for Dispatcher {
 
     ghost view = { λ a. record { book = a.book; last_id = a.last_id } };
 
-    ghost invariant = { IsSound };
+    ghost invariant = { λ a. IsSound a.book a.feeds.items a.last_id };
 }
 
-/// As many feeds as there are lanes.
-fn new_feeds(alloc: Global, lanes: u64, capacity: u64) -> Result<Vec<Feed>, NoMemory>
-    ensures { IfOk result (λ feeds. AreNew lanes feeds.items) }
+/// A feed for each post-hook, in their order.
+fn new_feeds<H: PostHook + Drop>(
+    alloc: Global,
+    hooks: Vec<H>,
+    capacity: u64,
+) -> Result<Vec<Feed<H>>, NoMemory>
+    requires { All (λ hook. H.is_sound hook × (H.handed hook ≡ [])) hooks.items }
+    ensures { IfOk result (λ feeds. AreNew (length hooks.items) feeds.items) }
 {
     let mut feeds = Vec::new(alloc);
-    for _ in 0..lanes {
-        feeds.push(Feed::new(alloc, capacity as usize)?)?;
+    for hook in hooks {
+        feeds.push(Feed::new(alloc, capacity as usize, hook)?)?;
     }
     Ok(feeds)
 }
@@ -68,35 +73,53 @@ fn last_after(last: u64, request: &Request) -> u64
     }
 }
 
-/// Decides on a request, and carries it out where nothing refuses it. The id is for a new upload. A request that changes
-/// nothing is answered by its plan.
-fn carry_out(book: &mut Book, alloc: Global, request: Request, id: Id) -> Result<Done, Refusal>
+/// Decides on a request, after the closures were asked of one that makes or removes an upload, and carries it out where nothing refuses
+/// it. The id is for a new upload. A request that changes nothing is answered by its plan.
+fn carry_out(
+    book: &mut Book,
+    alloc: Global,
+    hooks: &PreHooks,
+    request: Request,
+    id: Id,
+) -> Result<Done, Refusal>
     requires bounded { FitsWithin (2 ^ 30) request }
-    ensures decided { (result ≡ decide book.old request id Skipped) ⊎ (result ≡ Err Refusal.NoMemory) }
+    ensures decided { IsCommitted (ClosuresGive hooks.now) book.old request id result ⊎ (result ≡ Err Refusal.NoMemory) }
     ensures ok { IfOk result (λ done. book.new ≡ after book.old request id done.change) }
     ensures err { OnErr result (book.new ≡ book.old) }
 {
     match book.plan(alloc, &request)? {
         Plan::Answer(response) => Ok(Done::unchanged(response)),
+        Plan::Ask(ask) => {
+            let asked = hooks.ask(&ask);
+            book.commit(alloc, request, id, &asked)
+        }
         Plan::Ready => book.commit(alloc, request, id, &Asked::Skipped),
     }
 }
 
-impl Dispatcher {
+impl<H: PostHook + Drop> Dispatcher<H> {
     ghost use Rattle.up_events.specs.Delivery.{IsDelivered};
     ghost use Rattle.up_machine.specs.State.{empty_state};
     ghost use Rattle.up_server.specs.Course.{AreOfTheirLanes, IsAnsweredTo};
 
-    /// A dispatcher with no upload, and with this most size of an upload, in bytes.
-    pub fn new(alloc: Global, lanes: u64, capacity: u64, max_size: u64) -> Result<Self, NoMemory>
+    /// A dispatcher with no upload, with a lane for each post-hook, and with this most size of an upload, in bytes.
+    pub fn new(
+        alloc: Global,
+        lanes: u64,
+        hooks: Vec<H>,
+        capacity: u64,
+        max_size: u64,
+    ) -> Result<Self, NoMemory>
         requires some_lane { 0 < lanes }
         requires few_lanes { lanes ≤ 16 }
         requires small { max_size ≤ 2 ^ 30 }
+        requires one_for_each { length hooks.items ≡ lanes }
+        requires new { All (λ hook. H.is_sound hook × (H.handed hook ≡ [])) hooks.items }
         ensures { IfOk result (λ dispatcher. dispatcher ≡ record { book = empty_state lanes max_size; last_id = 0 }) }
     {
         Ok(Dispatcher {
             book: Book::new(alloc, lanes, max_size)?,
-            feeds: new_feeds(alloc, lanes, capacity)?,
+            feeds: new_feeds(alloc, hooks, capacity)?,
             last_id: 0,
         })
     }
@@ -114,14 +137,14 @@ impl Dispatcher {
     /// Answers a request, after it was carried out where nothing refuses it, and has the lane of its change follow. Each
     /// creation takes the next id, whatever becomes of it. Where memory is wanting, an empty 503 is answered, and the book
     /// is as it was.
-    pub fn answer(&mut self, alloc: Global, request: Request) -> Response
+    pub fn answer(&mut self, alloc: Global, hooks: &PreHooks, request: Request) -> Response
         requires bounded { FitsWithin (2 ^ 30) request }
         requires room { self.old.last_id + 1 < 2 ^ 64 }
-        ensures { IsAnsweredTo self.old self.new request result }
+        ensures { IsAnsweredTo (ClosuresGive hooks.now) self.old self.new request result }
     {
         let id = Id::new(u128::from(self.last_id + 1));
         self.last_id = last_after(self.last_id, &request);
-        match carry_out(&mut self.book, alloc, request, id) {
+        match carry_out(&mut self.book, alloc, hooks, request, id) {
             Ok(Done { response, change }) => {
                 if let Some(change) = change {
                     self.follow(change.id());
@@ -134,11 +157,12 @@ impl Dispatcher {
 
     /// Ends each lane, in their order. Of each upload the first of its events were handed over, by its lane, each once
     /// and in order.
-    pub fn finish(self, alloc: Global) -> Result<Report, NoMemory>
+    pub fn finish(self, alloc: Global) -> Result<Report<H>, NoMemory>
         ensures accepted { IfOk result (λ report. report.accepted.items ≡ self.book.journal.accepted) }
         ensures lanes { IfOk result (λ report. length report.lanes.items ≡ self.book.journal.lanes) }
-        ensures own { IfOk result (λ report. AreOfTheirLanes self.book.journal report.lanes.items) }
-        ensures delivered { IfOk result (λ report. All (λ lane. IsDelivered report.accepted.items lane.handed.items) report.lanes.items) }
+        ensures own { IfOk result (λ report. AreOfTheirLanes H.handed self.book.journal report.lanes.items) }
+        ensures delivered { IfOk result (λ report. All (λ lane. IsDelivered report.accepted.items (H.handed lane.hook)) report.lanes.items) }
+        ensures sound { IfOk result (λ report. All (λ lane. H.is_sound lane.hook) report.lanes.items) }
     {
         let accepted = self.book.journal().accepted().to_vec(alloc)?;
         let mut lanes = Vec::new(alloc);

@@ -8,6 +8,7 @@ use crate::queue::{Item, Queue};
 use std::alloc::Global;
 use std::marker::Model;
 use up_events::{Event, NoMemory};
+use up_hooks::PostHook;
 
 /// How a lane came to its end.
 #[derive(Clone, Copy, Debug, PartialEq, Eq)]
@@ -18,10 +19,10 @@ pub enum How {
     Stopped,
 }
 
-/// What a lane handed over, in order, and how it came to its end.
+/// A lane's post-hook, with what was handed to it, and how the lane came to its end.
 #[derive(Drop)]
-pub struct LaneReport {
-    pub handed: Vec<Event>,
+pub struct LaneReport<H> {
+    pub hook: H,
     pub how: How,
 }
 
@@ -37,9 +38,9 @@ enum StepEnd {
 
 /// A lane and its queue in one thread. A lane that has stopped is put nothing more.
 #[derive(Drop)]
-pub struct Feed {
+pub struct Feed<H: PostHook> {
     queue: Queue,
-    lane: Lane,
+    lane: Lane<H>,
     /// How many items more were put than taken.
     unread: u64,
     /// How many events of the lane's log were put, or dropped since the lane has stopped.
@@ -47,7 +48,7 @@ pub struct Feed {
     stopped: bool,
 }
 
-impl Model for Feed {
+impl<H: PostHook> Model for Feed<H> {
     ghost use Rattle.up_server.specs.Passage.{Passage};
 
     ghost Value = { Passage };
@@ -55,17 +56,19 @@ impl Model for Feed {
     ghost view = { λ a. record { held = a.queue; hands = a.lane; unread = a.unread } };
 }
 
-impl Feed {
+impl<H: PostHook + Drop> Feed<H> {
     ghost use Rattle.up_events.specs.Delivery.{IsNumbered};
     ghost use Rattle.up_server.specs.Passage.{Passage, IsFrom, IsItemFrom};
 
-    /// A lane that was handed nothing, over a queue that holds at most `capacity` items.
-    pub fn new(alloc: Global, capacity: usize) -> Result<Self, NoMemory>
+    /// A lane that has handed nothing to its post-hook, over a queue that holds at most `capacity` items.
+    pub fn new(alloc: Global, capacity: usize, hook: H) -> Result<Self, NoMemory>
+        requires sound { H.is_sound hook }
+        requires new { H.handed hook ≡ [] }
         ensures { IfOk result (λ feed. (log : List AnEvent) → IsFrom log feed) }
     {
         Ok(Feed {
             queue: Queue::new(alloc, capacity)?,
-            lane: Lane::new(alloc),
+            lane: Lane::new(alloc, hook),
             unread: 0,
             seen: 0,
             stopped: false,
@@ -177,14 +180,15 @@ impl Feed {
     }
 
     /// Puts the end behind all events, and takes until it comes.
-    pub fn finish(mut self) -> LaneReport
-        ensures from { (log : List AnEvent) → IsFrom log self → IsWithin result.handed.items log }
-        ensures numbered { IsNumbered result.handed.items }
+    pub fn finish(mut self) -> LaneReport<H>
+        ensures from { (log : List AnEvent) → IsFrom log self → IsWithin (H.handed result.hook) log }
+        ensures numbered { IsNumbered (H.handed result.hook) }
+        ensures sound { H.is_sound result.hook }
     {
         self.put(Item::End);
         let how = self.drain();
         LaneReport {
-            handed: self.lane.into_handed(),
+            hook: self.lane.into_hook(),
             how,
         }
     }

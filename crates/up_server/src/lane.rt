@@ -6,43 +6,46 @@ use std::alloc::Global;
 use std::collections::BTreeMap;
 use std::marker::Model;
 use up_events::{Event, Id, NoMemory};
+use up_hooks::PostHook;
 
 /// Hands over the events of its uploads, whatever order its queue gives them in. A repeat is dropped, and
 /// an event that comes before its turn is held back.
 #[derive(Drop)]
-pub struct Lane {
+pub struct Lane<H: PostHook> {
     /// The number of the event that was handed over last, by upload.
     last: BTreeMap<Id, u64>,
     /// Events that came before their turn.
     early: Vec<Event>,
-    /// The post-hook of the lane: what it was given.
-    handed: Vec<Event>,
+    /// What the events are handed to.
+    hook: H,
 }
 
-impl Model for Lane {
+impl<H: PostHook> Model for Lane<H> {
     ghost use Rattle.up_server.specs.Hands.{Hands};
 
     ghost Value = { Hands };
 
     ghost use Rattle.up_server.specs.Counting.{IsCounting};
 
-    ghost view = { λ a. record { handed = a.handed.items; early = a.early.items } };
+    ghost view = { λ a. record { handed = H.handed a.hook; early = a.early.items } };
 
-    ghost invariant = { IsCounting };
+    ghost invariant = { λ a. H.is_sound a.hook × IsCounting (H.handed a.hook) a.last };
 }
 
-impl Lane {
+impl<H: PostHook + Drop> Lane<H> {
     ghost use Rattle.up_events.specs.Delivery.{count_of, IsNumbered, IsPrefix};
     ghost use Rattle.up_server.specs.Hands.{Hands, AreFrom, IsSettled, is_next};
 
-    /// A lane that has handed over nothing.
-    pub fn new(alloc: Global) -> Self
+    /// A lane that has handed nothing to its post-hook.
+    pub fn new(alloc: Global, hook: H) -> Self
+        requires sound { H.is_sound hook }
+        requires new { H.handed hook ≡ [] }
         ensures { result ≡ record { handed = []; early = [] } }
     {
         Lane {
             last: BTreeMap::new(alloc),
             early: Vec::new(alloc),
-            handed: Vec::new(alloc),
+            hook,
         }
     }
 
@@ -60,9 +63,9 @@ impl Lane {
         ensures err { OnErr result (self.new ≡ self.old) }
         ensures numbered { IsNumbered self.new.handed }
     {
-        self.handed.reserve(1)?;
+        self.hook.ready()?;
         self.last.insert(event.id, event.number)?;
-        self.handed.push_reserved(event);
+        self.hook.hand(&event);
         Ok(())
     }
 
@@ -123,11 +126,12 @@ impl Lane {
         Ok(true)
     }
 
-    /// What was handed over, in order.
-    pub fn into_handed(self) -> Vec<Event>
-        ensures handed { result.items ≡ self.handed }
-        ensures numbered { IsNumbered result.items }
+    /// The post-hook, with what was handed to it.
+    pub fn into_hook(self) -> H
+        ensures handed { H.handed result ≡ self.handed }
+        ensures numbered { IsNumbered (H.handed result) }
+        ensures sound { H.is_sound result }
     {
-        self.handed
+        self.hook
     }
 }

@@ -2,18 +2,22 @@
 ghost use Rattle.std.specs.Prelude.{◌≡◌, flat_map, OnErr};
 ghost use Rattle.up_wire.specs.Device.{GaveUp};
 ghost use Rattle.up_wire.specs.Response.{Writes};
-ghost use Rattle.up_server.specs.ReportText.{count_line, event_line, lane_line, lane_text, lanes_text, report_text, how_of};
+ghost use Rattle.up_server.specs.ReportText.{count_line, event_line, event_text, lane_line, lane_text, lanes_text, report_text, how_of, outcome_of};
 
 use crate::dispatcher::Report;
 use crate::feed::{How, LaneReport};
 use itoa::Buffer;
 use up_events::Event;
+use up_hooks::{Outcome, Recorder};
 use up_wire::{Sink, WriteFailed, flush, write_pieces};
 
 /// Writes the report, and has the sink send it on: an empty line, `accepted` and the number of accepted changes, then for
 /// each lane a line with its number, how it ended and how many events it handed over, and these events, a line each. An
 /// error comes where a write or the flush gave up on the sink.
-pub fn write_report<W: Sink>(sink: &mut W, report: &Report) -> Result<(), WriteFailed>
+pub fn write_report<F, W: Sink>(
+    sink: &mut W,
+    report: &Report<Recorder<F>>,
+) -> Result<(), WriteFailed>
     ensures written { Writes (W.written sink.old) (W.written sink.new) (report_text report.now) result }
     ensures failed { OnErr result (GaveUp (W.has_failed sink.new) (W.interruptions sink.new)) }
 {
@@ -33,7 +37,10 @@ fn write_count<W: Sink>(sink: &mut W, count: usize) -> Result<(), WriteFailed>
 }
 
 /// Writes the lanes, with their numbers from 0 on.
-fn write_lanes<W: Sink>(sink: &mut W, lanes: &[LaneReport]) -> Result<(), WriteFailed>
+fn write_lanes<F, W: Sink>(
+    sink: &mut W,
+    lanes: &[LaneReport<Recorder<F>>],
+) -> Result<(), WriteFailed>
     ensures written { Writes (W.written sink.old) (W.written sink.new) (lanes_text 0 lanes.now) result }
     ensures failed { OnErr result (GaveUp (W.has_failed sink.new) (W.interruptions sink.new)) }
 {
@@ -44,12 +51,16 @@ fn write_lanes<W: Sink>(sink: &mut W, lanes: &[LaneReport]) -> Result<(), WriteF
 }
 
 /// Writes a lane and its events.
-fn write_lane<W: Sink>(sink: &mut W, number: usize, lane: &LaneReport) -> Result<(), WriteFailed>
+fn write_lane<F, W: Sink>(
+    sink: &mut W,
+    number: usize,
+    lane: &LaneReport<Recorder<F>>,
+) -> Result<(), WriteFailed>
     ensures written { Writes (W.written sink.old) (W.written sink.new) (lane_text number lane.now) result }
     ensures failed { OnErr result (GaveUp (W.has_failed sink.new) (W.interruptions sink.new)) }
 {
     write_lane_line(sink, number, lane)?;
-    write_events(sink, lane.handed.as_slice())
+    write_events(sink, lane.hook.list())
 }
 
 fn how_of(how: How) -> &'static [u8]
@@ -61,10 +72,10 @@ fn how_of(how: How) -> &'static [u8]
     }
 }
 
-fn write_lane_line<W: Sink>(
+fn write_lane_line<F, W: Sink>(
     sink: &mut W,
     number: usize,
-    lane: &LaneReport,
+    lane: &LaneReport<Recorder<F>>,
 ) -> Result<(), WriteFailed>
     ensures written { Writes (W.written sink.old) (W.written sink.new) (lane_line number lane.now) result }
     ensures failed { OnErr result (GaveUp (W.has_failed sink.new) (W.interruptions sink.new)) }
@@ -75,13 +86,13 @@ fn write_lane_line<W: Sink>(
         b"lane ",
         digits.format(number).as_bytes(),
         how_of(lane.how),
-        handed.format(lane.handed.len()).as_bytes(),
+        handed.format(lane.hook.list().len()).as_bytes(),
         b"\n",
     ];
     write_pieces(sink, &pieces)
 }
 
-fn write_events<W: Sink>(sink: &mut W, events: &[Event]) -> Result<(), WriteFailed>
+fn write_events<W: Sink>(sink: &mut W, events: &[(Event, Outcome)]) -> Result<(), WriteFailed>
     ensures written { Writes (W.written sink.old) (W.written sink.new) (flat_map event_line events.now) result }
     ensures failed { OnErr result (GaveUp (W.has_failed sink.new) (W.interruptions sink.new)) }
 {
@@ -91,16 +102,25 @@ fn write_events<W: Sink>(sink: &mut W, events: &[Event]) -> Result<(), WriteFail
     Ok(())
 }
 
-/// Writes an event: its id, number, hook, offset and length, and what its post-hook answered.
-fn write_event<W: Sink>(sink: &mut W, event: &Event) -> Result<(), WriteFailed>
-    ensures written { Writes (W.written sink.old) (W.written sink.new) (event_line event.now) result }
+/// Writes an event, and what its post-hook answered.
+fn write_event<W: Sink>(sink: &mut W, told: &(Event, Outcome)) -> Result<(), WriteFailed>
+    ensures written { Writes (W.written sink.old) (W.written sink.new) (event_line told.now) result }
+    ensures failed { OnErr result (GaveUp (W.has_failed sink.new) (W.interruptions sink.new)) }
+{
+    write_event_text(sink, &told.0)?;
+    write_outcome(sink, told.1)
+}
+
+/// Writes an event: its id, number, hook, offset and length.
+fn write_event_text<W: Sink>(sink: &mut W, event: &Event) -> Result<(), WriteFailed>
+    ensures written { Writes (W.written sink.old) (W.written sink.new) (event_text event.now) result }
     ensures failed { OnErr result (GaveUp (W.has_failed sink.new) (W.interruptions sink.new)) }
 {
     let text = event.id.text();
     let mut number = Buffer::new();
     let mut offset = Buffer::new();
     let mut length = Buffer::new();
-    let pieces: [&[u8]; 10] = [
+    let pieces: [&[u8]; 9] = [
         &text,
         b" ",
         number.format(event.number).as_bytes(),
@@ -110,7 +130,20 @@ fn write_event<W: Sink>(sink: &mut W, event: &Event) -> Result<(), WriteFailed>
         offset.format(event.offset).as_bytes(),
         b"/",
         length.format(event.length).as_bytes(),
-        b" done\n",
     ];
+    write_pieces(sink, &pieces)
+}
+
+/// Writes what a post-hook answered, which ends the line of its event.
+fn write_outcome<W: Sink>(sink: &mut W, outcome: Outcome) -> Result<(), WriteFailed>
+    ensures written { Writes (W.written sink.old) (W.written sink.new) (outcome_of outcome) result }
+    ensures failed { OnErr result (GaveUp (W.has_failed sink.new) (W.interruptions sink.new)) }
+{
+    let code = match outcome {
+        Outcome::Done => return write_pieces(sink, &[b" done\n"]),
+        Outcome::Failed(code) => code,
+    };
+    let mut digits = Buffer::new();
+    let pieces: [&[u8]; 3] = [b" failed ", digits.format(code).as_bytes(), b"\n"];
     write_pieces(sink, &pieces)
 }

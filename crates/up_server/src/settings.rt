@@ -36,7 +36,13 @@ impl Default for Settings {
 }
 
 /// What the command line asks for.
-#[derive(Clone, Copy, Debug, PartialEq, Eq)]
+#[derive(Debug, Default, Drop, PartialEq, Eq)]
 pub struct Words {
     pub settings: Settings,
+    /// The key that the metadata of each plain or final upload must have.
+    pub require_key: Option<String>,
+    /// The most bytes that an upload may have, beside the most that the settings allow.
+    pub max_length: Option<u64>,
+    /// Whether nobody may remove an upload.
+    pub keep: bool,
 }

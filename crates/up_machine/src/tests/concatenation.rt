@@ -38,7 +38,7 @@ fn hold(
     rt: &impl Abort,
     alloc: Global,
     max_size: u64,
-    rows: &[(u128, Ask, &str)],
+    rows: &[(u128, Short, &str)],
 ) -> Result<Both, Fail>
     requires small { max_size ≤ 2 ^ 30 }
 {
@@ -56,9 +56,9 @@ fn with_parts(rt: &impl Abort, alloc: Global, max_size: u64) -> Result<Both, Fai
         alloc,
         max_size,
         &[
-            (1, Ask::Partial(3), CREATED_1),
+            (1, Short::Partial(3), CREATED_1),
             (1, patch(0, b"abc"), "204 Upload-Offset: 3; []"),
-            (2, Ask::Partial(4), CREATED_2),
+            (2, Short::Partial(4), CREATED_2),
             (2, patch(0, b"defg"), "204 Upload-Offset: 4; []"),
         ],
     )
@@ -85,26 +85,26 @@ fn hold_events(rt: &impl Abort, book: &Book, hooks: &[(Hook, u64, u64)]) {
 #[test]
 fn a_final_upload_has_the_bytes_of_its_parts(rt: HostRuntime) -> Result<(), Fail> {
     let standing = format!(in rt.alloc();
-        "200 Upload-Offset: 11; Upload-Length: 11; Upload-Concat: {CONCAT}; []"
+        "200 Upload-Offset: 11; Upload-Length: 11; Upload-Metadata: whole; Upload-Concat: {CONCAT}; []"
     )?;
     let mut both = with_parts(&rt, rt.alloc(), 1_048_576)?;
     both.hold(
         &rt,
         rt.alloc(),
         &[
-            (3, Ask::Final(&[2, 1, 2], CONCAT), CREATED_3),
-            (3, Ask::Head, standing.as_str()),
+            (3, Short::Final(&[2, 1, 2], CONCAT), CREATED_3),
+            (3, Short::Head, standing.as_str()),
             (
                 3,
-                Ask::Get,
+                Short::Get,
                 "200 Content-Type: application/octet-stream; [defgabcdefg]",
             ),
             (3, patch(11, b""), FINAL_UPLOAD),
-            (3, Ask::Patch(false, None, b"a"), FINAL_UPLOAD),
+            (3, Short::Patch(false, None, b"a"), FINAL_UPLOAD),
             (
                 1,
-                Ask::Head,
-                "200 Upload-Offset: 3; Upload-Length: 3; Upload-Concat: partial; []",
+                Short::Head,
+                "200 Upload-Offset: 3; Upload-Length: 3; Upload-Metadata: part; Upload-Concat: partial; []",
             ),
         ],
     )?;
@@ -123,14 +123,18 @@ fn parts_that_are_no_parts_are_refused(rt: HostRuntime) -> Result<(), Fail> {
         rt.alloc(),
         1_048_576,
         &[
-            (1, Ask::Partial(3), CREATED_1),
-            (2, Ask::Final(&[1], "final;a"), PART_UNFINISHED),
-            (3, Ask::Final(&[9], "final;a"), PART_UNKNOWN),
-            (4, Ask::Create(0, ""), CREATED_4),
-            (5, Ask::Final(&[4], "final;a"), PART_NOT_PARTIAL),
+            (1, Short::Partial(3), CREATED_1),
+            (2, Short::Final(&[1], "final;a"), PART_UNFINISHED),
+            (3, Short::Final(&[7], "final;a"), PART_UNKNOWN),
+            (4, Short::Create(0, ""), CREATED_4),
+            (5, Short::Final(&[4], "final;a"), PART_NOT_PARTIAL),
+            (1, patch(0, b"abc"), "204 Upload-Offset: 3; []"),
+            (5, Short::Final(&[1], "final;a"), CREATED_5),
+            (6, Short::Final(&[5], "final;b"), PART_NOT_PARTIAL),
+            (6, Short::Final(&[1, 5], "final;a b"), PART_NOT_PARTIAL),
         ],
     )?;
-    assert_eq!(rt; both.book.journal().accepted().len(), 2);
+    assert_eq!(rt; both.book.journal().accepted().len(), 4);
     Ok(())
 }
 
@@ -141,42 +145,42 @@ fn each_check_looks_at_all_parts(rt: HostRuntime) -> Result<(), Fail> {
         &rt,
         rt.alloc(),
         &[
-            (4, Ask::Create(1, ""), CREATED_4),
-            (5, Ask::Partial(2), CREATED_5),
-            (3, Ask::Final(&[5, 4, 9], ""), PART_UNKNOWN),
-            (3, Ask::Final(&[5, 1, 4], ""), PART_NOT_PARTIAL),
-            (3, Ask::Final(&[1, 2, 5], ""), PART_UNFINISHED),
-            (3, Ask::Final(&[1, 2], ""), SUM_TOO_LONG),
-            (4, Ask::Final(&[1, 2], ""), SUM_TOO_LONG),
-            (4, Ask::Final(&[1], ""), ID_TAKEN),
-            (3, Ask::Final(&[1], ""), CREATED_3),
+            (4, Short::Create(1, ""), CREATED_4),
+            (5, Short::Partial(2), CREATED_5),
+            (3, Short::Final(&[5, 4, 9], ""), PART_UNKNOWN),
+            (3, Short::Final(&[5, 1, 4], ""), PART_NOT_PARTIAL),
+            (3, Short::Final(&[1, 2, 5], ""), PART_UNFINISHED),
+            (3, Short::Final(&[1, 2], ""), SUM_TOO_LONG),
+            (4, Short::Final(&[1, 2], ""), SUM_TOO_LONG),
+            (4, Short::Final(&[1], ""), ID_TAKEN),
+            (3, Short::Final(&[1], ""), CREATED_3),
         ],
     )?;
     both.close();
-    both.hold(&rt, rt.alloc(), &[(6, Ask::Final(&[9], ""), CLOSED)])
+    both.hold(&rt, rt.alloc(), &[(6, Short::Final(&[9], ""), CLOSED)])
 }
 
 #[test]
 fn parts_may_be_as_long_as_an_upload(rt: HostRuntime) -> Result<(), Fail> {
     let rows = [
-        (1, Ask::Partial(3), CREATED_1),
+        (1, Short::Partial(3), CREATED_1),
         (1, patch(0, b"abc"), "204 Upload-Offset: 3; []"),
     ];
     let mut both = hold(&rt, rt.alloc(), 5, &rows)?;
     both.hold(
         &rt,
         rt.alloc(),
-        &[(2, Ask::Final(&[1, 1], "final;a a"), SUM_TOO_LONG)],
+        &[(2, Short::Final(&[1, 1], "final;a a"), SUM_TOO_LONG)],
     )?;
     let mut both = hold(&rt, rt.alloc(), 6, &rows)?;
     both.hold(
         &rt,
         rt.alloc(),
         &[
-            (2, Ask::Final(&[1, 1], "final;a a"), CREATED_2),
+            (2, Short::Final(&[1, 1], "final;a a"), CREATED_2),
             (
                 2,
-                Ask::Get,
+                Short::Get,
                 "200 Content-Type: application/octet-stream; [abcabc]",
             ),
         ],
@@ -191,13 +195,13 @@ fn a_final_upload_outlives_its_parts(rt: HostRuntime) -> Result<(), Fail> {
         &rt,
         rt.alloc(),
         &[
-            (3, Ask::Final(&[1, 2], "final;a b"), CREATED_3),
-            (1, Ask::Delete, "204 []"),
-            (3, Ask::Get, content),
-            (2, Ask::Delete, "204 []"),
-            (3, Ask::Get, content),
-            (4, Ask::Final(&[1, 2], "final;a b"), PART_UNKNOWN),
-            (3, Ask::Delete, "204 []"),
+            (3, Short::Final(&[1, 2], "final;a b"), CREATED_3),
+            (1, Short::Delete, "204 []"),
+            (3, Short::Get, content),
+            (2, Short::Delete, "204 []"),
+            (3, Short::Get, content),
+            (4, Short::Final(&[1, 2], "final;a b"), PART_UNKNOWN),
+            (3, Short::Delete, "204 []"),
             (3, patch(7, b""), NOT_FOUND),
         ],
     )?;
@@ -214,39 +218,23 @@ fn a_final_upload_outlives_its_parts(rt: HostRuntime) -> Result<(), Fail> {
 }
 
 #[test]
-fn a_final_upload_is_no_part(rt: HostRuntime) -> Result<(), Fail> {
-    let mut both = with_parts(&rt, rt.alloc(), 1_048_576)?;
-    both.hold(
-        &rt,
-        rt.alloc(),
-        &[
-            (3, Ask::Final(&[1], "final;a"), CREATED_3),
-            (4, Ask::Final(&[3], "final;b"), PART_NOT_PARTIAL),
-            (4, Ask::Final(&[1, 3], "final;a b"), PART_NOT_PARTIAL),
-        ],
-    )?;
-    assert_eq!(rt; both.book.journal().accepted().len(), 5);
-    Ok(())
-}
-
-#[test]
 fn a_final_upload_of_no_bytes_finishes_at_once(rt: HostRuntime) -> Result<(), Fail> {
     let both = hold(
         &rt,
         rt.alloc(),
         1_048_576,
         &[
-            (1, Ask::Partial(0), CREATED_1),
-            (2, Ask::Partial(0), CREATED_2),
-            (3, Ask::Final(&[1, 2, 1], "final;a b a"), CREATED_3),
+            (1, Short::Partial(0), CREATED_1),
+            (2, Short::Partial(0), CREATED_2),
+            (3, Short::Final(&[1, 2, 1], "final;a b a"), CREATED_3),
             (
                 3,
-                Ask::Head,
-                "200 Upload-Offset: 0; Upload-Length: 0; Upload-Concat: final;a b a; []",
+                Short::Head,
+                "200 Upload-Offset: 0; Upload-Length: 0; Upload-Metadata: whole; Upload-Concat: final;a b a; []",
             ),
             (
                 3,
-                Ask::Get,
+                Short::Get,
                 "200 Content-Type: application/octet-stream; []",
             ),
         ],

@@ -9,6 +9,8 @@ pub(crate) struct PlainUpload {
     pub(crate) length: u64,
     pub(crate) bytes: Vec<u8>,
     pub(crate) metadata: Option<Vec<u8>>,
+    /// The pairs of the metadata, in words.
+    pairs: String,
     pub(crate) concat: Option<Vec<u8>>,
 }
 
@@ -69,6 +71,21 @@ fn push_field(words: &mut String, name: &str, text: &Option<Vec<u8>>) -> Result<
     Ok(())
 }
 
+/// With what status and reason a closure refuses, where one does.
+fn refusing(asked: &Asked) -> Option<(u16, &[u8])> {
+    match asked {
+        Asked::Refused { status, reason } => Some((*status, reason.bytes())),
+        Asked::Skipped | Asked::Allowed => None,
+    }
+}
+
+/// The pairs of the metadata of a new upload, in words.
+fn pairs_words(alloc: Global, new: &NewUpload) -> Result<String, AllocError> {
+    let mut words = String::new(alloc);
+    push_pairs(&mut words, new.pairs.as_slice())?;
+    Ok(words)
+}
+
 /// A row of the table of refusals: number, name, status, the requests that it names, and whether it holds.
 type Row = (u32, &'static str, u16, &'static str, bool);
 
@@ -127,8 +144,8 @@ impl Plain {
         (is_unknown, is_other, is_unfinished, sum > self.max_size)
     }
 
-    /// The table of refusals. At planning there is no new id yet.
-    fn table(&self, request: &Request, new: Option<Id>) -> [Row; 13] {
+    /// The table of refusals. At planning there is no new id yet, and nobody was asked.
+    fn table(&self, request: &Request, new: Option<Id>, asked: &Asked) -> [Row; 14] {
         let (_, target) = name_and_target(request);
         let is_missing = !self.uploads.iter().any(|upload| Some(upload.id) == target);
         let is_final = self.is_final(target);
@@ -137,6 +154,10 @@ impl Plain {
         let (media, sent_offset, count) = sent(request);
         let is_above = offset.saturating_add(count) > length;
         let (is_unknown, is_other, is_unfinished, is_long) = self.part_faults(joined(request));
+        let (hook_status, is_refused) = match refusing(asked) {
+            Some((status, _)) => (status, true),
+            None => (0, false),
+        };
         [
             (20, "Closed", 503, "Create, Patch, Delete", self.closed),
             (21, "NotFound", 404, "Head, Patch, Delete, Get", is_missing),
@@ -149,6 +170,7 @@ impl Plain {
             (28, "PartNotPartial", 400, "Create", is_other),
             (29, "PartUnfinished", 400, "Create", is_unfinished),
             (30, "SumTooLong", 413, "Create", is_long),
+            (31, "ByHook", hook_status, "Create, Delete", is_refused),
             (32, "IdTaken", 500, "Create", is_given),
             (33, "Unfinished", 409, "Get", offset != length),
         ]
@@ -160,13 +182,17 @@ impl Plain {
         alloc: Global,
         request: &Request,
         new: Option<Id>,
+        asked: &Asked,
     ) -> Result<Option<String>, Fail> {
         let (request_name, _) = name_and_target(request);
-        for (number, name, status, requests, holds) in self.table(request, new) {
+        for (number, name, status, requests, holds) in self.table(request, new, asked) {
             if holds && requests.contains(request_name) {
-                let words = format!(in alloc;
-                    "{status} Content-Type: text/plain; [{number} {name}\n]"
-                )?;
+                let mut words = format!(in alloc; "{status} Content-Type: text/plain; [")?;
+                match refusing(asked) {
+                    Some((_, reason)) if number == 31 => push_bytes(&mut words, reason)?,
+                    _ => words.push_str(&format!(in alloc; "{number} {name}")?)?,
+                }
+                words.push_str("\n]")?;
                 return Ok(Some(words));
             }
         }
@@ -175,15 +201,35 @@ impl Plain {
 
     /// What is said at planning, in words.
     pub(crate) fn plan(&self, alloc: Global, request: &Request) -> Result<String, Fail> {
-        if let Some(words) = self.refusal(alloc, request, None)? {
+        if let Some(words) = self.refusal(alloc, request, None, &Asked::Skipped)? {
             return Ok(words);
         }
         match request {
-            Request::Create(_) | Request::Patch(_) | Request::Delete(_) => {
-                Ok(String::from_str(alloc, "ready")?)
-            }
+            Request::Create(new) => self.ask_to_create(alloc, new),
+            Request::Delete(id) => self.ask_to_remove(alloc, *id),
+            Request::Patch(_) => Ok(String::from_str(alloc, "ready")?),
             _ => self.answer(alloc, request, Id::new(0)),
         }
+    }
+
+    /// What closures are asked before an upload is made, in words.
+    fn ask_to_create(&self, alloc: Global, new: &NewUpload) -> Result<String, Fail> {
+        let kind = new.kind;
+        let count = self.joined_bytes(alloc, parts_of(new))?.len() as u64;
+        let length = match kind {
+            Kind::Final => count,
+            Kind::Plain | Kind::Partial => new.length,
+        };
+        let pairs = pairs_words(alloc, new)?;
+        Ok(format!(in alloc; "Create None {kind:?} {count}/{length} [{pairs}]")?)
+    }
+
+    /// What closures are asked before an upload is removed, in words.
+    fn ask_to_remove(&self, alloc: Global, id: Id) -> Result<String, Fail> {
+        let upload = self.find(id).ok_or("no upload")?;
+        let (kind, pairs) = (upload.kind, upload.pairs.as_str());
+        let (offset, length) = self.reached(Some(id));
+        Ok(format!(in alloc; "Terminate Some({id:?}) {kind:?} {offset}/{length} [{pairs}]")?)
     }
 
     /// What comes of a request: the refusal and no change, or else the change and the answer after it.
@@ -192,8 +238,9 @@ impl Plain {
         alloc: Global,
         request: &Request,
         id: Id,
+        asked: &Asked,
     ) -> Result<Reply, Fail> {
-        if let Some(words) = self.refusal(alloc, request, Some(id))? {
+        if let Some(words) = self.refusal(alloc, request, Some(id), asked)? {
             let change = None;
             return Ok(Reply { words, change });
         }
@@ -242,6 +289,7 @@ impl Plain {
             length,
             bytes,
             metadata: copy_of(alloc, &new.metadata)?,
+            pairs: pairs_words(alloc, new)?,
             concat: copy_of(alloc, &new.concat)?,
         })?;
         self.given.push(id)?;

@@ -1,3 +1,4 @@
+use Rattle.up_hooks.specs.Gives.{ClosuresGive}
 use Rattle.up_wire.specs.Device.{device}
 use Rattle.up_server.specs.Turn.{GoesOn, Passes}
 use Rattle.up_server.proofs.conversation.converse.Given as goal
@@ -5,7 +6,7 @@ use Rattle.up_server.proofs.conversation.converse.Given as goal
 abbrev pub invariant-loop-turn : goal.invariant-loop-turn
 invariant-loop-turn g l = record {
   goes_on : GoesOn l.turn l.initial.dispatcher l.dispatcher;
-  passes : Passes l.max_size l.turn
+  passes : Passes (ClosuresGive l.hooks) l.max_size l.turn
       (record {
         course = l.initial.dispatcher;
         source = device (g.R.Source.left l.initial.source) (g.R.Source.has_failed l.initial.source) (g.R.Source.interruptions l.initial.source);

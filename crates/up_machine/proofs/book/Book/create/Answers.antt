@@ -1,13 +1,11 @@
 use Rattle.std.proofs.Common.{◌≡◌, ◌≤◌, ◌^◌, true, false, cond, ◌++◌, ◌∷◌, [], length, refl, sym, ap, ◌∙◌, subst}
-use Rattle.std.specs.FinMap as map
-use Rattle.up_events.specs.declared.event.Accepted.{Accepted}
 use Rattle.up_events.specs.declared.event.Accepted.TheVariants.{Created}
 use Rattle.up_events.specs.History.{is_final_kind, is_known}
 use Rattle.up_machine.specs.Content.{Content, IsWithinLength, made_of}
 use Rattle.up_machine.specs.State.{Contents, State, first_bytes, joined}
 use Rattle.up_machine.specs.Fits.{Fits}
 use Rattle.up_machine.proofs.FitsLemmas.{fits_created, sound_after}
-use Rattle.up_machine.proofs.DecisionLemmas.{create_passed, made_bytes, made_small, made_within}
+use Rattle.up_machine.proofs.DecisionLemmas.{create_passed, made_bytes, made_small, made_within, refused_by}
 use Rattle.up_machine.proofs.book.Book.create.Goals as goal
 
 pub new-upload-requires : goal.new-upload-requires
@@ -30,3 +28,6 @@ invariant_of-self-2 c =
     let noted = c.in_ok-create.ensures.noted in
     sound_after s (Created c.args.id x.length x.kind) c.create.new.self c.create.new.journal c.self.invariant (known, small) (rw is at noted)
     (subst (λ (m : Contents). Fits m (a.journal.accepted ++ Created c.args.id x.length x.kind ∷ [])) (sym c.in_ok-create.ensures.ok) fits)
+
+pub returns-in_err-check_new-clause-answer : goal.returns-in_err-check_new-clause-answer
+returns-in_err-check_new-clause-answer c = refused_by _ _ _ c.in_err-check_new.field-0.0 c.from_residual.result c.from_residual.ensures.1 c.in_err-check_new.ensures

@@ -4,7 +4,7 @@ use Rattle.up_server.specs.Passage.{IsFrom}
 use Rattle.up_server.proofs.feed.Feed.advance.Given as goal
 
 abbrev pub invariant-loop-self : goal.invariant-loop-self
-invariant-loop-self l = ((log : List Event) → IsFrom log l.initial.self → IsFrom log l.self) × (l.self.unread ≤ l.initial.self.unread)
+invariant-loop-self g l = ((log : List Event) → IsFrom log l.initial.self → IsFrom log l.self) × (l.self.unread ≤ l.initial.self.unread)
 
 abbrev pub decreases-loop-self : goal.decreases-loop-self
-decreases-loop-self l = l.self.unread
+decreases-loop-self g l = l.self.unread

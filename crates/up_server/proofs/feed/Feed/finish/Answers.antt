@@ -4,7 +4,7 @@ use Rattle.up_events.specs.Delivery.{IsWithin}
 use Rattle.up_server.proofs.feed.Feed.finish.Goals as goal
 
 pub returns-clause-from : goal.returns-clause-from
-returns-clause-from c = λ log f.
+returns-clause-from g c = λ log f.
     let kept : IsFrom log c.drain-how.new.self = c.drain-how.ensures log (c.put.ensures log f tt) in
     let there = subst (IsFrom log) (sym c.self.view_is) kept in
-    subst (λ l. IsWithin l log) (sym c.into_handed.ensures.handed) there.hands.1
+    subst (λ l. IsWithin l log) (sym c.into_hook.ensures.handed) there.hands.1

@@ -4,7 +4,7 @@ use Rattle.up_server.specs.Passage.{IsFrom, IsItemFrom}
 use Rattle.up_server.proofs.feed.Feed.put_after_taking.Given as goal
 
 abbrev pub invariant-loop-self : goal.invariant-loop-self
-invariant-loop-self l = (log : List Event) → IsFrom log l.initial.self → IsItemFrom log l.item → IsFrom log l.self
+invariant-loop-self g l = (log : List Event) → IsFrom log l.initial.self → IsItemFrom log l.item → IsFrom log l.self
 
 abbrev pub decreases-loop-self : goal.decreases-loop-self
-decreases-loop-self l = l.self.unread
+decreases-loop-self g l = l.self.unread

@@ -4,11 +4,11 @@ use Rattle.up_server.proofs.FeedLemmas.{from_put}
 use Rattle.up_server.proofs.feed.Feed.try_put.Goals as goal
 
 pub returns-then-is_err-clause-from : goal.returns-then-is_err-clause-from
-returns-then-is_err-clause-from c = λ log f new.
+returns-then-is_err-clause-from g c = λ log f new.
     let a = c.self.inside in
     from_put log (record { held = a.queue; hands = a.lane; unread = a.unread }) c.put.new.self a.unread c.args.item c.put.ensures.held new (subst (IsFrom log) (sym c.self.view_is) f)
 
 pub returns-clause-from : goal.returns-clause-from
-returns-clause-from c = λ log f new.
+returns-clause-from g c = λ log f new.
     let a = c.self.inside in
     from_put log (record { held = a.queue; hands = a.lane; unread = a.unread }) c.put.new.self c.saturating_add-self-inside.result c.args.item c.put.ensures.held new (subst (IsFrom log) (sym c.self.view_is) f)

@@ -1,0 +1,35 @@
+-- What the closures of a server answer together.
+use Rattle.std.specs.Prelude.{◌≡◌, List, ◌∷◌, ◌++◌, All}
+use Rattle.std.specs.Fn.{FnReturnsAt}
+use Rattle.std.specs.Borrow.{Bor}
+use denote.Param.Members.{Mut}
+use Rattle.up_machine.specs.declared.ask.Ask.{Ask}
+use Rattle.up_machine.specs.declared.ask.Verdict.{Verdict}
+use Rattle.up_machine.specs.declared.ask.Verdict.TheVariants.{Allow, Refuse}
+use Rattle.up_machine.specs.declared.plan.Asked.{Asked}
+use Rattle.up_machine.specs.declared.plan.Asked.TheVariants as asked
+use Rattle.up_hooks.specs.declared.pre_hook.PreHook.{PreHook}
+use Rattle.up_hooks.specs.declared.pre_hooks.PreHooks.{PreHooks}
+
+module _ {X : Type 0} {F : X → Type 0} {g : Mut ((i : X) × F i) (Bor Ask × Unit {0}) Verdict} where
+  -- the closure may answer so
+  abbrev pub Answers : PreHook X F g → Ask → Verdict → Type 0
+  Answers hook ask verdict = FnReturnsAt g (hook.judge.vtable, hook.judge.value) ask verdict
+
+  -- the closure is for another point, or it allows
+  abbrev pub LetsPass : Ask → PreHook X F g → Type 0
+  LetsPass ask hook = hook.point ≡ ask.point → Answers hook ask Allow
+
+  -- each closure of the point allows, or the first of them that doesn't has answered so; nobody was skipped
+  abbrev pub HooksGive : List (PreHook X F g) → Ask → Asked → Type 0
+  HooksGive hooks ask asked.Skipped = ⊥
+  HooksGive hooks ask asked.Allowed = All (LetsPass ask) hooks
+  HooksGive hooks ask (asked.Refused status reason) =
+      (before : List (PreHook X F g)) × (hook : PreHook X F g) × (after : List (PreHook X F g))
+      × (hooks ≡ before ++ hook ∷ after)
+      × All (LetsPass ask) before
+      × (hook.point ≡ ask.point)
+      × Answers hook ask (Refuse status reason)
+
+  abbrev pub ClosuresGive : PreHooks X F g → Ask → Asked → Type 0
+  ClosuresGive hooks ask asked = HooksGive hooks.hooks.items ask asked

@@ -1,0 +1,35 @@
+-- What a recorder keeps.
+use Rattle.std.specs.Prelude.{◌≡◌, Bool, true, ◌&&◌, nat_le, List, All, IsTrue, map}
+use Rattle.std.specs.Fn.{FnReturnsAt}
+use Rattle.std.specs.Borrow.{Bor}
+use denote.Param.Members.{Mut}
+use Rattle.up_events.specs.declared.event.Event.{Event}
+use Rattle.up_hooks.specs.declared.post_hook.Outcome.{Outcome}
+use Rattle.up_hooks.specs.declared.post_hook.Outcome.TheVariants.{Done, Failed}
+use Rattle.up_hooks.specs.declared.recorder.Recorder.{Recorder}
+
+-- the events, without the answers
+abbrev pub events_told : List (Event × Outcome) → List Event
+events_told pairs = map (λ pair. pair.0) pairs
+
+-- the events that a recorder was handed, each with what its closure answered
+abbrev pub told_by : {F : Type 0} → Recorder F → List (Event × Outcome)
+told_by recorder = recorder.pairs.items
+
+-- the events that it was handed
+abbrev pub handed_to : {F : Type 0} → Recorder F → List Event
+handed_to recorder = events_told (told_by recorder)
+
+-- a code of a failure is 1 to 99
+abbrev pub has_code : Outcome → Bool
+has_code Done = true
+has_code (Failed code) = nat_le 1 code && nat_le code 99
+
+module _ {F : Type 0} (g : Mut F (Bor Event × Unit {0}) Outcome) where
+  -- each outcome is an answer of the closure on its event
+  abbrev pub AreAnswers : F → List (Event × Outcome) → Type 0
+  AreAnswers f pairs = All (λ pair. FnReturnsAt g f pair.0 pair.1) pairs
+
+  -- the closure gives no other codes
+  abbrev pub GivesCodes : F → Type 0
+  GivesCodes f = (event : Bor Event) (outcome : Outcome) → g.post f (event, tt) outcome → IsTrue (has_code outcome)

@@ -1,0 +1,15 @@
+//! What operators attach to the life of an upload: closures that are asked before it is made or removed, and post-hooks that are
+//! handed every event.
+#![tactic(auto)]
+
+mod post_hook;
+mod pre_hook;
+mod pre_hooks;
+mod recorder;
+#[cfg(test)]
+mod tests;
+
+pub use post_hook::{Outcome, PostHook};
+pub use pre_hook::{Judge, PreHook};
+pub use pre_hooks::PreHooks;
+pub use recorder::Recorder;

@@ -1,0 +1,49 @@
+//! The closures that are asked before a change.
+ghost use Rattle.std.specs.Prelude.{IsTrue};
+ghost use Rattle.up_hooks.specs.Gives.{HooksGive};
+ghost use Rattle.up_hooks.specs.Verdicts.{has_lawful_status};
+
+use crate::pre_hook::PreHook;
+use up_machine::{Ask, Asked, Verdict};
+
+/// The closures of a server, in the order in which they are asked.
+#[derive(Drop)]
+pub struct PreHooks {
+    hooks: Vec<PreHook>,
+}
+
+/// Asks the closures in turn.
+fn ask_each(hooks: &[PreHook], ask: &Ask) -> Asked
+    ensures closures { HooksGive hooks.now ask.now result }
+    ensures status { IsTrue (has_lawful_status result) }
+{
+    for hook in hooks {
+        if hook.is_of(ask.point) {
+            if let Verdict::Refuse { status, reason } = hook.judge(ask) {
+                return Asked::Refused { status, reason };
+            }
+        }
+    }
+    Asked::Allowed
+}
+
+impl PreHooks {
+    ghost use Rattle.std.specs.Prelude.{◌≡◌};
+    ghost use Rattle.up_hooks.specs.Gives.{ClosuresGive};
+
+    /// These closures. Takes no memory.
+    pub fn new(hooks: Vec<PreHook>) -> Self
+        ensures { result.hooks ≡ hooks }
+    {
+        PreHooks { hooks }
+    }
+
+    /// Asks the closures of the point, in their order. The first that refuses decides, with its own status and reason, and those
+    /// behind it aren't called. `Allowed` where none refuses, also where there is none. Takes no memory.
+    pub fn ask(&self, ask: &Ask) -> Asked
+        ensures closures { ClosuresGive self.now ask.now result }
+        ensures status { IsTrue (has_lawful_status result) }
+    {
+        ask_each(&self.hooks, ask)
+    }
+}

@@ -1,0 +1,82 @@
+//! A post-hook that keeps what it was handed.
+ghost use Rattle.std.specs.Prelude.{◌≡◌, ◌++◌, ◌∷◌, [], true, OnOk};
+
+use crate::post_hook::{Outcome, PostHook};
+use std::alloc::Global;
+use up_events::{Event, NoMemory};
+
+/// A post-hook that calls a closure on each event that it is handed, and keeps the event with the closure's answer. A failure is
+/// kept as any other answer.
+#[derive(Drop)]
+pub struct Recorder<F> {
+    answer: F,
+    pairs: Vec<(Event, Outcome)>,
+}
+
+impl<F: Fn(&Event) -> Outcome + Send> PostHook for Recorder<F> {
+    ghost use Rattle.std.specs.Fn.{FnReturnsAt};
+    ghost use Rattle.std.specs.Prelude.{nat_lt, vec_len, vec_capacity};
+    ghost use Rattle.up_hooks.specs.Told.{AreAnswers, GivesCodes, events_told};
+
+    ghost is_sound = { λ r. F.IsAlwaysCallable r.answer × GivesCodes F.Fn r.answer × AreAnswers F.Fn r.answer r.pairs.items };
+
+    ghost handed = { λ r. events_told r.pairs.items };
+
+    ghost has_room = { λ r. nat_lt (vec_len r.pairs) (vec_capacity r.pairs) };
+
+    ghost may_answer = { λ r event outcome. FnReturnsAt F.Fn r.answer event outcome };
+
+    fn ready(&mut self) -> Result<(), NoMemory>
+        ensures closure { self.new.answer ≡ self.old.answer }
+        ensures same { self.new.pairs.items ≡ self.old.pairs.items }
+        ensures room { OnOk result (⟦<Recorder<F> as PostHook>⟧.has_room self.new ≡ true) }
+    {
+        Ok(self.pairs.reserve(1)?)
+    }
+
+    fn hand(&mut self, event: &Event) -> Outcome
+        requires sound { ⟦<Recorder<F> as PostHook>⟧.is_sound self.old }
+        requires room { ⟦<Recorder<F> as PostHook>⟧.has_room self.old ≡ true }
+        ensures closure { self.new.answer ≡ self.old.answer }
+        ensures answer { FnReturnsAt F.Fn self.old.answer event.now result }
+        ensures added { self.new.pairs.items ≡ self.old.pairs.items ++ (event.now, result) ∷ [] }
+    {
+        let outcome = (self.answer)(event);
+        self.pairs.push_reserved((*event, outcome));
+        outcome
+    }
+}
+
+impl<F: Fn(&Event) -> Outcome + Send> Recorder<F> {
+    ghost use Rattle.up_hooks.specs.Told.{GivesCodes};
+
+    /// A recorder that was handed nothing. Takes no memory.
+    ///
+    /// The closure must be one that can be called on every event, that returns, since its lane waits for it, and that answers
+    /// `Failed` with no other code than 1 to 99. Where its body doesn't show that, a clause at the closure does:
+    /// `ensures { IsTrue (has_code result) }`. It is called on one event at a time, by the thread of its lane; what it shares
+    /// with the closures of other lanes may be used by several threads at once.
+    pub fn new(alloc: Global, answer: F) -> Self
+        requires callable { F.IsAlwaysCallable answer }
+        requires codes { GivesCodes F.Fn answer }
+        ensures answer { result.answer ≡ answer }
+        ensures sound { ⟦<Recorder<F> as PostHook>⟧.is_sound result }
+        ensures handed { ⟦<Recorder<F> as PostHook>⟧.handed result ≡ [] }
+    {
+        Recorder {
+            answer,
+            pairs: Vec::new(alloc),
+        }
+    }
+}
+
+impl<F> Recorder<F> {
+    ghost use Rattle.up_hooks.specs.Told.{told_by};
+
+    /// The events that it was handed, in order, each with what the closure answered. Takes no memory.
+    pub fn list(&self) -> &[(Event, Outcome)]
+        ensures { result.now ≡ told_by self.now }
+    {
+        self.pairs.as_slice()
+    }
+}

@@ -1,0 +1,15 @@
+-- What closures are asked.
+use Rattle.std.specs.Prelude.{ℕ, List, [], ◌∷◌, Option, Some, None, length, bytes_eq, if◌then◌else◌}
+use Rattle.up_machine.specs.Content.{Content}
+use Rattle.up_machine.specs.declared.ask.Ask.{Ask}
+use Rattle.up_machine.specs.declared.ask.Point.{Point}
+
+-- about this upload
+abbrev pub ask_of : Point → Option ℕ → Content → Ask
+ask_of point target x =
+    record { point = point; target = target; kind = x.kind; offset = length x.bytes; length = x.length; pairs = x.pairs }
+
+-- the value of the first pair with the key
+abbrev pub value_of : List ℕ → List (List ℕ × List ℕ) → Option (List ℕ)
+value_of key [] = None
+value_of key (pair ∷ pairs) = if bytes_eq pair.0 key then Some pair.1 else value_of key pairs

@@ -1,0 +1,125 @@
+//! What a closure is asked, and what it answers.
+ghost use Rattle.std.specs.Prelude.{◌≡◌, ◌++◌, ◌∷◌, [], None, Some, IfOk, if◌then◌else◌};
+ghost use Rattle.std.specs.Option.{option_copied};
+ghost use Rattle.up_events.specs.History.{is_final_kind};
+ghost use Rattle.up_machine.specs.Asks.{ask_of, value_of};
+
+use crate::reason::Reason;
+use crate::upload::Upload;
+use std::alloc::Global;
+use up_events::{Id, Kind, NoMemory};
+use up_headers::{NewUpload, Pairs};
+use up_wire::Sequence;
+
+/// When a closure is asked.
+#[derive(Clone, Copy, Debug, PartialEq, Eq)]
+pub enum Point {
+    /// Before an upload is made: `pre-create`.
+    Create,
+    /// Before an upload is removed: `pre-terminate`.
+    Terminate,
+}
+
+/// What a closure is asked about.
+#[derive(Drop)]
+pub struct Ask {
+    pub point: Point,
+    /// The upload that is to be removed. None where one is to be made, which has no id yet.
+    pub target: Option<Id>,
+    pub kind: Kind,
+    /// In bytes: how far the upload has come, or will have come once it is made, which is all of it for a final one and 0 for any
+    /// other.
+    pub offset: u64,
+    /// In bytes. A final upload has the length of its parts together.
+    pub length: u64,
+    /// The pairs of the metadata text with which the upload is made, or was.
+    pub pairs: Pairs,
+}
+
+/// What a closure answers.
+#[derive(Clone, Copy, Debug, PartialEq, Eq)]
+pub enum Verdict {
+    Allow,
+    /// The request isn't carried out. The status of the response is 400, 403, 409, 413, 422 or 429.
+    Refuse { status: u16, reason: Reason },
+}
+
+/// A copy of a pair.
+fn copy_pair(
+    alloc: Global,
+    pair: &(Sequence<u8>, Sequence<u8>),
+) -> Result<(Sequence<u8>, Sequence<u8>), NoMemory>
+    ensures { IfOk result (λ made. made ≡ pair.now) }
+{
+    Ok((
+        Sequence::from_slice(alloc, pair.0.as_slice())?,
+        Sequence::from_slice(alloc, pair.1.as_slice())?,
+    ))
+}
+
+/// A copy of all pairs.
+fn copy_pairs(alloc: Global, pairs: &[(Sequence<u8>, Sequence<u8>)]) -> Result<Pairs, NoMemory>
+    ensures { IfOk result (λ made. made ≡ pairs.now) }
+{
+    let mut made = Sequence::new(alloc);
+    for pair in pairs {
+        made.push(copy_pair(alloc, pair)?)?;
+    }
+    Ok(made)
+}
+
+impl Ask {
+    ghost use Rattle.up_machine.specs.declared.ask.Point.TheVariants.{Create, Terminate};
+
+    /// What is asked before this upload is made, which begins with so many bytes.
+    pub(crate) fn to_create(alloc: Global, new: &NewUpload, offset: u64) -> Result<Ask, NoMemory>
+        ensures { IfOk result (λ ask. ask ≡ record {
+          point = Create;
+          target = None;
+          kind = new.now.kind;
+          offset = offset;
+          length = if is_final_kind new.now.kind then offset else new.now.length;
+          pairs = new.now.pairs;
+        }) }
+    {
+        let length = if new.kind == Kind::Final {
+            offset
+        } else {
+            new.length
+        };
+        Ok(Ask {
+            point: Point::Create,
+            target: None,
+            kind: new.kind,
+            offset,
+            length,
+            pairs: copy_pairs(alloc, new.pairs.as_slice())?,
+        })
+    }
+
+    /// What is asked before this upload is removed.
+    pub(crate) fn to_remove(alloc: Global, id: Id, upload: &Upload) -> Result<Ask, NoMemory>
+        ensures { IfOk result (λ ask. ask ≡ ask_of Terminate (Some id) upload.now) }
+    {
+        Ok(Ask {
+            point: Point::Terminate,
+            target: Some(id),
+            kind: upload.kind(),
+            offset: upload.offset(),
+            length: upload.length(),
+            pairs: copy_pairs(alloc, upload.pairs())?,
+        })
+    }
+
+    /// The value of a key of the metadata, if there is such a key. Keys are compared byte for byte.
+    pub fn value(&self, key: &[u8]) -> Option<&[u8]>
+        ensures { option_copied result ≡ value_of key.now self.now.pairs }
+    {
+        for pair in self.pairs.as_slice() {
+            if pair.0.as_slice() == key {
+                return Some(pair.1.as_slice());
+            }
+        }
+        None
+    }
+}

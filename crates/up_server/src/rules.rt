@@ -1,0 +1,54 @@
+//! The rules that the program's closures keep. Each is asked about a request, and answers what becomes of it.
+ghost use Rattle.std.specs.Prelude.{◌≡◌, true, IsTrue};
+ghost use Rattle.up_hooks.specs.Verdicts.{is_lawful};
+ghost use Rattle.up_machine.specs.Reasons.{is_reason};
+ghost use Rattle.up_machine.specs.declared.ask.Verdict.TheVariants.{Refuse};
+ghost use Rattle.up_server.specs.Rules.{at_most, keeps, needs_key};
+
+use up_events::Kind;
+use up_machine::{Ask, Reason, Verdict};
+
+/// A refusal with this status and this reason.
+fn refuse(status: u16, text: &[u8]) -> Verdict
+    requires { is_reason text.now ≡ true }
+    ensures { result ≡ Refuse status text.now }
+{
+    let reason = Reason::new(text).unwrap();
+    Verdict::Refuse { status, reason }
+}
+
+/// Refuses a plain or final upload whose metadata has no such key, compared byte for byte, with 422. An empty value will do, and a
+/// partial upload needs no key.
+pub fn needs_key(ask: &Ask, key: &[u8]) -> Verdict
+    ensures answer { result ≡ needs_key ask.now key.now }
+    ensures lawful { IsTrue (is_lawful result) }
+{
+    if ask.kind == Kind::Partial || ask.value(key).is_some() {
+        Verdict::Allow
+    } else {
+        refuse(422, b"metadata key missing")
+    }
+}
+
+/// Refuses an upload of more bytes than the limit with 413. A final upload has the length of its parts together.
+pub fn at_most(ask: &Ask, limit: u64) -> Verdict
+    ensures answer { result ≡ at_most ask.now limit }
+    ensures lawful { IsTrue (is_lawful result) }
+{
+    if ask.length <= limit {
+        Verdict::Allow
+    } else {
+        refuse(413, b"too long for this server")
+    }
+}
+
+/// Refuses, whatever is asked, with 403.
+pub fn keeps(ask: &Ask) -> Verdict
+    ensures answer { result ≡ keeps ask.now }
+    ensures lawful { IsTrue (is_lawful result) }
+{
+    refuse(403, b"uploads are kept")
+}
+
+#[cfg(test)]
+mod tests;

@@ -1,0 +1,131 @@
+//! A run of the server over one input.
+ghost use Rattle.std.specs.Prelude.{◌≡◌, ◌⊎◌, [], All, Err, length, IfOk};
+ghost use Rattle.up_hooks.specs.Gives.{ClosuresGive};
+ghost use Rattle.up_hooks.specs.declared.recorder.Recorder.{Recorder};
+ghost use Rattle.up_wire.specs.Device.{Device, device};
+ghost use Rattle.up_server.specs.Run.{IsRun, IsReported, any_stopped, is_stopped};
+ghost use Rattle.up_server.specs.declared.serving.Served.{Served};
+
+use crate::conversation::{Ended, converse};
+use crate::dispatcher::{Dispatcher, Report};
+use crate::feed::{How, LaneReport};
+use crate::report::write_report;
+use crate::server_fault::ServerFault;
+use crate::settings::Settings;
+use std::alloc::Global;
+use up_events::{Event, NoMemory};
+use up_hooks::{Outcome, PostHook, PreHooks, Recorder};
+use up_wire::{Sink, Source};
+
+/// What came of a run: the report, and how its conversation ended.
+#[derive(Drop)]
+struct Served<H> {
+    report: Report<H>,
+    ended: Ended,
+}
+
+/// Serves one conversation on a new server, and ends its lanes.
+fn run<H: PostHook + Drop, R: Source, W: Sink>(
+    alloc: Global,
+    hooks: &PreHooks,
+    lanes: Vec<H>,
+    settings: &Settings,
+    source: &mut R,
+    sink: &mut W,
+) -> Result<Served<H>, NoMemory>
+    requires one_for_each { length lanes.items ≡ settings.now.lanes }
+    requires new { All (λ hook. H.is_sound hook × (H.handed hook ≡ [])) lanes.items }
+    ensures sound { IfOk result (λ served. All (λ lane. H.is_sound lane.hook) served.report.lanes.items) }
+    ensures run { IfOk result (λ served. IsRun H.handed (ClosuresGive hooks.now) settings.now served
+        (device (R.left source.old) (R.has_failed source.old) (R.interruptions source.old))
+        (device (R.left source.new) (R.has_failed source.new) (R.interruptions source.new))
+        (device (W.written sink.old) (W.has_failed sink.old) (W.interruptions sink.old))
+        (device (W.written sink.new) (W.has_failed sink.new) (W.interruptions sink.new))) }
+{
+    let mut dispatcher = Dispatcher::new(
+        alloc,
+        settings.lanes,
+        lanes,
+        settings.capacity,
+        settings.max_size,
+    )?;
+    let ended = converse(
+        alloc,
+        &mut dispatcher,
+        hooks,
+        settings.max_size,
+        source,
+        sink,
+    );
+    let report = dispatcher.finish(alloc)?;
+    Ok(Served { report, ended })
+}
+
+/// Whether the lane stopped before its end came.
+fn is_stopped<H>(lane: &LaneReport<H>) -> bool
+    ensures { result ≡ is_stopped lane.now.how }
+{
+    matches!(lane.how, How::Stopped)
+}
+
+/// Whether any lane did.
+fn any_stopped<H>(lanes: &[LaneReport<H>]) -> bool
+    ensures { result ≡ any_stopped lanes.now }
+{
+    lanes.iter().any(|lane| is_stopped(lane))
+}
+
+/// Writes the report behind the replies, where these were written, and tells the first thing that went wrong.
+fn tell<F, W: Sink>(sink: &mut W, served: &Served<Recorder<F>>) -> Result<(), ServerFault>
+    ensures { IsReported served.now
+        (device (W.written sink.old) (W.has_failed sink.old) (W.interruptions sink.old))
+        (device (W.written sink.new) (W.has_failed sink.new) (W.interruptions sink.new))
+        result }
+{
+    match served.ended {
+        Ended::WriteFailed => Err(ServerFault::Write),
+        Ended::ReadFailed => match write_report(sink, &served.report) {
+            Ok(()) => Err(ServerFault::Read),
+            Err(_) => Err(ServerFault::Write),
+        },
+        Ended::Closed | Ended::Cut => match write_report(sink, &served.report) {
+            Ok(()) if any_stopped(served.report.lanes.as_slice()) => Err(ServerFault::Stopped),
+            Ok(()) => Ok(()),
+            Err(_) => Err(ServerFault::Write),
+        },
+    }
+}
+
+/// Serves the messages of `source` as one conversation, with ids counted from 1, writes the replies to `sink`, ends the
+/// lanes and writes the report. The closures of `hooks` are asked before an upload is made or removed, and each lane hands its events to
+/// the recorder at its place. Of what went wrong the first in the order of `ServerFault` is answered; after `Memory` and `Write` there may
+/// be no report.
+pub fn replay<F: Fn(&Event) -> Outcome + Send + Drop, R: Source, W: Sink>(
+    alloc: Global,
+    hooks: PreHooks,
+    recorders: Vec<Recorder<F>>,
+    settings: &Settings,
+    source: &mut R,
+    sink: &mut W,
+) -> Result<(), ServerFault>
+    requires one_for_each { length recorders.items ≡ settings.now.lanes }
+    requires new { All (λ r. ⟦<Recorder<F> as PostHook>⟧.is_sound r × (⟦<Recorder<F> as PostHook>⟧.handed r ≡ [])) recorders.items }
+    ensures { (result ≡ Err ServerFault.Memory) ⊎ ((served : Served (Recorder F)) × (replied : Device)
+        × IsRun ⟦<Recorder<F> as PostHook>⟧.handed (ClosuresGive hooks) settings.now served
+        (device (R.left source.old) (R.has_failed source.old) (R.interruptions source.old))
+        (device (R.left source.new) (R.has_failed source.new) (R.interruptions source.new))
+        (device (W.written sink.old) (W.has_failed sink.old) (W.interruptions sink.old))
+        replied
+        × All (λ lane. ⟦<Recorder<F> as PostHook>⟧.is_sound lane.hook) served.report.lanes.items
+        × IsReported served replied
+        (device (W.written sink.new) (W.has_failed sink.new) (W.interruptions sink.new))
+        result) }
+{
+    let Ok(served) = run(alloc, &hooks, recorders, settings, source, sink) else {
+        return Err(ServerFault::Memory);
+    };
+    tell(sink, &served)
+}
+
+#[cfg(test)]
+mod tests;

@@ -1,0 +1,208 @@
+//! Whole conversations: what is asked, and what is then answered and reported, to the byte.
+mod asking;
+mod command_lines;
+mod concatenating;
+mod creating;
+mod failing;
+mod framed;
+mod headed;
+mod many;
+mod patching;
+mod refusing;
+mod unreadable;
+
+use super::*;
+use crate::recorders::new_recorders;
+use std::alloc::AllocError;
+use std::process::Abort;
+use std::test::Fail;
+use up_wire::{Input, Output};
+
+const U1: &str = "00000000000000000000000000000001";
+
+const U2: &str = "00000000000000000000000000000002";
+
+const U3: &str = "00000000000000000000000000000003";
+
+const U4: &str = "00000000000000000000000000000004";
+
+const U5: &str = "00000000000000000000000000000005";
+
+const THIRTY_NINES: &str = "999999999999999999999999999999";
+
+/// The report of a run that changed nothing.
+const NOTHING: &str = "\naccepted 0\nlane 0 drained 0\nlane 1 drained 0\n";
+
+/// A conversation: what is asked, and by the rules what is written then.
+#[derive(Drop)]
+struct Talk {
+    asked: String,
+    wanted: String,
+}
+
+impl Talk {
+    fn new(alloc: Global) -> Talk {
+        Talk {
+            asked: String::new(alloc),
+            wanted: String::new(alloc),
+        }
+    }
+
+    /// Asks with a method and a target, fields beside the two that each message has, and a body.
+    fn ask(&mut self, start: &str, fields: &str, body: &str) -> Result<(), AllocError> {
+        self.asked.push_str(start)?;
+        self.asked
+            .push_str(" HTTP/1.1\r\nHost: a\r\nTus-Resumable: 1.0.0\r\n")?;
+        self.asked.push_str(fields)?;
+        self.asked.push_str("\r\n")?;
+        self.asked.push_str(body)
+    }
+
+    fn ask_post(&mut self, length: &str) -> Result<(), AllocError> {
+        self.asked.push_str(
+            "POST /files/ HTTP/1.1\r\nHost: a\r\nTus-Resumable: 1.0.0\r\nUpload-Length: ",
+        )?;
+        self.asked.push_str(length)?;
+        self.asked.push_str("\r\n\r\n")
+    }
+
+    /// Asks to put the bytes at the offset.
+    fn ask_patch(&mut self, id: &str, offset: &str, bytes: &str) -> Result<(), AllocError> {
+        let count = bytes.len();
+        write!(
+            self.asked,
+            "PATCH /files/{id} HTTP/1.1\r\nHost: a\r\nTus-Resumable: 1.0.0\r\n\
+            Content-Type: application/offset+octet-stream\r\nUpload-Offset: {offset}\r\n\
+            Content-Length: {count}\r\n\r\n{bytes}"
+        )
+    }
+
+    fn want(&mut self, text: &str) -> Result<(), AllocError> {
+        self.wanted.push_str(text)
+    }
+
+    /// Wants the answer to a POST that made the upload.
+    fn want_created(&mut self, id: &str) -> Result<(), AllocError> {
+        write!(
+            self.wanted,
+            "HTTP/1.1 201 Created\r\nTus-Resumable: 1.0.0\r\nCache-Control: no-store\r\n\
+            Location: /files/{id}\r\nContent-Length: 0\r\n\r\n"
+        )
+    }
+
+    /// Wants the answer to a PATCH that was taken.
+    fn want_reached(&mut self, offset: &str) -> Result<(), AllocError> {
+        write!(
+            self.wanted,
+            "HTTP/1.1 204 No Content\r\nTus-Resumable: 1.0.0\r\nCache-Control: no-store\r\n\
+            Upload-Offset: {offset}\r\n\r\n"
+        )
+    }
+
+    /// Wants the answer to a HEAD of an upload without metadata.
+    fn want_standing(&mut self, offset: &str, length: &str) -> Result<(), AllocError> {
+        write!(
+            self.wanted,
+            "HTTP/1.1 200 OK\r\nTus-Resumable: 1.0.0\r\nCache-Control: no-store\r\n\
+            Upload-Offset: {offset}\r\nUpload-Length: {length}\r\n\r\n"
+        )
+    }
+
+    /// Wants the answer to a GET, with so many bytes.
+    fn want_bytes(&mut self, count: &str, bytes: &str) -> Result<(), AllocError> {
+        write!(
+            self.wanted,
+            "HTTP/1.1 200 OK\r\nTus-Resumable: 1.0.0\r\nCache-Control: no-store\r\n\
+            Content-Type: application/octet-stream\r\nContent-Length: {count}\r\n\r\n{bytes}"
+        )
+    }
+
+    /// Wants a refusal of a HEAD, which has no body.
+    fn want_bare(&mut self, status: &str) -> Result<(), AllocError> {
+        write!(
+            self.wanted,
+            "HTTP/1.1 {status}\r\nTus-Resumable: 1.0.0\r\nCache-Control: no-store\r\n\
+            Content-Type: text/plain\r\n\r\n"
+        )
+    }
+
+    /// Wants a refusal, whose body is a line of so many bytes.
+    fn want_refused(&mut self, status: &str, count: &str, line: &str) -> Result<(), AllocError> {
+        write!(
+            self.wanted,
+            "HTTP/1.1 {status}\r\nTus-Resumable: 1.0.0\r\nCache-Control: no-store\r\n\
+            Content-Type: text/plain\r\nContent-Length: {count}\r\n\r\n{line}\n"
+        )
+    }
+
+    /// Wants a refusal that closes the conversation.
+    fn want_closed(&mut self, status: &str, count: &str, line: &str) -> Result<(), AllocError> {
+        write!(
+            self.wanted,
+            "HTTP/1.1 {status}\r\nTus-Resumable: 1.0.0\r\nCache-Control: no-store\r\n\
+            Content-Type: text/plain\r\nContent-Length: {count}\r\nConnection: close\r\n\r\n{line}\n"
+        )
+    }
+
+    /// Serves what is asked on a server without closures, and compares.
+    fn hold(&self, rt: &impl Abort, alloc: Global, settings: &Settings) -> Result<(), Fail> {
+        self.hold_with(rt, alloc, PreHooks::new(Vec::new(alloc)), settings)
+    }
+
+    /// Serves what is asked on a server with these closures, and compares.
+    fn hold_with(
+        &self,
+        rt: &impl Abort,
+        alloc: Global,
+        hooks: PreHooks,
+        settings: &Settings,
+    ) -> Result<(), Fail> {
+        let mut source = Input::new(self.asked.as_bytes());
+        let mut sink = Output::new(Vec::new(alloc));
+        let ended = run_with(alloc, hooks, settings, &mut source, &mut sink);
+        let written = sink.into_inner();
+        let text = str::from_utf8(&written)?;
+        assert_eq!(rt; text, self.wanted.as_str());
+        assert_eq!(rt; ended, Ok(()));
+        Ok(())
+    }
+}
+
+/// A run with these closures, whose post-hooks answer that they are done.
+fn run_with<R: Source, W: Sink>(
+    alloc: Global,
+    hooks: PreHooks,
+    settings: &Settings,
+    source: &mut R,
+    sink: &mut W,
+) -> Result<(), ServerFault> {
+    let answer = |_: &Event| Outcome::Done;
+    let Ok(recorders) = new_recorders(alloc, settings.lanes, answer) else {
+        return Err(ServerFault::Memory);
+    };
+    replay(alloc, hooks, recorders, settings, source, sink)
+}
+
+/// A run without closures.
+fn run_plain<R: Source, W: Sink>(
+    alloc: Global,
+    settings: &Settings,
+    source: &mut R,
+    sink: &mut W,
+) -> Result<(), ServerFault> {
+    run_with(
+        alloc,
+        PreHooks::new(Vec::new(alloc)),
+        settings,
+        source,
+        sink,
+    )
+}
+
+/// How a run over these bytes ends, and what it writes.
+fn served(alloc: Global, settings: &Settings, input: &[u8]) -> (Result<(), ServerFault>, Vec<u8>) {
+    let mut source = Input::new(input);
+    let mut sink = Output::new(Vec::new(alloc));
+    let ended = run_plain(alloc, settings, &mut source, &mut sink);
+    (ended, sink.into_inner())
+}
