@@ -234,8 +234,8 @@ impl Book {
         Ok(Done { response, change })
     }
 
-    /// What would come of a request: the response to one that changes nothing, that another can be committed, or the refusal.
-    /// `NoMemory` comes only to a request that nothing else refuses.
+    /// What would come of a request: the response to one that changes nothing, what closures are asked before one that makes or
+    /// removes an upload, that bytes can be committed, or the refusal. `NoMemory` comes only to a request that nothing else refuses.
     pub fn plan(&self, alloc: Global, request: &Request) -> Result<Plan, Refusal>
         ensures { Answers result (decide_plan self.now request.now) }
     {
