@@ -1,5 +1,5 @@
 -- What a recorder keeps.
-use Rattle.std.specs.Prelude.{◌≡◌, Bool, true, ◌&&◌, nat_le, List, All, IsTrue, map}
+use Rattle.std.specs.Prelude.{Bool, true, ◌&&◌, nat_le, List, All, IsTrue, map}
 use Rattle.std.specs.Fn.{FnReturnsAt}
 use Rattle.std.specs.Borrow.{Bor}
 use denote.Param.Members.{Mut}
@@ -15,10 +15,6 @@ events_told pairs = map (λ pair. pair.0) pairs
 -- the events that a recorder was handed, each with what its closure answered
 abbrev pub told_by : {F : Type 0} → Recorder F → List (Event × Outcome)
 told_by recorder = recorder.pairs.items
-
--- the events that it was handed
-abbrev pub handed_to : {F : Type 0} → Recorder F → List Event
-handed_to recorder = events_told (told_by recorder)
 
 -- a code of a failure is 1 to 99
 abbrev pub has_code : Outcome → Bool
