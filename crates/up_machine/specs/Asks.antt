@@ -1,5 +1,6 @@
 -- What closures are asked.
-use Rattle.std.specs.Prelude.{ℕ, List, [], ◌∷◌, Option, Some, None, length, bytes_eq, if◌then◌else◌}
+use Rattle.std.specs.Prelude.{ℕ, List, Option, length, bytes_eq, option_map}
+use Rattle.std.specs.List.{find}
 use Rattle.up_machine.specs.Content.{Content}
 use Rattle.up_machine.specs.declared.ask.Ask.{Ask}
 use Rattle.up_machine.specs.declared.ask.Point.{Point}
@@ -11,5 +12,4 @@ ask_of point target x =
 
 -- the value of the first pair with the key
 abbrev pub value_of : List ℕ → List (List ℕ × List ℕ) → Option (List ℕ)
-value_of key [] = None
-value_of key (pair ∷ pairs) = if bytes_eq pair.0 key then Some pair.1 else value_of key pairs
+value_of key pairs = option_map (λ pair. pair.1) (find (λ pair. bytes_eq pair.0 key) pairs)

@@ -115,11 +115,11 @@ impl Ask {
     pub fn value(&self, key: &[u8]) -> Option<&[u8]>
         ensures { option_copied result ≡ value_of key.now self.now.pairs }
     {
-        for pair in self.pairs.as_slice() {
-            if pair.0.as_slice() == key {
-                return Some(pair.1.as_slice());
-            }
-        }
-        None
+        let pair = self
+            .pairs
+            .as_slice()
+            .iter()
+            .find(|pair| pair.0.as_slice() == key)?;
+        Some(pair.1.as_slice())
     }
 }
