@@ -4,7 +4,7 @@
 
 ghost use Rattle.std.specs.Prelude.{◌≡◌, IsTrue, string_bytes};
 ghost use Rattle.up_hooks.specs.Verdicts.{is_lawful};
-ghost use Rattle.up_server.specs.Rules.{at_most, keeps, needs_key};
+ghost use Rattle.up_server.specs.Rules.{at_most, finishes_at_most, keeps, needs_key};
 
 use std::alloc::{AllocError, Global};
 use std::io::{self, BufReader, BufWriter};
@@ -13,7 +13,8 @@ use up_events::Event;
 use up_hooks::{Outcome, PreHook, PreHooks};
 use up_machine::{Ask, Point, Verdict};
 use up_server::{
-    ServerFault, Words, WordsFault, at_most, keeps, needs_key, new_recorders, replay, words,
+    ServerFault, Words, WordsFault, at_most, finishes_at_most, keeps, needs_key, new_recorders,
+    replay, words,
 };
 use up_wire::{Input, Output, Sink, Source};
 
@@ -30,6 +31,7 @@ fn serve<R: Source, W: Sink>(
         require_key,
         max_length,
         keep,
+        max_finish,
     } = words;
     let mut hooks = Vec::new(alloc);
     if let Some(key) = require_key {
@@ -52,6 +54,13 @@ fn serve<R: Source, W: Sink>(
             ensures lawful { IsTrue (is_lawful result) }
         { keeps(ask) };
         hooks.push(PreHook::new(Point::Terminate, Box::new(alloc, judge)?))?;
+    }
+    if let Some(limit) = max_finish {
+        let judge = move |ask: &Ask| -> Verdict
+            ensures answer { result ≡ finishes_at_most ask.now limit }
+            ensures lawful { IsTrue (is_lawful result) }
+        { finishes_at_most(ask, limit) };
+        hooks.push(PreHook::new(Point::Finish, Box::new(alloc, judge)?))?;
     }
     let answer = |_: &Event| Outcome::Done;
     let Ok(recorders) = new_recorders(alloc, settings.lanes, answer) else {

@@ -13,7 +13,7 @@ use up_wire::Sequence;
 fn create(alloc: Global, book: &mut Book, id: Id) -> Result<(), Refusal> {
     let new = NewUpload {
         kind: Kind::Plain,
-        length: 8,
+        length: Some(8),
         parts: Sequence::new(alloc),
         pairs: Sequence::new(alloc),
         metadata: None,
@@ -29,9 +29,10 @@ fn append(alloc: Global, book: &mut Book, id: Id) -> Result<(), Refusal> {
         id,
         media: true,
         offset: Some(0),
+        length: None,
         bytes,
     };
-    book.commit(alloc, Request::Patch(patch), id, &Asked::Skipped)?;
+    book.commit(alloc, Request::Patch(patch), id, &Asked::AllowedFinish)?;
     Ok(())
 }
 

@@ -3,11 +3,12 @@ use Rattle.std.proofs.Common.{◌≡◌, ℕ, ◌+◌, ◌%◌, false, cond, eqb
 use Rattle.std.proofs.lemmas.List.Sums.{sum_by-append}
 use Rattle.std.proofs.lemmas.List.Folds.{list_any-append}
 use Rattle.std.proofs.lemmas.Grind.{common_steps}
-use Rattle.up_events.specs.Lists.{gather, EachFollows}
-use Rattle.up_events.specs.History.{id_of, creation_in, bytes_in, ends, or_else, creation_of, received, offset_of, is_terminated, CanFollow, IsLegal, steps_of, events_of}
+use Rattle.std.specs.Option.{option_or}
+use Rattle.up_events.specs.Lists.{gather, EachFollows, first_given}
+use Rattle.up_events.specs.History.{id_of, kind_in, length_in, bytes_in, ends, kind_of, length_of, received, offset_of, is_terminated, CanFollow, IsLegal, steps_of, events_of}
 use Rattle.up_events.specs.Log.{numbered, log_of}
 use Rattle.up_events.specs.declared.event.Accepted.{Accepted}
-use Rattle.up_events.specs.declared.event.Accepted.TheVariants.{Created, Appended, Terminated}
+use Rattle.up_events.specs.declared.event.Accepted.TheVariants.{Created, Appended, Declared, Terminated}
 
 pub append_nil : {X : Type 0} (xs : List X) → xs ++ [] ≡ xs
 append_nil [] = refl
@@ -38,18 +39,26 @@ legal_induction P none more changes legal = legal_from P more [] changes none le
 
 -- ---- one more change
 
-pub or_else_none : {X : Type 0} (x : Option X) → or_else x None ≡ x
-or_else_none None = refl
-or_else_none (Some x) = refl
+pub or_none : {X : Type 0} (x : Option X) → option_or x None ≡ x
+or_none None = refl
+or_none (Some x) = refl
 
-or_else_assoc : {X : Type 0} (x y z : Option X) → or_else x (or_else y z) ≡ or_else (or_else x y) z
-or_else_assoc None y z = refl
-or_else_assoc (Some x) y z = refl
+or_assoc : {X : Type 0} (x y z : Option X) → option_or x (option_or y z) ≡ option_or (option_or x y) z
+or_assoc None y z = refl
+or_assoc (Some x) y z = refl
 
-pub creation_of-snoc : (changes : List Accepted) (c : Accepted) (u : ℕ) → creation_of (changes ++ c ∷ []) u ≡ or_else (creation_of changes u) (creation_in u c)
-unfolding creation_of
-creation_of-snoc [] c u = or_else_none (creation_in u c)
-creation_of-snoc (d ∷ changes) c u = ap (or_else (creation_in u d)) (creation_of-snoc changes c u) ∙ or_else_assoc (creation_in u d) (creation_of changes u) (creation_in u c)
+first_given-snoc : {X Y : Type 0} (f : X → Option Y) (xs : List X) (x : X) → first_given f (xs ++ x ∷ []) ≡ option_or (first_given f xs) (f x)
+unfolding first_given
+first_given-snoc f [] x = or_none (f x)
+first_given-snoc f (y ∷ xs) x = ap (option_or (f y)) (first_given-snoc f xs x) ∙ or_assoc (f y) (first_given f xs) (f x)
+
+pub kind_of-snoc : (changes : List Accepted) (c : Accepted) (u : ℕ) → kind_of (changes ++ c ∷ []) u ≡ option_or (kind_of changes u) (kind_in u c)
+unfolding kind_of
+kind_of-snoc changes c u = first_given-snoc (kind_in u) changes c
+
+pub length_of-snoc : (changes : List Accepted) (c : Accepted) (u : ℕ) → length_of (changes ++ c ∷ []) u ≡ option_or (length_of changes u) (length_in u c)
+unfolding length_of
+length_of-snoc changes c u = first_given-snoc (length_in u) changes c
 
 pub received-snoc : (changes : List Accepted) (c : Accepted) (u : ℕ) → received (changes ++ c ∷ []) u ≡ received changes u + bytes_in u c
 unfolding received
@@ -69,30 +78,42 @@ log_of-snoc lanes changes c k = gather-snoc _ [] changes c
 
 -- ---- another upload stays as it was
 
-creation_in-other : (c : Accepted) (u : ℕ) → eqb (id_of c) u ≡ false → creation_in u c ≡ None
-creation_in-other (Created id length kind) u e = ap (λ b. cond b (Some (length, kind)) None) e
-creation_in-other (Appended id count) u e = refl
-creation_in-other (Terminated id) u e = refl
+kind_in-other : (c : Accepted) (u : ℕ) → eqb (id_of c) u ≡ false → kind_in u c ≡ None
+kind_in-other (Created id length kind) u e = ap (λ b. cond b (Some kind) None) e
+kind_in-other (Appended id count) u e = refl
+kind_in-other (Declared id length count) u e = refl
+kind_in-other (Terminated id) u e = refl
+
+length_in-other : (c : Accepted) (u : ℕ) → eqb (id_of c) u ≡ false → length_in u c ≡ None
+length_in-other (Created id length kind) u e = ap (λ b. cond b length None) e
+length_in-other (Appended id count) u e = refl
+length_in-other (Declared id length count) u e = ap (λ b. cond b (Some length) None) e
+length_in-other (Terminated id) u e = refl
 
 bytes_in-other : (c : Accepted) (u : ℕ) → eqb (id_of c) u ≡ false → bytes_in u c ≡ 0
 bytes_in-other (Created id length kind) u e = refl
 bytes_in-other (Appended id count) u e = ap (λ b. cond b count 0) e
+bytes_in-other (Declared id length count) u e = ap (λ b. cond b count 0) e
 bytes_in-other (Terminated id) u e = refl
 
 ends-other : (c : Accepted) (u : ℕ) → eqb (id_of c) u ≡ false → ends u c ≡ false
 ends-other (Created id length kind) u e = refl
 ends-other (Appended id count) u e = refl
+ends-other (Declared id length count) u e = refl
 ends-other (Terminated id) u e = e
 
-pub creation_of-other : (changes : List Accepted) (c : Accepted) (u : ℕ) → eqb (id_of c) u ≡ false → creation_of (changes ++ c ∷ []) u ≡ creation_of changes u
-creation_of-other changes c u e = creation_of-snoc changes c u ∙ ap (or_else (creation_of changes u)) (creation_in-other c u e) ∙ or_else_none _
+pub kind_of-other : (changes : List Accepted) (c : Accepted) (u : ℕ) → eqb (id_of c) u ≡ false → kind_of (changes ++ c ∷ []) u ≡ kind_of changes u
+kind_of-other changes c u e = kind_of-snoc changes c u ∙ ap (option_or (kind_of changes u)) (kind_in-other c u e) ∙ or_none _
+
+pub length_of-other : (changes : List Accepted) (c : Accepted) (u : ℕ) → eqb (id_of c) u ≡ false → length_of (changes ++ c ∷ []) u ≡ length_of changes u
+length_of-other changes c u e = length_of-snoc changes c u ∙ ap (option_or (length_of changes u)) (length_in-other c u e) ∙ or_none _
 
 pub received-other : (changes : List Accepted) (c : Accepted) (u : ℕ) → eqb (id_of c) u ≡ false → received (changes ++ c ∷ []) u ≡ received changes u
 received-other changes c u e = omega (arith, received-snoc changes c u, bytes_in-other c u e)
 
 pub offset_of-other : (changes : List Accepted) (c : Accepted) (u : ℕ) → eqb (id_of c) u ≡ false → offset_of (changes ++ c ∷ []) u ≡ offset_of changes u
 unfolding offset_of
-offset_of-other changes c u e = rw (creation_of-other changes c u e, received-other changes c u e) refl
+offset_of-other changes c u e = rw (kind_of-other changes c u e, length_of-other changes c u e, received-other changes c u e) refl
 
 pub is_terminated-other : (changes : List Accepted) (c : Accepted) (u : ℕ) → eqb (id_of c) u ≡ false → is_terminated (changes ++ c ∷ []) u ≡ is_terminated changes u
 is_terminated-other changes c u e = grind (arith, common_steps, is_terminated-snoc changes c u, ends-other c u e)

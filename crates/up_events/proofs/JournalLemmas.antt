@@ -12,46 +12,57 @@ use Rattle.std.specs.declared.cmp.Ordering.{Ordering}
 use Rattle.std.specs.declared.cmp.Ordering.TheVariants.{Less, Equal, Greater}
 use Rattle.std.specs.declared.alloc.Global.{Global}
 use Rattle.up_events.specs.declared.event.Accepted.{Accepted}
-use Rattle.up_events.specs.declared.event.Accepted.TheVariants.{Created, Appended, Terminated}
+use Rattle.up_events.specs.declared.event.Accepted.TheVariants.{Created, Appended, Declared, Terminated}
 use Rattle.up_events.specs.declared.event.Event.{Event}
 use Rattle.up_events.specs.declared.track.Track.{Track}
 use Rattle.up_events.specs.declared.journal.Journal.TheInside.{Inside}
-use Rattle.up_events.specs.Lists.{gather, EachFollows}
-use Rattle.up_events.specs.History.{id_of, creation_of, is_final, offset_of, is_known, is_terminated, CanFollow, IsLegal, Step, steps_at, steps_of, events_of}
+use Rattle.up_events.specs.Lists.{gather, EachFollows, first_given}
+use Rattle.up_events.specs.History.{id_of, kind_of, length_of, is_final, offset_of, is_known, is_terminated, CanFollow, IsLegal, Step, steps_at, steps_of, events_of}
 use Rattle.up_events.specs.Log.{numbered, log_of}
 use Rattle.up_events.specs.Records.{ArePlaces, AreEmpty}
 use Rattle.up_events.specs.Reached.{reached, bytes_of}
 use Rattle.up_events.specs.Kept.{IsKept, track_of}
-use Rattle.up_events.proofs.HistoryLemmas.{append_nil, EachFollows-snoc, log_of-snoc, creation_of-other, offset_of-other, events_of-other}
-use Rattle.up_events.proofs.Sound.{IsSound, sound, alive_known, creation_of-created, creation_of-appended, creation_of-terminated, offset_of-plain, track_of-unknown, steps_of-reached, track_of-reached}
+use Rattle.up_events.proofs.HistoryLemmas.{append_nil, EachFollows-snoc, log_of-snoc, kind_of-other, length_of-other, offset_of-other, events_of-other}
+use Rattle.up_events.proofs.Sound.{IsSound, sound, alive_known, kind_of-created, kind_of-appended, kind_of-declared, kind_of-terminated, offset_of-plain, track_of-unknown, steps_of-reached, track_of-reached}
 
 -- ---- numbers fit
 
+at_most_one : (b : Bool) → cond b 1 0 ≤ 1
+at_most_one true = omega arith
+at_most_one false = omega arith
+
+one_or_two : (b : Bool) → cond b 2 1 ≤ 2
+one_or_two true = omega arith
+one_or_two false = omega arith
+
 pub few_events : (changes : List Accepted) (u : ℕ) → IsSound changes u → length (events_of changes u) + 2 < 2 ^ 64
 few_events changes u s =
-    let ended : cond (is_terminated changes u) 3 2 ≤ 3 = elim (is_terminated changes u) as (λ b. cond b 3 2 ≤ 3) [ true ↦ omega arith | false ↦ omega arith ] in
-    elim (is_final (creation_of changes u)) as (λ b. is_final (creation_of changes u) ≡ b → length (events_of changes u) + 2 < 2 ^ 64) [
+    let ended = at_most_one (is_terminated changes u) in
+    let told = one_or_two (is_some (length_of changes u)) in
+    elim (is_final (kind_of changes u)) as (λ b. is_final (kind_of changes u) ≡ b → length (events_of changes u) + 2 < 2 ^ 64) [
       | true ↦ λ e. omega (arith, s.few, s.final e)
       | false ↦ λ e. omega (arith, s.few, offset_of-plain changes u e, s.within, s.small)
     ] refl
 
 pub bytes_fit : (changes : List Accepted) (c : Accepted) → IsSound changes (id_of c) → CanFollow changes c → offset_of changes (id_of c) + bytes_of c < 2 ^ 64
 bytes_fit changes (Created u n kind) s can = omega (arith, s.within, s.small)
-bytes_fit changes (Appended u n) s can = omega (arith, can.3, s.small)
+bytes_fit changes (Appended u n) s can = omega (arith, can.2, s.small)
+bytes_fit changes (Declared u n k) s can = omega (arith, can.2, can.3)
 bytes_fit changes (Terminated u) s can = omega (arith, s.within, s.small)
 
 pub events-reached : (t : Track) (c : Accepted) → (reached t c).events ≡ t.events
 events-reached t (Created u n kind) = refl
 events-reached t (Appended u n) = refl
+events-reached t (Declared u n k) = refl
 events-reached t (Terminated u) = refl
 
 -- ---- the table of tracks
 
-at_known : (b : Bool) (t : Track) (o : Option Track) → o ≡ cond b (Some t) None → (b ≡ false → t ≡ record { events = 0; offset = 0; length = 0 }) → unwrap_or o (record { events = 0; offset = 0; length = 0 }) ≡ t
-at_known true t o e h = ap (λ o. unwrap_or o (record { events = 0; offset = 0; length = 0 })) e
-at_known false t o e h = ap (λ o. unwrap_or o (record { events = 0; offset = 0; length = 0 })) e ∙ sym (h refl)
+at_known : (b : Bool) (t : Track) (o : Option Track) → o ≡ cond b (Some t) None → (b ≡ false → t ≡ record { events = 0; offset = 0; length = None }) → unwrap_or o (record { events = 0; offset = 0; length = None }) ≡ t
+at_known true t o e h = ap (λ o. unwrap_or o (record { events = 0; offset = 0; length = None })) e
+at_known false t o e h = ap (λ o. unwrap_or o (record { events = 0; offset = 0; length = None })) e ∙ sym (h refl)
 
-pub track_found : (a : Inside) → IsKept a → (u : ℕ) (o : Option Track) → o ≡ get nat_cmp a.tracks u → unwrap_or o (record { events = 0; offset = 0; length = 0 }) ≡ track_of a.accepted.items u
+pub track_found : (a : Inside) → IsKept a → (u : ℕ) (o : Option Track) → o ≡ get nat_cmp a.tracks u → unwrap_or o (record { events = 0; offset = 0; length = None }) ≡ track_of a.accepted.items u
 track_found a k u o e = at_known (is_known a.accepted.items u) _ o (e ∙ k.tracks u) (track_of-unknown a.accepted.items u (sound a.accepted.items k.legal u))
 
 equal_from : (r : Ordering) → is_eq r ≡ true → r ≡ Equal
@@ -66,12 +77,13 @@ pub other_id : (k u : ℕ) → is_at (nat_cmp k) u ≡ false → eqb k u ≡ fal
 other_id k u e = elim (eqb k u) as (λ b. eqb k u ≡ b → b ≡ false) [ true ↦ λ h. absurd (false≢true (sym e ∙ grind (arith, eqb-true k u h, nat_cmp_total))) | false ↦ λ h. refl ] refl
 
 pub known_after : (changes : List Accepted) (c : Accepted) → CanFollow changes c → is_known (changes ++ c ∷ []) (id_of c) ≡ true
-known_after changes (Created u n kind) can = ap is_some (creation_of-created changes u n kind can.0)
-known_after changes (Appended u n) can = ap is_some (creation_of-appended changes u n u) ∙ (alive_known (is_known changes u) (is_terminated changes u) can.0).0
-known_after changes (Terminated u) can = ap is_some (creation_of-terminated changes u u) ∙ (alive_known (is_known changes u) (is_terminated changes u) can).0
+known_after changes (Created u n kind) can = ap is_some (kind_of-created changes u n kind can.0)
+known_after changes (Appended u n) can = ap is_some (kind_of-appended changes u n u) ∙ (alive_known (is_known changes u) (is_terminated changes u) can.0.0).0
+known_after changes (Declared u n k) can = ap is_some (kind_of-declared changes u n k u) ∙ (alive_known (is_known changes u) (is_terminated changes u) can.0.0).0
+known_after changes (Terminated u) can = ap is_some (kind_of-terminated changes u u) ∙ (alive_known (is_known changes u) (is_terminated changes u) can).0
 
 unmoved : (changes : List Accepted) (c : Accepted) (u : ℕ) → eqb (id_of c) u ≡ false → cond (is_known changes u) (Some (track_of changes u)) None ≡ cond (is_known (changes ++ c ∷ []) u) (Some (track_of (changes ++ c ∷ []) u)) None
-unmoved changes c u e = rw (creation_of-other changes c u e, events_of-other changes c u e, offset_of-other changes c u e) refl
+unmoved changes c u e = rw (kind_of-other changes c u e, length_of-other changes c u e, events_of-other changes c u e, offset_of-other changes c u e) refl
 
 pub tracks_after : (changes : List Accepted) (c : Accepted) (t : Track) (m n : BTreeMap ℕ Track) → CanFollow changes c → ((u : ℕ) → get nat_cmp m u ≡ cond (is_known changes u) (Some (track_of changes u)) None) → Updates nat_cmp m n (id_of c) (Some t) → t ≡ track_of (changes ++ c ∷ []) (id_of c) → (u : ℕ) → get nat_cmp n u ≡ cond (is_known (changes ++ c ∷ []) u) (Some (track_of (changes ++ c ∷ []) u)) None
 tracks_after changes c t m n can before updates e u =
@@ -199,7 +211,7 @@ pub AreEmpty-push : (n : ℕ) (logs : List (Vec Event Global)) (new : Vec Event 
 AreEmpty-push n logs new are none = record { rows = length-append logs (new ∷ []) ∙ omega (arith, are.rows); empty = get-push (λ v. v.items ≡ []) logs new are.empty none }
 
 pub kept_new : (lanes : ℕ) (accepted : Vec Accepted Global) (logs : Vec (Vec Event Global) Global) (tracks : BTreeMap ℕ Track) → 0 < lanes → lanes ≤ 16 → accepted.items ≡ [] → AreEmpty lanes logs.items → tracks.entries ≡ [] → IsKept (record { lanes = lanes; accepted = accepted; logs = logs; tracks = tracks })
-unfolding log_of gather creation_of EachFollows
+unfolding log_of gather kind_of first_given EachFollows
 kept_new lanes accepted logs tracks some few none are empty = record {
   some_lane = some;
   few_lanes = few;

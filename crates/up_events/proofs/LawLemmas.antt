@@ -1,19 +1,19 @@
 -- The events of an upload of a legal list begin with Create, have at most one Finish, and end with Terminate.
-use Rattle.std.proofs.Common.{◌≡◌, ◌≢◌, ℕ, ◌+◌, ◌≤◌, Bool, true, false, cond, eqb, option_map, unwrap_or, List, [], ◌∷◌, ◌++◌, refl, sym, ap, ◌∙◌, subst, arith, count_by, filter, ◌%◌}
+use Rattle.std.proofs.Common.{◌≡◌, ◌≢◌, ℕ, ◌+◌, ◌≤◌, Bool, true, false, cond, eqb, Option, Some, None, List, [], ◌∷◌, ◌++◌, refl, sym, ap, ◌∙◌, subst, arith, count_by, filter, ◌%◌}
 use Rattle.std.proofs.lemmas.Bool.{eqb-true, false≢true}
 use Rattle.std.proofs.lemmas.List.Sums.{sum_by-append}
 use Rattle.up_events.specs.declared.event.Accepted.{Accepted}
-use Rattle.up_events.specs.declared.event.Accepted.TheVariants.{Created, Appended, Terminated}
+use Rattle.up_events.specs.declared.event.Accepted.TheVariants.{Created, Appended, Declared, Terminated}
 use Rattle.up_events.specs.declared.event.Hook.{Hook}
 use Rattle.up_events.specs.declared.event.Hook.TheVariants.{Create, Receive, Finish, Terminate}
 use Rattle.up_events.specs.declared.event.Kind.{Kind}
-use Rattle.up_events.specs.Lists.{gather}
-use Rattle.up_events.specs.History.{id_of, creation_of, length_of, offset_of, is_known, is_terminated, CanFollow, IsLegal, Step, finish_at, steps_at, events_of}
+use Rattle.up_events.specs.Lists.{gather, first_given}
+use Rattle.up_events.specs.History.{id_of, kind_of, length_of, offset_of, is_known, is_terminated, most_of, CanFollow, IsLegal, Step, is_whole, receive_at, finish_at, steps_at, events_of}
 use Rattle.up_events.specs.declared.event.Event.{Event}
 use Rattle.up_events.specs.Log.{is_finish, numbered, log_of, is_of, IsLawfulRun, IsLawful}
 use Rattle.up_events.proofs.LogLemmas.{own_is, own_away, counts-numbered}
-use Rattle.up_events.proofs.HistoryLemmas.{legal_induction, creation_of-other, offset_of-other, is_terminated-other, events_of-other}
-use Rattle.up_events.proofs.Sound.{IsSound, sound, sound_empty, sound_more, alive_known, events_of-own, creation_of-appended, creation_of-terminated, offset_of-terminated, is_terminated-terminated}
+use Rattle.up_events.proofs.HistoryLemmas.{legal_induction, kind_of-other, length_of-other, offset_of-other, is_terminated-other, events_of-other}
+use Rattle.up_events.proofs.Sound.{IsSound, sound, sound_empty, sound_more, alive_known, events_of-own, length_of-terminated, offset_of-terminated, is_terminated-terminated}
 
 abbrev pub Begins : List Step → Type 0
 Begins [] = Unit {0}
@@ -54,11 +54,17 @@ goes_ends : (xs : List Step) → GoesOn xs → EndsOnce xs
 goes_ends [] g = tt
 goes_ends (x ∷ xs) g = (λ e. absurd (false≢true (sym g.0 ∙ e)), goes_ends xs g.1)
 
-finish_goes : (o n : ℕ) → GoesOn (finish_at o n)
-finish_goes o n = elim (eqb o n) as (λ b. GoesOn (cond b (let s : Step = (Finish, o, n) in s ∷ []) [])) [ true ↦ (refl, tt) | false ↦ tt ]
+finish_goes : (o : ℕ) (n : Option ℕ) → GoesOn (finish_at o n)
+finish_goes o n = elim (is_whole o n) as (λ b. GoesOn (cond b (let s : Step = (Finish, o, n) in s ∷ []) [])) [ true ↦ (refl, tt) | false ↦ tt ]
 
-finish_count : (o n : ℕ) → finishes (finish_at o n) ≡ cond (eqb o n) 1 0
-finish_count o n = elim (eqb o n) as (λ b. finishes (cond b (let s : Step = (Finish, o, n) in s ∷ []) []) ≡ cond b 1 0) [ true ↦ refl | false ↦ refl ]
+finish_count : (o : ℕ) (n : Option ℕ) → finishes (finish_at o n) ≡ cond (is_whole o n) 1 0
+finish_count o n = elim (is_whole o n) as (λ b. finishes (cond b (let s : Step = (Finish, o, n) in s ∷ []) []) ≡ cond b 1 0) [ true ↦ refl | false ↦ refl ]
+
+receive_goes : (k o : ℕ) (n : Option ℕ) → GoesOn (receive_at k o n)
+receive_goes k o n = elim (eqb k 0) as (λ b. GoesOn (cond b [] (let s : Step = (Receive, o, n) in s ∷ []))) [ true ↦ tt | false ↦ (refl, tt) ]
+
+receive_count : (k o : ℕ) (n : Option ℕ) → finishes (receive_at k o n) ≡ 0
+receive_count k o n = elim (eqb k 0) as (λ b. finishes (cond b [] (let s : Step = (Receive, o, n) in s ∷ [])) ≡ 0) [ true ↦ refl | false ↦ refl ]
 
 cons_some : (s : Step) (steps : List Step) → s ∷ steps ≡ [] → ⊥
 cons_some s steps e = cc
@@ -67,10 +73,14 @@ append_some : (xs : List Step) (s : Step) (ys : List Step) → xs ++ s ∷ ys �
 append_some [] s ys e = cc
 append_some (x ∷ xs) s ys e = cc
 
+append_nothing : (xs ys : List Step) → xs ++ ys ≡ [] → xs ≡ []
+append_nothing [] ys e = refl
+append_nothing (x ∷ xs) ys e = absurd (cc)
+
 pub record IsRun (changes : List Accepted) (u : ℕ) : Type 0 where
   pub begins : Begins (events_of changes u)
   pub some : is_known changes u ≡ true → events_of changes u ≢ []
-  pub count : is_known changes u ≡ true → finishes (events_of changes u) ≡ cond (eqb (offset_of changes u) (unwrap_or (length_of changes u) 0)) 1 0
+  pub count : is_known changes u ≡ true → finishes (events_of changes u) ≡ cond (is_whole (offset_of changes u) (length_of changes u)) 1 0
   pub goes : is_terminated changes u ≡ false → GoesOn (events_of changes u)
   pub ends : EndsOnce (events_of changes u)
 
@@ -79,21 +89,21 @@ Both changes = (u : ℕ) → IsSound changes u × IsRun changes u
 
 run_other : (changes : List Accepted) (c : Accepted) (u : ℕ) → IsRun changes u → eqb (id_of c) u ≡ false → IsRun (changes ++ c ∷ []) u
 run_other changes c u r e =
-    let known = creation_of-other changes c u e in
+    let kind = kind_of-other changes c u e in
     let events = events_of-other changes c u e in
     record {
       begins = rw events r.begins;
-      some = rw (known, events) r.some;
-      count = rw (known, events, offset_of-other changes c u e) r.count;
+      some = rw (kind, events) r.some;
+      count = rw (kind, events, offset_of-other changes c u e, length_of-other changes c u e) r.count;
       goes = rw (events, is_terminated-other changes c u e) r.goes;
       ends = rw events r.ends;
     }
 
-run_created : (changes : List Accepted) (u n : ℕ) (kind : Kind) → IsSound changes u → CanFollow changes (Created u n kind) → IsRun (changes ++ Created u n kind ∷ []) u
+run_created : (changes : List Accepted) (u : ℕ) (n : Option ℕ) (kind : Kind) → IsSound changes u → CanFollow changes (Created u n kind) → IsRun (changes ++ Created u n kind ∷ []) u
 run_created changes u n kind s can =
     let c : Accepted = Created u n kind in
     let o = offset_of (changes ++ c ∷ []) u in
-    let m = unwrap_or (length_of (changes ++ c ∷ []) u) 0 in
+    let m = length_of (changes ++ c ∷ []) u in
     let events : events_of (changes ++ c ∷ []) u ≡ steps_at c o m = events_of-own changes c ∙ ap (λ l. l ++ steps_at c o m) (s.no_events can.0) in
     let f : Step = (Create, o, m) in
     record {
@@ -104,21 +114,21 @@ run_created changes u n kind s can =
       ends = subst EndsOnce (sym events) (goes_ends (steps_at c o m) (refl, finish_goes o m));
     }
 
-below_apart : (o count m : ℕ) → o + count ≤ m → 1 ≤ count → eqb o m ≡ false
-below_apart o count m room some = elim (eqb o m) as (λ b. eqb o m ≡ b → b ≡ false) [ true ↦ λ e. let same = eqb-true o m e in absurd (omega arith) | false ↦ λ e. refl ] refl
+below_apart : (o count : ℕ) (n : Option ℕ) → o + count ≤ most_of n → 1 ≤ count → is_whole o n ≡ false
+below_apart o count None room some = refl
+below_apart o count (Some m) room some = elim (eqb o m) as (λ b. eqb o m ≡ b → b ≡ false) [ true ↦ λ e. let same = eqb-true o m e in absurd (omega arith) | false ↦ λ e. refl ] refl
 
 run_appended : (changes : List Accepted) (u n : ℕ) → IsRun changes u → CanFollow changes (Appended u n) → IsRun (changes ++ Appended u n ∷ []) u
 run_appended changes u n r can =
     let c : Accepted = Appended u n in
     let o = offset_of (changes ++ c ∷ []) u in
-    let m = unwrap_or (length_of (changes ++ c ∷ []) u) 0 in
-    let alive = alive_known (is_known changes u) (is_terminated changes u) can.0 in
-    let known = creation_of-appended changes u n u in
+    let m = length_of (changes ++ c ∷ []) u in
+    let alive = alive_known (is_known changes u) (is_terminated changes u) can.0.0 in
     let events : events_of (changes ++ c ∷ []) u ≡ events_of changes u ++ steps_at c o m = events_of-own changes c in
     let f : Step = (Receive, o, m) in
     let goes = r.goes alive.1 in
-    let before : finishes (events_of changes u) ≡ 0 = r.count alive.0 ∙ ap (λ b. cond b 1 0) (below_apart (offset_of changes u) n (unwrap_or (length_of changes u) 0) can.3 can.2) in
-    let added : finishes (steps_at c o m) ≡ cond (eqb o m) 1 0 = sum_by-append (λ (s : Step). cond (is_finish s.0) 1 0) (f ∷ []) (finish_at o m) ∙ omega (arith, finish_count o m) in
+    let before : finishes (events_of changes u) ≡ 0 = r.count alive.0 ∙ ap (λ b. cond b 1 0) (below_apart (offset_of changes u) n (length_of changes u) can.2 can.1) in
+    let added : finishes (steps_at c o m) ≡ cond (is_whole o m) 1 0 = sum_by-append (λ (s : Step). cond (is_finish s.0) 1 0) (f ∷ []) (finish_at o m) ∙ omega (arith, finish_count o m) in
     record {
       begins = subst Begins (sym events) (begins_append (events_of changes u) (steps_at c o m) r.begins (λ none. absurd (r.some alive.0 none)));
       some = λ _ none. absurd (append_some (events_of changes u) f (finish_at o m) (sym events ∙ none));
@@ -127,13 +137,32 @@ run_appended changes u n r can =
       ends = subst EndsOnce (sym events) (ends_append (events_of changes u) (steps_at c o m) goes (goes_ends (steps_at c o m) (refl, finish_goes o m)));
     }
 
+run_declared : (changes : List Accepted) (u n k : ℕ) → IsRun changes u → CanFollow changes (Declared u n k) → IsRun (changes ++ Declared u n k ∷ []) u
+run_declared changes u n k r can =
+    let c : Accepted = Declared u n k in
+    let o = offset_of (changes ++ c ∷ []) u in
+    let m = length_of (changes ++ c ∷ []) u in
+    let alive = alive_known (is_known changes u) (is_terminated changes u) can.0.0 in
+    let events : events_of (changes ++ c ∷ []) u ≡ events_of changes u ++ steps_at c o m = events_of-own changes c in
+    let goes = r.goes alive.1 in
+    let before : finishes (events_of changes u) ≡ 0 = r.count alive.0 ∙ ap (λ n. cond (is_whole (offset_of changes u) n) 1 0) can.1 in
+    let added : finishes (steps_at c o m) ≡ cond (is_whole o m) 1 0 = sum_by-append (λ (s : Step). cond (is_finish s.0) 1 0) (receive_at k o m) (finish_at o m) ∙ omega (arith, receive_count k o m, finish_count o m) in
+    let on : GoesOn (steps_at c o m) = goes_append (receive_at k o m) (finish_at o m) (receive_goes k o m) (finish_goes o m) in
+    record {
+      begins = subst Begins (sym events) (begins_append (events_of changes u) (steps_at c o m) r.begins (λ none. absurd (r.some alive.0 none)));
+      some = λ _ none. absurd (r.some alive.0 (append_nothing (events_of changes u) (steps_at c o m) (sym events ∙ none)));
+      count = λ _. ap finishes events ∙ sum_by-append (λ (s : Step). cond (is_finish s.0) 1 0) (events_of changes u) (steps_at c o m) ∙ omega (arith, before, added);
+      goes = λ _. subst GoesOn (sym events) (goes_append (events_of changes u) (steps_at c o m) goes on);
+      ends = subst EndsOnce (sym events) (ends_append (events_of changes u) (steps_at c o m) goes (goes_ends (steps_at c o m) on));
+    }
+
 run_terminated : (changes : List Accepted) (u : ℕ) → IsRun changes u → CanFollow changes (Terminated u) → IsRun (changes ++ Terminated u ∷ []) u
 run_terminated changes u r can =
     let c : Accepted = Terminated u in
     let o = offset_of (changes ++ c ∷ []) u in
-    let m = unwrap_or (length_of (changes ++ c ∷ []) u) 0 in
+    let m = length_of (changes ++ c ∷ []) u in
     let alive = alive_known (is_known changes u) (is_terminated changes u) can in
-    let known = creation_of-terminated changes u u in
+    let size = length_of-terminated changes u u in
     let offset = offset_of-terminated changes u u in
     let events : events_of (changes ++ c ∷ []) u ≡ events_of changes u ++ steps_at c o m = events_of-own changes c in
     let f : Step = (Terminate, o, m) in
@@ -142,7 +171,7 @@ run_terminated changes u r can =
     record {
       begins = subst Begins (sym events) (begins_append (events_of changes u) (steps_at c o m) r.begins (λ none. absurd (r.some alive.0 none)));
       some = λ _ none. absurd (append_some (events_of changes u) f [] (sym events ∙ none));
-      count = λ _. ap finishes events ∙ sum_by-append (λ (s : Step). cond (is_finish s.0) 1 0) (events_of changes u) (steps_at c o m) ∙ (omega arith ∙ r.count alive.0) ∙ ap (λ k. cond (eqb k (unwrap_or (length_of changes u) 0)) 1 0) (sym offset) ∙ ap (λ q. cond (eqb o (unwrap_or (option_map (λ (p : ℕ × Kind). p.0) q) 0)) 1 0) (sym known);
+      count = λ _. ap finishes events ∙ sum_by-append (λ (s : Step). cond (is_finish s.0) 1 0) (events_of changes u) (steps_at c o m) ∙ (omega arith ∙ r.count alive.0) ∙ ap (λ k. cond (is_whole k (length_of changes u)) 1 0) (sym offset) ∙ ap (λ q. cond (is_whole o q) 1 0) (sym size);
       goes = λ h. absurd (false≢true (sym h ∙ ended));
       ends = subst EndsOnce (sym events) (ends_append (events_of changes u) (steps_at c o m) goes (λ _. refl, tt));
     }
@@ -150,6 +179,7 @@ run_terminated changes u r can =
 run_own : (changes : List Accepted) (c : Accepted) → IsSound changes (id_of c) → IsRun changes (id_of c) → CanFollow changes c → IsRun (changes ++ c ∷ []) (id_of c)
 run_own changes (Created u n kind) s r can = run_created changes u n kind s can
 run_own changes (Appended u n) s r can = run_appended changes u n r can
+run_own changes (Declared u n k) s r can = run_declared changes u n k r can
 run_own changes (Terminated u) s r can = run_terminated changes u r can
 
 run_more : (changes : List Accepted) (c : Accepted) → ((u : ℕ) → IsSound changes u) → ((u : ℕ) → IsRun changes u) → CanFollow changes c → (u : ℕ) → IsRun (changes ++ c ∷ []) u
@@ -160,7 +190,7 @@ run_more changes c sounds runs can u =
     ] refl
 
 run_empty : (u : ℕ) → IsRun [] u
-unfolding events_of gather creation_of
+unfolding events_of gather kind_of first_given
 run_empty u = record { begins = tt; some = λ h. absurd (false≢true h); count = λ h. absurd (false≢true h); goes = λ _. tt; ends = tt }
 
 runs_both : (changes : List Accepted) → IsLegal changes → ((u : ℕ) → IsSound changes u) × ((u : ℕ) → IsRun changes u)
@@ -207,7 +237,7 @@ cond_le k false e = omega arith
 
 at_most_one : (changes : List Accepted) (u : ℕ) → IsSound changes u → IsRun changes u → finishes (events_of changes u) ≤ 1
 at_most_one changes u s r = elim (is_known changes u) as (λ b. is_known changes u ≡ b → finishes (events_of changes u) ≤ 1) [
-  | true ↦ λ e. cond_le (finishes (events_of changes u)) (eqb (offset_of changes u) (unwrap_or (length_of changes u) 0)) (r.count e)
+  | true ↦ λ e. cond_le (finishes (events_of changes u)) (is_whole (offset_of changes u) (length_of changes u)) (r.count e)
   | false ↦ λ e. let z : finishes (events_of changes u) ≡ 0 = ap finishes (s.no_events e) in omega arith
 ] refl
 

@@ -1,9 +1,9 @@
 -- The list of accepted changes: when it is legal, what it says of each upload, and which events it defines.
-use Rattle.std.specs.Prelude.{◌≡◌, ℕ, ◌+◌, ◌≤◌, ◌^◌, Bool, true, false, ◌&&◌, not, Option, Some, None, is_some, option_map, unwrap_or, List, [], ◌∷◌, ◌++◌, sum_by, if◌then◌else◌, ◌==◌}
+use Rattle.std.specs.Prelude.{◌≡◌, ℕ, ◌+◌, ◌≤◌, ◌^◌, Bool, true, false, ◌&&◌, not, Option, Some, None, is_some, is_none, unwrap_or, List, [], ◌∷◌, ◌++◌, sum_by, if◌then◌else◌, ◌==◌}
 use Rattle.std.specs.List.{list_any}
-use Rattle.up_events.specs.Lists.{gather, EachFollows}
+use Rattle.up_events.specs.Lists.{gather, EachFollows, first_given}
 use Rattle.up_events.specs.declared.event.Accepted.{Accepted}
-use Rattle.up_events.specs.declared.event.Accepted.TheVariants.{Created, Appended, Terminated}
+use Rattle.up_events.specs.declared.event.Accepted.TheVariants.{Created, Appended, Declared, Terminated}
 use Rattle.up_events.specs.declared.event.Hook.{Hook}
 use Rattle.up_events.specs.declared.event.Hook.TheVariants.{Create, Receive, Finish, Terminate}
 use Rattle.up_events.specs.declared.event.Kind.{Kind}
@@ -13,43 +13,44 @@ use Rattle.up_events.specs.declared.event.Kind.TheVariants.{Plain, Partial, Fina
 abbrev pub id_of : Accepted → ℕ
 id_of (Created id length kind) = id
 id_of (Appended id count) = id
+id_of (Declared id length count) = id
 id_of (Terminated id) = id
 
--- the length and the kind of this upload, where the change creates it
-abbrev pub creation_in : ℕ → Accepted → Option (ℕ × Kind)
-creation_in u (Created id length kind) = if id == u then Some (length, kind) else None
-creation_in u (Appended id count) = None
-creation_in u (Terminated id) = None
+-- the kind of this upload, where the change tells it
+abbrev pub kind_in : ℕ → Accepted → Option Kind
+kind_in u (Created id length kind) = if id == u then Some kind else None
+kind_in u (Appended id count) = None
+kind_in u (Declared id length count) = None
+kind_in u (Terminated id) = None
+
+-- the length of this upload, where the change tells it
+abbrev pub length_in : ℕ → Accepted → Option ℕ
+length_in u (Created id length kind) = if id == u then length else None
+length_in u (Appended id count) = None
+length_in u (Declared id length count) = if id == u then Some length else None
+length_in u (Terminated id) = None
 
 -- how many bytes the change adds to this upload
 abbrev pub bytes_in : ℕ → Accepted → ℕ
 bytes_in u (Created id length kind) = 0
 bytes_in u (Appended id count) = if id == u then count else 0
+bytes_in u (Declared id length count) = if id == u then count else 0
 bytes_in u (Terminated id) = 0
 
 -- whether the change ends this upload
 abbrev pub ends : ℕ → Accepted → Bool
 ends u (Created id length kind) = false
 ends u (Appended id count) = false
+ends u (Declared id length count) = false
 ends u (Terminated id) = id == u
 
--- the first of two options that is there
-abbrev pub or_else : {X : Type 0} → Option X → Option X → Option X
-or_else (Some x) y = Some x
-or_else None y = y
-
--- the length and the kind that an upload was created with
-unfoldable pub creation_of : List Accepted → ℕ → Option (ℕ × Kind)
-creation_of [] u = None
-creation_of (c ∷ changes) u = or_else (creation_in u c) (creation_of changes u)
-
--- how many bytes an upload has once it is complete
-abbrev pub length_of : List Accepted → ℕ → Option ℕ
-length_of changes u = option_map (λ (p : ℕ × Kind). p.0) (creation_of changes u)
-
 -- the kind that an upload was created with
-abbrev pub kind_of : List Accepted → ℕ → Option Kind
-kind_of changes u = option_map (λ (p : ℕ × Kind). p.1) (creation_of changes u)
+unfoldable pub kind_of : List Accepted → ℕ → Option Kind
+kind_of changes u = first_given (kind_in u) changes
+
+-- how many bytes an upload has once it is complete: none while its length isn't known
+unfoldable pub length_of : List Accepted → ℕ → Option ℕ
+length_of changes u = first_given (length_in u) changes
 
 -- how many bytes were appended to an upload
 unfoldable pub received : List Accepted → ℕ → ℕ
@@ -61,18 +62,18 @@ is_final_kind Plain = false
 is_final_kind Partial = false
 is_final_kind Final = true
 
--- whether this is the creation of a final upload
-abbrev pub is_final : Option (ℕ × Kind) → Bool
+-- whether this is the kind of a final upload
+abbrev pub is_final : Option Kind → Bool
 is_final None = false
-is_final (Some p) = is_final_kind p.1
+is_final (Some kind) = is_final_kind kind
 
 -- how far an upload has come: a final one to its length, any other to all that was appended to it
 unfoldable pub offset_of : List Accepted → ℕ → ℕ
-offset_of changes u = if is_final (creation_of changes u) then unwrap_or (length_of changes u) 0 else received changes u
+offset_of changes u = if is_final (kind_of changes u) then unwrap_or (length_of changes u) 0 else received changes u
 
 -- whether an upload was ever created
 abbrev pub is_known : List Accepted → ℕ → Bool
-is_known changes u = is_some (creation_of changes u)
+is_known changes u = is_some (kind_of changes u)
 
 -- whether some change ended an upload
 unfoldable pub is_terminated : List Accepted → ℕ → Bool
@@ -82,13 +83,22 @@ is_terminated changes u = list_any (ends u) changes
 abbrev pub is_alive : List Accepted → ℕ → Bool
 is_alive changes u = is_known changes u && not (is_terminated changes u)
 
--- what may be accepted after these changes: the creation of a new upload of at most 2^30 bytes, at
--- least one more byte of an upload that is there and isn't final, up to its length, or the end of one
--- that is there
+-- the most bytes that an upload of this length may have: 2^30 while it isn't known
+abbrev pub most_of : Option ℕ → ℕ
+most_of length = unwrap_or length (2 ^ 30)
+
+-- an upload that is there, and isn't final
+abbrev pub IsOpen : List Accepted → ℕ → Type 0
+IsOpen before u = (is_alive before u ≡ true) × (is_final (kind_of before u) ≡ false)
+
+-- what may be accepted after these changes: the creation of a new upload of at most 2^30 bytes, whose
+-- length is known if it is a final one; at least one more byte of an upload that is there and isn't
+-- final, up to its length; the length of such an upload while it isn't known, of at most 2^30 bytes,
+-- with bytes up to it, perhaps none; or the end of an upload that is there
 abbrev pub CanFollow : List Accepted → Accepted → Type 0
-CanFollow before (Created id length kind) = (is_known before id ≡ false) × (length ≤ 2 ^ 30)
-CanFollow before (Appended id count) =
-    (is_alive before id ≡ true) × (is_final (creation_of before id) ≡ false) × (1 ≤ count) × (offset_of before id + count ≤ unwrap_or (length_of before id) 0)
+CanFollow before (Created id length kind) = (is_known before id ≡ false) × (most_of length ≤ 2 ^ 30) × ((is_final_kind kind && is_none length) ≡ false)
+CanFollow before (Appended id count) = IsOpen before id × (1 ≤ count) × (offset_of before id + count ≤ most_of (length_of before id))
+CanFollow before (Declared id length count) = IsOpen before id × (length_of before id ≡ None) × (offset_of before id + count ≤ length) × (length ≤ 2 ^ 30)
 CanFollow before (Terminated id) = is_alive before id ≡ true
 
 -- each change could follow those before it
@@ -99,23 +109,33 @@ IsLegal changes = EachFollows CanFollow [] changes
 
 -- an event without id and number: the hook, the offset and the length
 abbrev pub Step : Type 0
-Step = Hook × ℕ × ℕ
+Step = Hook × ℕ × Option ℕ
+
+-- whether all bytes are there: the length is known, and the offset is the length
+abbrev pub is_whole : ℕ → Option ℕ → Bool
+is_whole offset None = false
+is_whole offset (Some length) = offset == length
 
 -- a post-finish, where the offset is the length
-abbrev pub finish_at : ℕ → ℕ → List Step
-finish_at offset length = if offset == length then (Finish, offset, length) ∷ [] else []
+abbrev pub finish_at : ℕ → Option ℕ → List Step
+finish_at offset length = if is_whole offset length then (Finish, offset, length) ∷ [] else []
 
--- the events of a change, at the offset that it reaches and the length of its upload
-abbrev pub steps_at : Accepted → ℕ → ℕ → List Step
+-- a post-receive, where bytes came
+abbrev pub receive_at : ℕ → ℕ → Option ℕ → List Step
+receive_at count offset length = if count == 0 then [] else (Receive, offset, length) ∷ []
+
+-- the events of a change, at the offset that it reaches and the length of its upload, as far as it is then known
+abbrev pub steps_at : Accepted → ℕ → Option ℕ → List Step
 steps_at (Created id _ kind) offset length = (Create, offset, length) ∷ finish_at offset length
 steps_at (Appended id count) offset length = (Receive, offset, length) ∷ finish_at offset length
+steps_at (Declared id _ count) offset length = receive_at count offset length ++ finish_at offset length
 steps_at (Terminated id) offset length = (Terminate, offset, length) ∷ []
 
 -- the events of a change that comes after these
 abbrev pub steps_of : List Accepted → Accepted → List Step
 steps_of before c =
     let through = before ++ c ∷ [] in
-    steps_at c (offset_of through (id_of c)) (unwrap_or (length_of through (id_of c)) 0)
+    steps_at c (offset_of through (id_of c)) (length_of through (id_of c))
 
 -- the events of an upload: those of each of its changes, in order
 unfoldable pub events_of : List Accepted → ℕ → List Step

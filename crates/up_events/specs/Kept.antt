@@ -1,5 +1,5 @@
 -- What holds of the fields of every journal.
-use Rattle.std.specs.Prelude.{◌≡◌, ℕ, ◌<◌, ◌≤◌, Some, None, if◌then◌else◌, unwrap_or, List, Vec, length, slice_get}
+use Rattle.std.specs.Prelude.{◌≡◌, ℕ, ◌<◌, ◌≤◌, Some, None, if◌then◌else◌, List, Vec, length, slice_get}
 use Rattle.std.specs.Ordering.{nat_cmp}
 use Rattle.std.specs.BTreeMap.{get}
 use Rattle.std.specs.declared.alloc.Global.{Global}
@@ -12,7 +12,7 @@ use Rattle.up_events.specs.declared.journal.Journal.TheInside.{Inside}
 
 -- how far an upload has come with these changes
 abbrev pub track_of : List Accepted → ℕ → Track
-track_of changes u = record { events = length (events_of changes u); offset = offset_of changes u; length = unwrap_or (length_of changes u) 0 }
+track_of changes u = record { events = length (events_of changes u); offset = offset_of changes u; length = length_of changes u }
 
 -- there are 1 to 16 lanes, the changes are legal, and the logs and the tracks are those that the
 -- changes define

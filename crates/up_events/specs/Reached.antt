@@ -1,32 +1,36 @@
 -- How far an upload has come with one more change.
-use Rattle.std.specs.Prelude.{ℕ, ◌+◌, Bool, false, if◌then◌else◌, ◌==◌}
-use Rattle.up_events.specs.History.{is_final_kind}
+use Rattle.std.specs.Prelude.{ℕ, ◌+◌, Bool, false, Option, Some, None, unwrap_or, if◌then◌else◌, ◌==◌}
+use Rattle.up_events.specs.History.{is_final_kind, is_whole}
 use Rattle.up_events.specs.declared.event.Accepted.{Accepted}
-use Rattle.up_events.specs.declared.event.Accepted.TheVariants.{Created, Appended, Terminated}
+use Rattle.up_events.specs.declared.event.Accepted.TheVariants.{Created, Appended, Declared, Terminated}
 use Rattle.up_events.specs.declared.event.Hook.{Hook}
 use Rattle.up_events.specs.declared.event.Hook.TheVariants.{Create, Receive, Terminate}
 use Rattle.up_events.specs.declared.track.Track.{Track}
 
 -- offset and length with the change, and the number of events before it
 abbrev pub reached : Track → Accepted → Track
-reached t (Created id length kind) = record { events = t.events; offset = if is_final_kind kind then length else 0; length = length }
+reached t (Created id length kind) = record { events = t.events; offset = if is_final_kind kind then unwrap_or length 0 else 0; length = length }
 reached t (Appended id count) = record { events = t.events; offset = t.offset + count; length = t.length }
+reached t (Declared id length count) = record { events = t.events; offset = t.offset + count; length = Some length }
 reached t (Terminated id) = t
 
 -- the bytes that the change adds
 abbrev pub bytes_of : Accepted → ℕ
 bytes_of (Created id length kind) = 0
 bytes_of (Appended id count) = count
+bytes_of (Declared id length count) = count
 bytes_of (Terminated id) = 0
 
--- the hook of the first event of the change
-abbrev pub hook_of : Accepted → Hook
-hook_of (Created id length kind) = Create
-hook_of (Appended id count) = Receive
-hook_of (Terminated id) = Terminate
+-- the hook of the event that tells of the change itself: none where only a length was declared
+abbrev pub hook_of : Accepted → Option Hook
+hook_of (Created id length kind) = Some Create
+hook_of (Appended id count) = Some Receive
+hook_of (Declared id length count) = if count == 0 then None else Some Receive
+hook_of (Terminated id) = Some Terminate
 
 -- whether the change, at this offset and length, makes its upload complete
-abbrev pub completes : Accepted → ℕ → ℕ → Bool
-completes (Created id _ kind) offset length = offset == length
-completes (Appended id count) offset length = offset == length
+abbrev pub completes : Accepted → ℕ → Option ℕ → Bool
+completes (Created id _ kind) offset length = is_whole offset length
+completes (Appended id count) offset length = is_whole offset length
+completes (Declared id _ count) offset length = is_whole offset length
 completes (Terminated id) offset length = false

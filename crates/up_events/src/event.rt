@@ -20,14 +20,24 @@ pub enum Accepted {
     /// The upload was created: a final one with all of its bytes, any other with none yet.
     Created {
         id: Id,
-        /// How long the upload is once it is complete, in bytes (`Upload-Length` of tus 1.0.0).
-        length: u64,
+        /// How long the upload is once it is complete, in bytes (`Upload-Length` of tus 1.0.0). None
+        /// where that is declared later, which a final upload's isn't.
+        length: Option<u64>,
         kind: Kind,
     },
     /// Bytes were appended to the upload, which isn't a final one.
     Appended {
         id: Id,
         /// How many bytes.
+        count: u64,
+    },
+    /// The length of the upload, which wasn't known, was declared (tus 1.0.0, Creation: deferred
+    /// length), and bytes were appended with it.
+    Declared {
+        id: Id,
+        /// How long the upload is once it is complete, in bytes.
+        length: u64,
+        /// How many bytes were appended, perhaps none.
         count: u64,
     },
     /// The upload was ended. Its id stays known, and nothing follows (tus 1.0.0, Termination).
@@ -59,8 +69,8 @@ pub struct Event {
     pub hook: Hook,
     /// How many bytes the upload then has (`Upload-Offset` of tus 1.0.0).
     pub offset: u64,
-    /// How many bytes the upload has once it is complete.
-    pub length: u64,
+    /// How many bytes the upload has once it is complete, if that was known then.
+    pub length: Option<u64>,
 }
 
 impl Hook {
@@ -89,6 +99,7 @@ impl Accepted {
         match *self {
             Accepted::Created { id, .. }
             | Accepted::Appended { id, .. }
+            | Accepted::Declared { id, .. }
             | Accepted::Terminated { id } => id,
         }
     }

@@ -24,8 +24,8 @@ pub struct Added {
 /// The accepted changes, and for each lane the log of the events that they give.
 ///
 /// A creation gives post-create, at offset 0 or, where the upload is a final one, at its length. An
-/// append gives post-receive at the offset that it reaches. Where the offset is the length,
-/// post-finish follows. A termination gives post-terminate. Each upload numbers its own events 1, 2,
+/// append gives post-receive at the offset that it reaches, and so does the declaration of a length
+/// where bytes come with it. Where the offset is the length, post-finish follows. A termination gives post-terminate. Each upload numbers its own events 1, 2,
 /// 3 and so on, and they all go to the lane of its id, whose log has them in the order of the changes.
 #[derive(Debug, Drop)]
 pub struct Journal {
@@ -102,9 +102,11 @@ impl Journal {
 
     /// Puts a change behind those before it, and its events behind those of the log of its lane.
     /// The change must be one that can follow: a creation has a new id and a length of at most
-    /// 2^30 bytes, an append has at least one byte and stays within the length of an upload that
-    /// is there and isn't final, and a termination is of an upload that is there. `NoMemory` where
-    /// memory was refused; the journal is then as it was.
+    /// 2^30 bytes, if it has one, as a final upload's must; an append has at least one byte and stays
+    /// within the length of an upload that is there and isn't final, or within 2^30 bytes while its
+    /// length isn't known; a declaration is of such a length, at most 2^30, and stays within it; and a
+    /// termination is of an upload that is there. `NoMemory` where memory was refused; the journal is
+    /// then as it was.
     pub fn note(&mut self, change: Accepted) -> Result<Added, NoMemory>
         requires { CanFollow self.old.accepted change }
         ensures ok { OnOk result (self.new ≡ noted self.old change) }

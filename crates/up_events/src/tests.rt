@@ -1,8 +1,8 @@
 // Values written by hand from the rules, and the journal beside a plain reading of the definitions.
-ghost use Rattle.std.specs.Prelude.{◌≡◌, ◌<◌, ◌≤◌};
+ghost use Rattle.std.specs.Prelude.{◌≡◌, ◌<◌, ◌≤◌, Some, None};
 ghost use Rattle.up_events.specs.Lists.{EachFollows};
 ghost use Rattle.up_events.specs.History.{CanFollow, IsLegal};
-ghost use Rattle.up_events.specs.declared.event.Accepted.TheVariants.{Created as IsCreated, Appended as IsAppended, Terminated as IsTerminated};
+ghost use Rattle.up_events.specs.declared.event.Accepted.TheVariants.{Created as IsCreated, Appended as IsAppended, Declared as IsDeclared, Terminated as IsTerminated};
 ghost use Rattle.up_events.specs.declared.event.Kind.TheVariants.{Plain as IsPlain, Partial as IsPartial, Final as IsFinal};
 
 use crate::{Accepted, Added, Event, Hook, Id, Journal, Kind, NoMemory};
@@ -11,31 +11,31 @@ use std::process::Abort;
 use std::test::Fail;
 
 fn created(number: u128, length: u64) -> Accepted
-    ensures { result ≡ IsCreated number length IsPlain }
+    ensures { result ≡ IsCreated number (Some length) IsPlain }
 {
     Accepted::Created {
         id: Id::new(number),
-        length,
+        length: Some(length),
         kind: Kind::Plain,
     }
 }
 
 fn created_partial(number: u128, length: u64) -> Accepted
-    ensures { result ≡ IsCreated number length IsPartial }
+    ensures { result ≡ IsCreated number (Some length) IsPartial }
 {
     Accepted::Created {
         id: Id::new(number),
-        length,
+        length: Some(length),
         kind: Kind::Partial,
     }
 }
 
 fn created_final(number: u128, length: u64) -> Accepted
-    ensures { result ≡ IsCreated number length IsFinal }
+    ensures { result ≡ IsCreated number (Some length) IsFinal }
 {
     Accepted::Created {
         id: Id::new(number),
-        length,
+        length: Some(length),
         kind: Kind::Final,
     }
 }
@@ -63,8 +63,69 @@ fn event(number: u128, place: u64, hook: Hook, offset: u64, length: u64) -> Even
         number: place,
         hook,
         offset,
-        length,
+        length: Some(length),
     }
+}
+
+fn deferred(number: u128) -> Accepted
+    ensures { result ≡ IsCreated number None IsPlain }
+{
+    Accepted::Created {
+        id: Id::new(number),
+        length: None,
+        kind: Kind::Plain,
+    }
+}
+
+fn declared(number: u128, length: u64, count: u64) -> Accepted
+    ensures { result ≡ IsDeclared number length count }
+{
+    Accepted::Declared {
+        id: Id::new(number),
+        length,
+        count,
+    }
+}
+
+/// An event of an upload whose length isn't known yet.
+fn early_event(number: u128, place: u64, hook: Hook, offset: u64) -> Event {
+    Event {
+        id: Id::new(number),
+        number: place,
+        hook,
+        offset,
+        length: None,
+    }
+}
+
+fn length_with_the_last_bytes() -> [Accepted; 3]
+    ensures { IsLegal result }
+{
+    [deferred(1), appended(1, 3), declared(1, 5, 2)]
+}
+
+fn length_of_no_bytes() -> [Accepted; 2]
+    ensures { IsLegal result }
+{
+    [deferred(1), declared(1, 0, 0)]
+}
+
+fn length_in_the_middle() -> [Accepted; 5]
+    ensures { IsLegal result }
+{
+    [
+        deferred(1),
+        appended(1, 1),
+        declared(1, 3, 0),
+        appended(1, 2),
+        terminated(1),
+    ]
+}
+
+fn length_never_told() -> [Accepted; 2]
+    ensures { IsLegal result }
+{
+    [deferred(1), terminated(1)]
 }
 
 fn two_appends() -> [Accepted; 3]
@@ -152,18 +213,22 @@ fn note_all(journal: &mut Journal, changes: &[Accepted]) -> Result<(), NoMemory>
 // ---- the definitions, read plainly
 
 /// The offset and the length of an upload with all of these changes.
-fn reached_by(through: &[Accepted], id: Id) -> (u64, u64) {
+fn reached_by(through: &[Accepted], id: Id) -> (u64, Option<u64>) {
     let mut offset: u64 = 0;
-    let mut whole: u64 = 0;
+    let mut whole = None;
     for change in through {
         match *change {
             Accepted::Created { length, kind, .. } if change.id() == id => {
                 whole = length;
                 if kind == Kind::Final {
-                    offset = length;
+                    offset = length.unwrap_or(0);
                 }
             }
             Accepted::Appended { count, .. } if change.id() == id => {
+                offset = offset.saturating_add(count);
+            }
+            Accepted::Declared { length, count, .. } if change.id() == id => {
+                whole = Some(length);
                 offset = offset.saturating_add(count);
             }
             _ => {}
@@ -177,7 +242,7 @@ fn events_of(
     alloc: Global,
     changes: &[Accepted],
     id: Id,
-) -> Result<Vec<(Hook, u64, u64)>, AllocError> {
+) -> Result<Vec<(Hook, u64, Option<u64>)>, AllocError> {
     let mut events = Vec::new(alloc);
     for (before, change) in changes.iter().enumerate() {
         if change.id() != id {
@@ -185,13 +250,18 @@ fn events_of(
         }
         let through = changes.get(..=before).unwrap_or(changes);
         let (offset, length) = reached_by(through, id);
-        let hook = match change {
-            Accepted::Created { .. } => Hook::Create,
-            Accepted::Appended { .. } => Hook::Receive,
-            Accepted::Terminated { .. } => Hook::Terminate,
-        };
-        events.push((hook, offset, length))?;
-        if offset == length && hook != Hook::Terminate {
+        match *change {
+            Accepted::Created { .. } => events.push((Hook::Create, offset, length))?,
+            Accepted::Declared { count: 0, .. } => {}
+            Accepted::Appended { .. } | Accepted::Declared { .. } => {
+                events.push((Hook::Receive, offset, length))?;
+            }
+            Accepted::Terminated { .. } => {
+                events.push((Hook::Terminate, offset, length))?;
+                continue;
+            }
+        }
+        if length == Some(offset) {
             events.push((Hook::Finish, offset, length))?;
         }
     }
@@ -373,6 +443,55 @@ fn places_of_a_final_upload(rt: HostRuntime) -> Result<(), Fail> {
         event(1, 2, Hook::Finish, 9, 9),
     ];
     assert_eq!(rt; journal.lane_log(1), expected.as_slice());
+    Ok(())
+}
+
+#[test]
+fn a_length_that_comes_with_the_last_bytes(rt: HostRuntime) -> Result<(), Fail> {
+    let journal = agrees(&rt, rt.alloc(), &length_with_the_last_bytes(), 1)?;
+    let expected = [
+        early_event(1, 1, Hook::Create, 0),
+        early_event(1, 2, Hook::Receive, 3),
+        event(1, 3, Hook::Receive, 5, 5),
+        event(1, 4, Hook::Finish, 5, 5),
+    ];
+    assert_eq!(rt; journal.lane_log(0), expected.as_slice());
+    Ok(())
+}
+
+#[test]
+fn a_length_of_no_bytes(rt: HostRuntime) -> Result<(), Fail> {
+    let journal = agrees(&rt, rt.alloc(), &length_of_no_bytes(), 1)?;
+    let expected = [
+        early_event(1, 1, Hook::Create, 0),
+        event(1, 2, Hook::Finish, 0, 0),
+    ];
+    assert_eq!(rt; journal.lane_log(0), expected.as_slice());
+    Ok(())
+}
+
+#[test]
+fn a_length_in_the_middle(rt: HostRuntime) -> Result<(), Fail> {
+    let journal = agrees(&rt, rt.alloc(), &length_in_the_middle(), 1)?;
+    let expected = [
+        early_event(1, 1, Hook::Create, 0),
+        early_event(1, 2, Hook::Receive, 1),
+        event(1, 3, Hook::Receive, 3, 3),
+        event(1, 4, Hook::Finish, 3, 3),
+        event(1, 5, Hook::Terminate, 3, 3),
+    ];
+    assert_eq!(rt; journal.lane_log(0), expected.as_slice());
+    Ok(())
+}
+
+#[test]
+fn a_length_that_never_came(rt: HostRuntime) -> Result<(), Fail> {
+    let journal = agrees(&rt, rt.alloc(), &length_never_told(), 1)?;
+    let expected = [
+        early_event(1, 1, Hook::Create, 0),
+        early_event(1, 2, Hook::Terminate, 0),
+    ];
+    assert_eq!(rt; journal.lane_log(0), expected.as_slice());
     Ok(())
 }
 

@@ -18,8 +18,8 @@ pub struct Track {
     pub events: u64,
     /// How many bytes it has.
     pub offset: u64,
-    /// How many bytes it has once it is complete.
-    pub length: u64,
+    /// How many bytes it has once it is complete, if that is known.
+    pub length: Option<u64>,
 }
 
 impl Track {
@@ -27,7 +27,7 @@ impl Track {
     pub const NONE: Track = Track {
         events: 0,
         offset: 0,
-        length: 0,
+        length: None,
     };
 
     /// With the offset and the length that the change gives. The events are those before it.
@@ -38,7 +38,11 @@ impl Track {
         match *change {
             Accepted::Created { length, kind, .. } => Track {
                 events: self.events,
-                offset: if kind == Kind::Final { length } else { 0 },
+                offset: if kind == Kind::Final {
+                    length.unwrap_or(0)
+                } else {
+                    0
+                },
                 length,
             },
             Accepted::Appended { count, .. } => Track {
@@ -46,19 +50,25 @@ impl Track {
                 offset: self.offset + count,
                 length: self.length,
             },
+            Accepted::Declared { length, count, .. } => Track {
+                events: self.events,
+                offset: self.offset + count,
+                length: Some(length),
+            },
             Accepted::Terminated { .. } => self,
         }
     }
 }
 
-/// The hook of a change's first event.
-fn first_hook(change: &Accepted) -> Hook
+/// The hook of the event that tells of the change itself, if one does.
+fn own_hook(change: &Accepted) -> Option<Hook>
     ensures { result ≡ hook_of change.now }
 {
-    match change {
-        Accepted::Created { .. } => Hook::Create,
-        Accepted::Appended { .. } => Hook::Receive,
-        Accepted::Terminated { .. } => Hook::Terminate,
+    match *change {
+        Accepted::Created { .. } => Some(Hook::Create),
+        Accepted::Appended { .. } => Some(Hook::Receive),
+        Accepted::Declared { count, .. } => (count > 0).then_some(Hook::Receive),
+        Accepted::Terminated { .. } => Some(Hook::Terminate),
     }
 }
 
@@ -67,7 +77,9 @@ fn is_completing(change: &Accepted, track: Track) -> bool
     ensures { result ≡ completes change.now track.offset track.length }
 {
     match change {
-        Accepted::Created { .. } | Accepted::Appended { .. } => track.offset == track.length,
+        Accepted::Created { .. } | Accepted::Appended { .. } | Accepted::Declared { .. } => {
+            track.length == Some(track.offset)
+        }
         Accepted::Terminated { .. } => false,
     }
 }
@@ -108,8 +120,9 @@ pub fn write(
         offset,
         length,
     } = track;
+    let own = own_hook(&change);
     let completing = is_completing(&change, track);
-    let count = if completing { 2 } else { 1 };
+    let count = u64::from(own.is_some()) + u64::from(completing);
     accepted.reserve(1)?;
     log.reserve(2)?;
     tracks.insert(
@@ -122,23 +135,24 @@ pub fn write(
     )?;
     // From here on nothing grows.
     push_within(accepted, change);
-    let hook = first_hook(&change);
-    push_within(
-        log,
-        Event {
-            id,
-            number: events + 1,
-            hook,
-            offset,
-            length,
-        },
-    );
+    if let Some(hook) = own {
+        push_within(
+            log,
+            Event {
+                id,
+                number: events + 1,
+                hook,
+                offset,
+                length,
+            },
+        );
+    }
     if completing {
         push_within(
             log,
             Event {
                 id,
-                number: events + 2,
+                number: events + count,
                 hook: Hook::Finish,
                 offset,
                 length,

@@ -1,4 +1,4 @@
-//! A server that wants a file name for each upload, and has each one scanned that is complete.
+//! A server that wants a file name for each upload, takes no more than 16 bytes of one, and has each one scanned that is complete.
 #![tactic(auto)]
 
 ghost use Rattle.std.specs.Prelude.{IsTrue};
@@ -9,14 +9,14 @@ use std::io::{self, BufReader, BufWriter};
 use up_events::{Event, Hook};
 use up_hooks::{Outcome, PreHook, PreHooks};
 use up_machine::{Ask, Point, Verdict};
-use up_server::{Settings, needs_key, new_recorders, replay};
+use up_server::{Settings, finishes_at_most, needs_key, new_recorders, replay};
 use up_wire::{Input, Output};
 
 /// Has an upload scanned. This scanner takes no more than 8 bytes.
 fn scan(upload: &Event) -> Outcome
     ensures { IsTrue (has_code result) }
 {
-    if upload.length > 8 {
+    if upload.offset > 8 {
         Outcome::Failed(1)
     } else {
         Outcome::Done
@@ -29,6 +29,10 @@ fn main(rt: HostRuntime) -> anyhow::Result<()> {
     { needs_key(ask, b"filename") };
     let mut hooks = Vec::new(rt.alloc());
     hooks.push(PreHook::new(Point::Create, Box::new(rt.alloc(), named)?))?;
+    let small = |ask: &Ask| -> Verdict
+        ensures { IsTrue (is_lawful result) }
+    { finishes_at_most(ask, 16) };
+    hooks.push(PreHook::new(Point::Finish, Box::new(rt.alloc(), small)?))?;
 
     let scanned = |event: &Event| -> Outcome
         ensures { IsTrue (has_code result) }

@@ -9,3 +9,4 @@ pub mod MetadataFaults
 pub mod ConcatLemmas
 pub mod ConcatOnce
 pub mod Routing
+pub mod MetadataKeys

@@ -1,5 +1,5 @@
 -- An upload that is to be made (tus 1.0.0, Creation).
-use Rattle.std.specs.Prelude.{◌≡◌, ℕ, ◌&&◌, Bool, not, List, [], ◌∷◌, codes, nat_lt, Option, Some, None, is_none, Result, Ok, Err, if◌then◌else◌}
+use Rattle.std.specs.Prelude.{◌≡◌, ◌≤◌, ℕ, ◌&&◌, Bool, false, not, List, [], ◌∷◌, bytes_eq, codes, nat_lt, Option, Some, None, is_none, Result, Ok, Err, if◌then◌else◌}
 use Rattle.std.specs.Result.{is_err}
 use Rattle.std.specs.Str.Parse.{digits_value}
 use Rattle.up_wire.specs.Digits.{is_digits}
@@ -18,13 +18,30 @@ use Rattle.up_headers.specs.Concat.{Concat, IsConcat, is_final}
 abbrev pub length_text : List Field → List ℕ
 length_text fields = value_in (codes "upload-length") fields
 
--- whether the length is a number, and none is to come later
-abbrev pub has_length : List Field → Bool
-has_length fields = is_digits (length_text fields) && not (stands (codes "upload-defer-length") fields)
+-- whether the length is to come later
+abbrev pub is_deferred : List Field → Bool
+is_deferred fields = stands (codes "upload-defer-length") fields
 
--- the length, a number of any size
-abbrev pub length_in : List Field → ℕ
-length_in fields = digits_value 10 (length_text fields)
+-- whether the length is a number or is to come later, and not both
+abbrev pub has_length : List Field → Bool
+has_length fields =
+    if is_deferred fields
+    then bytes_eq (value_in (codes "upload-defer-length") fields) (codes "1") && not (stands (codes "upload-length") fields)
+    else is_digits (length_text fields)
+
+-- the length, a number of any size; none where it is to come later
+abbrev pub length_in : List Field → Option ℕ
+length_in fields = if is_deferred fields then None else Some (digits_value 10 (length_text fields))
+
+-- whether a length is known, and above this
+abbrev pub is_above : ℕ → Option ℕ → Bool
+is_above most None = false
+is_above most (Some length) = nat_lt most length
+
+-- a length that is known is no more than this
+abbrev pub IsWithin : ℕ → Option ℕ → Type 0
+IsWithin most None = Unit {0}
+IsWithin most (Some length) = length ≤ most
 
 -- the text of the metadata
 abbrev pub metadata_in : List Field → List ℕ
@@ -38,7 +55,7 @@ concat_in fields = value_in (codes "upload-concat") fields
 abbrev pub length_rows : List Field → ℕ → List (Row HeaderFault)
 length_rows fields max_size =
     if is_final (concat_in fields) then []
-    else (not (has_length fields), BadLength) ∷ (nat_lt max_size (length_in fields), TooLong) ∷ []
+    else (not (has_length fields), BadLength) ∷ (is_above max_size (length_in fields), TooLong) ∷ []
 
 -- the checks behind them, in their order, by what the text of the concatenation says
 abbrev pub said_rows : List Field → Option Concat → List (Row HeaderFault)
@@ -54,9 +71,9 @@ abbrev pub pairs_or_none : Result (List Pair) MetadataFault → List Pair
 pairs_or_none (Ok pairs) = pairs
 pairs_or_none (Err fault) = []
 
--- the length that was sent; 0 for a final upload
-abbrev pub new_length : List Field → ℕ
-new_length fields = if is_final (concat_in fields) then 0 else length_in fields
+-- the length that was sent, if one was; 0 for a final upload
+abbrev pub new_length : List Field → Option ℕ
+new_length fields = if is_final (concat_in fields) then Some 0 else length_in fields
 
 -- the upload, where no check fails
 abbrev pub new_upload_of : List Field → Concat → NewUpload

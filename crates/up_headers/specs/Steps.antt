@@ -9,7 +9,7 @@ use Rattle.up_headers.specs.declared.verb.Verb.{Verb}
 use Rattle.up_headers.specs.declared.place.Place.{Place}
 use Rattle.up_headers.specs.Rows.{first_that_holds}
 use Rattle.up_headers.specs.Verbs.{chosen_verb}
-use Rattle.up_headers.specs.Creations.{length_rows, new_length, Creates}
+use Rattle.up_headers.specs.Creations.{length_rows, new_length, IsWithin, Creates}
 use Rattle.up_headers.specs.Table.{early_rows, IsAnswerAt}
 
 -- a check that fails answers this fault, one that doesn't has none
@@ -23,8 +23,8 @@ IsChosen name fields (Ok verb) = (first_that_holds (early_rows name fields) ≡ 
 IsChosen name fields (Err found) = first_that_holds (early_rows name fields) ≡ Some found
 
 -- the length of a new upload, where none of its checks fails
-abbrev pub IsLength : List Field → ℕ → Result ℕ HeaderFault → Type 0
-IsLength fields max_size (Ok length) = (first_that_holds (length_rows fields max_size) ≡ None) × (length ≡ new_length fields) × (length ≤ max_size)
+abbrev pub IsLength : List Field → ℕ → Result (Option ℕ) HeaderFault → Type 0
+IsLength fields max_size (Ok length) = (first_that_holds (length_rows fields max_size) ≡ None) × (length ≡ new_length fields) × IsWithin max_size length
 IsLength fields max_size (Err found) = first_that_holds (length_rows fields max_size) ≡ Some found
 
 -- the upload that is to be made, where none of its checks fails; want of memory may stand in its place

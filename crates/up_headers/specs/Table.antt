@@ -15,7 +15,7 @@ use Rattle.up_headers.specs.Rows.{Row, first_that_holds, Then}
 use Rattle.up_headers.specs.Verbs.{chosen_verb}
 use Rattle.up_headers.specs.Places.{IsAt, is_creation, is_upload, is_nowhere}
 use Rattle.up_headers.specs.Fields.{stands, is_repeated, value_in}
-use Rattle.up_headers.specs.Creations.{Creates}
+use Rattle.up_headers.specs.Creations.{IsWithin, Creates}
 use Rattle.up_headers.specs.Patches.{patch_of}
 
 -- whether the version that was sent is 1.0.0
@@ -55,7 +55,7 @@ is_served verb at = false
 -- the fields that a request of the method reads and that may stand once
 abbrev pub single_fields : Verb → List (List ℕ)
 single_fields method.Post = codes "upload-length" ∷ codes "upload-defer-length" ∷ codes "upload-metadata" ∷ codes "upload-concat" ∷ []
-single_fields method.Patch = codes "content-type" ∷ codes "upload-offset" ∷ []
+single_fields method.Patch = codes "content-type" ∷ codes "upload-offset" ∷ codes "upload-length" ∷ []
 single_fields verb = []
 
 -- whether one of them is repeated
@@ -100,10 +100,10 @@ abbrev pub IsAnswer : Message → ℕ → Result Request HeaderFault → Type 0
 IsAnswer m max_size result =
     Then (first_that_holds (early_rows m.method m.fields)) result (Routes (chosen_verb m.method m.fields) m max_size result)
 
--- an upload that is to be made is no longer than that
+-- an upload that is to be made is no longer than that, as far as its length is known
 abbrev pub FitsWithin : ℕ → Request → Type 0
 FitsWithin max_size request.Options = Unit {0}
-FitsWithin max_size (request.Create new) = new.length ≤ max_size
+FitsWithin max_size (request.Create new) = IsWithin max_size new.length
 FitsWithin max_size (request.Head id) = Unit {0}
 FitsWithin max_size (request.Patch patch) = Unit {0}
 FitsWithin max_size (request.Delete id) = Unit {0}

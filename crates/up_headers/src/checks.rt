@@ -25,8 +25,8 @@ use up_wire::{Field, Message, Values, find_value};
 ///    of an id, an upload's.
 /// 4. The method: POST for the creation URL, HEAD, PATCH, DELETE and GET for an upload.
 /// 5. A field that the request reads and that stands twice.
-/// 6. For a creation its length, a number of at most `max_size`, which isn't looked at where
-///    `Upload-Concat` begins with `final;`; then `Upload-Concat`, which must be empty or absent,
+/// 6. For a creation its length, a number of at most `max_size`, or in its place that it is to come
+///    later, which both aren't looked at where `Upload-Concat` begins with `final;`; then `Upload-Concat`, which must be empty or absent,
 ///    `partial`, or `final;` and one or more URLs of uploads between spaces; then its metadata.
 ///
 /// 1 and 2 need no memory. From 3 on `NoMemory` stands in place of the answer where memory is refused.
@@ -137,8 +137,11 @@ fn repeats(verb: Verb, fields: &[Field]) -> bool
                 || is_repeated(fields, b"upload-metadata")
                 || is_repeated(fields, b"upload-concat")
         }
-        Verb::Patch => is_repeated(fields, b"content-type")
-            || is_repeated(fields, b"upload-offset"),
+        Verb::Patch => {
+            is_repeated(fields, b"content-type")
+                || is_repeated(fields, b"upload-offset")
+                || is_repeated(fields, b"upload-length")
+        }
         Verb::Options | Verb::Head | Verb::Delete | Verb::Get | Verb::Other => false,
     }
 }

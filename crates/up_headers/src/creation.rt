@@ -1,6 +1,6 @@
 //! An upload that is to be made.
-ghost use Rattle.std.specs.Prelude.{◌≡◌, ◌≤◌, IfOk};
-ghost use Rattle.up_headers.specs.Creations.{some_text};
+ghost use Rattle.std.specs.Prelude.{◌≡◌, IfOk};
+ghost use Rattle.up_headers.specs.Creations.{IsWithin, some_text};
 ghost use Rattle.up_headers.specs.Steps.{IsCreation, IsLength};
 
 use crate::concat::{concat_of, is_final};
@@ -13,7 +13,7 @@ use std::alloc::{AllocError, Global};
 use up_wire::{Field, Sequence, is_digits, number};
 
 /// The upload that a creation asks for (tus 1.0.0, Creation and Concatenation), of at most `max_size`
-/// bytes. Its length is checked first, which a final upload need not have, then what its
+/// bytes where its length is known. Its length is checked first, which a final upload need not have, then what its
 /// `Upload-Concat` says, then its metadata.
 pub(crate) fn new_upload(
     alloc: Global,
@@ -21,7 +21,7 @@ pub(crate) fn new_upload(
     max_size: u64,
 ) -> Result<NewUpload, HeaderFault>
     ensures answer { IsCreation fields.now max_size result }
-    ensures bounded { IfOk result (λ new. new.length ≤ max_size) }
+    ensures bounded { IfOk result (λ new. IsWithin max_size new.length) }
 {
     let length = length_of(fields, max_size)?;
     let concat = value_in(fields, b"upload-concat");
@@ -44,20 +44,28 @@ pub(crate) fn new_upload(
     })
 }
 
-/// The length of an upload that is to be made. That of a final one isn't looked at, and 0 stands for
-/// it.
-fn length_of(fields: &[Field], max_size: u64) -> Result<u64, HeaderFault>
+/// The length of an upload that is to be made; none where it is to be declared later. That of a final
+/// one isn't looked at, and 0 stands for it.
+fn length_of(fields: &[Field], max_size: u64) -> Result<Option<u64>, HeaderFault>
     ensures { IsLength fields.now max_size result }
 {
     if is_final(value_in(fields, b"upload-concat")) {
-        return Ok(0);
+        return Ok(Some(0));
+    }
+    if stands(fields, b"upload-defer-length") {
+        if value_in(fields, b"upload-defer-length") != b"1".as_slice()
+            || stands(fields, b"upload-length")
+        {
+            return Err(HeaderFault::BadLength);
+        }
+        return Ok(None);
     }
     let text = value_in(fields, b"upload-length");
-    if !is_digits(text) || stands(fields, b"upload-defer-length") {
+    if !is_digits(text) {
         return Err(HeaderFault::BadLength);
     }
     match number(text) {
-        Some(length) if length <= max_size => Ok(length),
+        Some(length) if length <= max_size => Ok(Some(length)),
         _ => Err(HeaderFault::TooLong),
     }
 }

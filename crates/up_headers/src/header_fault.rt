@@ -22,8 +22,8 @@ pub enum HeaderFault {
     /// A field that the request reads stands twice (RFC 9110, section 5.3).
     #[error("field repeated")]
     Repeated,
-    /// A creation without a length that is a number, or with one that is to come later, and not of a final upload
-    /// (tus 1.0.0, Creation).
+    /// A creation that isn't of a final upload, and says neither a number as its length nor that the length is to come later,
+    /// or says both (tus 1.0.0, Creation).
     #[error("bad length")]
     BadLength,
     /// A creation of more bytes than an upload may have (tus 1.0.0, Creation).

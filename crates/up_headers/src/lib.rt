@@ -23,4 +23,4 @@ pub use header_fault::HeaderFault;
 pub use law::{concat_reads_once, metadata_reads_once};
 pub use metadata::pairs_of;
 pub use metadata_fault::MetadataFault;
-pub use request::{NewUpload, Pairs, Patch, Request};
+pub use request::{NewUpload, NotDigits, Pairs, Patch, Request};

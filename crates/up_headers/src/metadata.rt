@@ -2,8 +2,11 @@
 ghost use Rattle.std.specs.Result.{IfErr};
 ghost use Rattle.std.specs.Prelude.{◌≡◌, ◌∷◌, IfOk};
 ghost use Rattle.up_wire.specs.Fields.{split_commas};
-ghost use Rattle.up_headers.specs.Metadata.{ReadsPairs, IsRefusal, has_key};
-ghost use Rattle.up_headers.specs.Reading.{Answers, reading, parts_of, part_reading};
+ghost use Rattle.base64.specs.Engines.{standard};
+ghost use Rattle.base64.specs.GeneralPurpose.{decode_of};
+ghost use Rattle.up_headers.specs.Metadata.{ReadsPairs, IsRefusal};
+ghost use Rattle.up_headers.specs.Reading.{Answers, reading, parts_of, with_value};
+ghost use Rattle.up_headers.specs.Words.{skip_spaces, trim_end};
 
 use crate::metadata_fault::MetadataFault;
 use crate::request::Pairs;
@@ -11,29 +14,17 @@ use crate::words::{first_word, skip_spaces, trim_end};
 use base64::DecodeAllocError;
 use base64::engine::general_purpose::STANDARD;
 use std::alloc::Global;
+use std::collections::BTreeSet;
 use up_wire::Sequence;
 
-/// Whether one of the pairs has the key.
-fn has_key(pairs: &[(Sequence<u8>, Sequence<u8>)], key: &[u8]) -> bool
-    ensures { result ≡ has_key key.now pairs.now }
-{
-    pairs.iter().any(|pair| pair.0.as_slice() == key)
-}
-
-/// The pair that one part is, behind the pairs before it.
-fn read_part(
+/// The pair of a key and of what stands behind it in its part.
+fn read_pair(
     alloc: Global,
-    before: &[(Sequence<u8>, Sequence<u8>)],
-    part: &[u8],
+    key: &[u8],
+    behind: &[u8],
 ) -> Result<(Sequence<u8>, Sequence<u8>), MetadataFault>
-    ensures { Answers result (part_reading before.now part.now) }
+    ensures { Answers result (with_value key.now (decode_of standard (trim_end (skip_spaces behind.now)))) }
 {
-    let Some((key, behind)) = first_word(part) else {
-        return Err(MetadataFault::EmptyKey);
-    };
-    if has_key(before, key) {
-        return Err(MetadataFault::KeyTwice);
-    }
     match STANDARD.decode(alloc, trim_end(skip_spaces(behind))) {
         Ok(value) => Ok((Sequence::from_slice(alloc, key)?, Sequence::from_vec(value))),
         Err(DecodeAllocError::DecodeError(_)) => Err(MetadataFault::BadValue),
@@ -56,10 +47,19 @@ pub(crate) fn read_pairs(alloc: Global, text: &[u8]) -> Result<Pairs, MetadataFa
     ensures { Answers result (reading text.now) }
 {
     let mut pairs = Vec::new(alloc);
+    let mut keys = BTreeSet::new(alloc);
     let mut rest = if text.is_empty() { None } else { Some(text) };
     'parts: while let Some(parts) = rest {
         let (part, behind) = cut_part(parts);
-        let pair = match read_part(alloc, pairs.as_slice(), part) {
+        let Some((key, encoded)) = first_word(part) else {
+            return Err(MetadataFault::EmptyKey);
+        };
+        match keys.insert(key) {
+            Ok(true) => {}
+            Ok(false) => return Err(MetadataFault::KeyTwice),
+            Err(_) => return Err(MetadataFault::NoMemory),
+        }
+        let pair = match read_pair(alloc, key, encoded) {
             Ok(pair) => pair,
             Err(fault) => return Err(fault),
         };

@@ -1,11 +1,11 @@
 //! The PATCH of an upload.
 ghost use Rattle.std.specs.Prelude.{◌≡◌};
-ghost use Rattle.up_headers.specs.Patches.{before_semicolon, is_media, offset_of, patch_of};
+ghost use Rattle.up_headers.specs.Patches.{before_semicolon, declared_in, is_media, number_of, patch_of};
 
-use crate::fields::value_in;
-use crate::request::Patch;
+use crate::fields::{stands, value_in};
+use crate::request::{NotDigits, Patch};
 use up_events::Id;
-use up_wire::{Message, is_digits, number, same_name, trim_end};
+use up_wire::{Field, Message, is_digits, number, same_name, trim_end};
 
 /// The PATCH of an upload (tus 1.0.0, PATCH). Its bytes are the message's own, not a copy.
 pub(crate) fn patch_of(id: Id, message: Message) -> Patch
@@ -13,11 +13,13 @@ pub(crate) fn patch_of(id: Id, message: Message) -> Patch
 {
     let fields = message.fields.as_slice();
     let media = is_media(value_in(fields, b"content-type"));
-    let offset = offset_of(value_in(fields, b"upload-offset"));
+    let offset = number_of(value_in(fields, b"upload-offset"));
+    let length = declared_in(fields);
     Patch {
         id,
         media,
         offset,
+        length,
         bytes: message.body,
     }
 }
@@ -42,9 +44,22 @@ fn before_semicolon(text: &[u8]) -> &[u8]
     }
 }
 
-/// The offset that was sent, if it is a number; one past 2^64 - 1 counts as 2^64 - 1.
-fn offset_of(text: &[u8]) -> Option<u64>
-    ensures { result ≡ offset_of text.now }
+/// The length that is declared, where the field for it stands.
+fn declared_in(fields: &[Field]) -> Option<Result<u64, NotDigits>>
+    ensures { result ≡ declared_in fields.now }
+{
+    if !stands(fields, b"upload-length") {
+        return None;
+    }
+    match number_of(value_in(fields, b"upload-length")) {
+        Some(number) => Some(Ok(number)),
+        None => Some(Err(NotDigits)),
+    }
+}
+
+/// The number that was sent, if it is one; one past 2^64 - 1 counts as 2^64 - 1.
+fn number_of(text: &[u8]) -> Option<u64>
+    ensures { result ≡ number_of text.now }
 {
     if is_digits(text) {
         Some(number(text).unwrap_or(u64::MAX))

@@ -26,8 +26,9 @@ pub enum Request {
 #[derive(Drop)]
 pub struct NewUpload {
     pub kind: Kind,
-    /// In bytes. 0 for a final upload, which has the length of its parts.
-    pub length: u64,
+    /// In bytes, None where it is to be declared later (tus 1.0.0, Upload-Defer-Length). 0 for a final
+    /// upload, which has the length of its parts.
+    pub length: Option<u64>,
     /// The uploads that a final one joins, in order and at least one. None for any other upload.
     pub parts: Sequence<Id>,
     pub pairs: Pairs,
@@ -37,6 +38,10 @@ pub struct NewUpload {
     pub concat: Option<Sequence<u8>>,
 }
 
+/// The text that stands for a number isn't one or more decimal digits.
+#[derive(Clone, Copy, Debug, PartialEq, Eq)]
+pub struct NotDigits;
+
 /// Bytes for an upload.
 #[derive(Drop)]
 pub struct Patch {
@@ -45,5 +50,8 @@ pub struct Patch {
     pub media: bool,
     /// Where the bytes belong, if a number was sent; one past 2^64 - 1 counts as 2^64 - 1.
     pub offset: Option<u64>,
+    /// How long the upload is to be, where that is declared (tus 1.0.0, Upload-Defer-Length); a number past
+    /// 2^64 - 1 counts as 2^64 - 1.
+    pub length: Option<Result<u64, NotDigits>>,
     pub bytes: Sequence<u8>,
 }

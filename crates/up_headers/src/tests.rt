@@ -9,7 +9,7 @@ mod targets;
 
 use crate::checks::request_of;
 use crate::header_fault::HeaderFault;
-use crate::request::{NewUpload, Patch, Request};
+use crate::request::{NewUpload, NotDigits, Patch, Request};
 use http::Method;
 use std::alloc::Global;
 use std::process::Abort;

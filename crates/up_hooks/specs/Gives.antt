@@ -1,9 +1,10 @@
 -- What the closures of a server answer together.
-use Rattle.std.specs.Prelude.{◌≡◌, List, ◌∷◌, ◌++◌, All}
+use Rattle.std.specs.Prelude.{◌≡◌, ◌≢◌, List, ◌∷◌, ◌++◌, All}
 use Rattle.std.specs.Fn.{FnReturnsAt}
 use Rattle.std.specs.Borrow.{Bor}
 use denote.Param.Members.{Mut}
 use Rattle.up_machine.specs.declared.ask.Ask.{Ask}
+use Rattle.up_machine.specs.declared.ask.Point.TheVariants.{Finish}
 use Rattle.up_machine.specs.declared.ask.Verdict.{Verdict}
 use Rattle.up_machine.specs.declared.ask.Verdict.TheVariants.{Allow, Refuse}
 use Rattle.up_machine.specs.declared.plan.Asked.{Asked}
@@ -20,10 +21,12 @@ module _ {X : Type 0} {F : X → Type 0} {g : Mut ((i : X) × F i) (Bor Ask × U
   abbrev pub LetsPass : Ask → PreHook X F g → Type 0
   LetsPass ask hook = hook.point ≡ ask.point → Answers hook ask Allow
 
-  -- each closure of the point allows, or the first of them that doesn't has answered so; nobody was skipped
+  -- each closure of the point allows, which is said in its own word at pre-finish, or the first of them that doesn't has answered so;
+  -- nobody was skipped
   abbrev pub HooksGive : List (PreHook X F g) → Ask → Asked → Type 0
   HooksGive hooks ask asked.Skipped = ⊥
-  HooksGive hooks ask asked.Allowed = All (LetsPass ask) hooks
+  HooksGive hooks ask asked.Allowed = (ask.point ≢ Finish) × All (LetsPass ask) hooks
+  HooksGive hooks ask asked.AllowedFinish = (ask.point ≡ Finish) × All (LetsPass ask) hooks
   HooksGive hooks ask (asked.Refused status reason) =
       (before : List (PreHook X F g)) × (hook : PreHook X F g) × (after : List (PreHook X F g))
       × (hooks ≡ before ++ hook ∷ after)

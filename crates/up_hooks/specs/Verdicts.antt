@@ -3,7 +3,7 @@ use Rattle.std.specs.Prelude.{ℕ, Bool, true, ◌==◌, ◌||◌}
 use Rattle.up_machine.specs.declared.ask.Verdict.{Verdict}
 use Rattle.up_machine.specs.declared.ask.Verdict.TheVariants.{Allow, Refuse}
 use Rattle.up_machine.specs.declared.plan.Asked.{Asked}
-use Rattle.up_machine.specs.declared.plan.Asked.TheVariants.{Skipped, Allowed, Refused}
+use Rattle.up_machine.specs.declared.plan.Asked.TheVariants.{Skipped, Allowed, AllowedFinish, Refused}
 
 -- a status with which a closure may refuse
 abbrev pub is_refusal_status : ℕ → Bool
@@ -19,4 +19,5 @@ is_lawful (Refuse status reason) = is_refusal_status status
 abbrev pub has_lawful_status : Asked → Bool
 has_lawful_status Skipped = true
 has_lawful_status Allowed = true
+has_lawful_status AllowedFinish = true
 has_lawful_status (Refused status reason) = is_refusal_status status

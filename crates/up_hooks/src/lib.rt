@@ -1,4 +1,4 @@
-//! What operators attach to the life of an upload: closures that are asked before it is made or removed, and post-hooks that are
+//! What operators attach to the life of an upload: closures that are asked before it is made, completed or removed, and post-hooks that are
 //! handed every event.
 #![tactic(auto)]
 

@@ -4,7 +4,7 @@ ghost use Rattle.up_hooks.specs.Verdicts.{is_lawful};
 
 use up_machine::{Ask, Point, Verdict};
 
-/// A closure that decides whether an upload is made, or removed: it allows that, or refuses it with a status and a reason, which
+/// A closure that decides whether an upload is made, completed, or removed: it allows that, or refuses it with a status and a reason, which
 /// are then the response.
 ///
 /// It must be one that can be called on every `Ask`, that returns, since the request waits for it, and that refuses with no other

@@ -4,7 +4,7 @@ ghost use Rattle.up_hooks.specs.Gives.{HooksGive};
 ghost use Rattle.up_hooks.specs.Verdicts.{has_lawful_status};
 
 use crate::pre_hook::PreHook;
-use up_machine::{Ask, Asked, Verdict};
+use up_machine::{Ask, Asked, Point, Verdict};
 
 /// The closures of a server, in the order in which they are asked.
 #[derive(Drop)]
@@ -24,7 +24,10 @@ fn ask_each(hooks: &[PreHook], ask: &Ask) -> Asked
             }
         }
     }
-    Asked::Allowed
+    match ask.point {
+        Point::Create | Point::Terminate => Asked::Allowed,
+        Point::Finish => Asked::AllowedFinish,
+    }
 }
 
 impl PreHooks {
@@ -39,7 +42,8 @@ impl PreHooks {
     }
 
     /// Asks the closures of the point, in their order. The first that refuses decides, with its own status and reason, and those
-    /// behind it aren't called. `Allowed` where none refuses, also where there is none. Takes no memory.
+    /// behind it aren't called. `Allowed` where none refuses, also where there is none, and in its place `AllowedFinish` at
+    /// `Point::Finish`. Takes no memory.
     pub fn ask(&self, ask: &Ask) -> Asked
         ensures closures { ClosuresGive self.now ask.now result }
         ensures status { IsTrue (has_lawful_status result) }

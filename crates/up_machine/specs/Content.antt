@@ -1,15 +1,18 @@
--- What an upload is, whatever keeps it.
-use Rattle.std.specs.Prelude.{◌≡◌, ◌++◌, ◌+◌, ◌≤◌, ℕ, Bool, true, false, List, Option, Some, None, length, refl, if◌then◌else◌}
+-- What an upload is, whatever keeps it, and what a PATCH makes of it.
+use Rattle.std.specs.Prelude.{◌≡◌, ◌++◌, ◌+◌, ◌≤◌, ℕ, Bool, true, false, List, Option, Some, None, Result, Ok, Err, length, refl, if◌then◌else◌}
+use Rattle.std.specs.Option.{option_or}
 use Rattle.std.specs.Coded.{Coded, code_by, coded×, coded_ℕ, coded_list, coded_option, coded_bool}
 use Rattle.up_events.specs.declared.event.Kind.{Kind}
 use Rattle.up_events.specs.declared.event.Kind.TheVariants.{Plain, Partial, Final}
-use Rattle.up_events.specs.History.{is_final_kind}
+use Rattle.up_events.specs.History.{is_final_kind, is_whole, most_of}
 use Rattle.up_headers.specs.declared.request.NewUpload.{NewUpload}
+use Rattle.up_headers.specs.declared.request.NotDigits.{NotDigits}
+use Rattle.up_headers.specs.declared.request.Patch.{Patch}
 
--- kind, length and bytes, and the texts that its client sent
+-- kind, length, where it is known, and bytes, and the texts that its client sent
 pub record Content : Type 0 where
   pub kind : Kind
-  pub length : ℕ
+  pub length : Option ℕ
   pub bytes : List ℕ
   pub metadata : Option (List ℕ)
   pub pairs : List (List ℕ × List ℕ)
@@ -18,19 +21,40 @@ pub record Content : Type 0 where
 -- a new upload that begins with these bytes: a final one has just them
 abbrev pub made_of : NewUpload → List ℕ → Content
 made_of new bytes =
-    record { kind = new.kind; length = if is_final_kind new.kind then length bytes else new.length; bytes = bytes; metadata = new.metadata; pairs = new.pairs; concat = new.concat }
+    record { kind = new.kind; length = if is_final_kind new.kind then Some (length bytes) else new.length; bytes = bytes; metadata = new.metadata; pairs = new.pairs; concat = new.concat }
 
--- with more bytes at the end
-abbrev pub with_more : Content → List ℕ → Content
-with_more x more = record x { bytes = x.bytes ++ more }
+-- whether all bytes of the upload have come
+abbrev pub is_complete : Content → Bool
+is_complete x = is_whole (length x.bytes) x.length
+
+-- with this length, and more bytes at the end
+abbrev pub with_more : Content → Option ℕ → List ℕ → Content
+with_more x size more = record x { length = size; bytes = x.bytes ++ more }
 
 -- no more bytes than the length says
 abbrev pub IsWithinLength : Content → Type 0
-IsWithinLength x = length x.bytes ≤ x.length
+IsWithinLength x = length x.bytes ≤ most_of x.length
 
--- there is room for so many bytes more
-abbrev pub HasRoom : ℕ → Content → Type 0
-HasRoom count x = length x.bytes + count ≤ x.length
+-- some bytes have yet to come, and with so many more there are no more than this length says
+abbrev pub CanTake : Option ℕ → ℕ → Content → Type 0
+CanTake size count x = (is_complete x ≡ false) × (length x.bytes + count ≤ most_of size)
+
+-- ---- PATCH
+
+-- the length that is declared: a number, while none is known
+abbrev pub declared : Option (Result ℕ NotDigits) → Option ℕ → Option ℕ
+declared (Some (Ok size)) None = Some size
+declared (Some (Ok size)) (Some known) = None
+declared (Some (Err fault)) known = None
+declared None known = None
+
+-- the length after a PATCH: the upload's own, or the one that is declared
+abbrev pub size_after : Patch → Content → Option ℕ
+size_after p x = option_or x.length (declared p.length x.length)
+
+-- the upload after a PATCH
+abbrev pub patched : Patch → Content → Content
+patched p x = with_more x (size_after p x) p.bytes
 
 -- ---- the codes by which a proof tells values apart
 
@@ -58,8 +82,8 @@ text_code = coded_list coded_ℕ
 
 abbrev pub content_code : Coded Content
 content_code =
-    code_by (Kind × (ℕ × (List ℕ × (Option (List ℕ) × (List (List ℕ × List ℕ) × Option (List ℕ))))))
-    (coded× kind_code (coded× coded_ℕ (coded× text_code (coded× (coded_option text_code) (coded× (coded_list (coded× text_code text_code)) (coded_option text_code))))))
+    code_by (Kind × (Option ℕ × (List ℕ × (Option (List ℕ) × (List (List ℕ × List ℕ) × Option (List ℕ))))))
+    (coded× kind_code (coded× (coded_option coded_ℕ) (coded× text_code (coded× (coded_option text_code) (coded× (coded_list (coded× text_code text_code)) (coded_option text_code))))))
     (λ c. (c.kind, (c.length, (c.bytes, (c.metadata, (c.pairs, c.concat))))))
     (λ p. record { kind = p.0; length = p.1.0; bytes = p.1.1.0; metadata = p.1.1.1.0; pairs = p.1.1.1.1.0; concat = p.1.1.1.1.1 })
     (λ _. refl)

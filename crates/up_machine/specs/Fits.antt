@@ -9,7 +9,7 @@ use Rattle.up_machine.specs.State.{Contents, State}
 -- just the uploads that are alive, with their kind and length and as many bytes as the offset says
 pub record Fits (content : Contents) (accepted : List Accepted) : Type 0 where
   pub ids : (u : ℕ) → is_some (map.get content u) ≡ is_alive accepted u
-  pub each : (u : ℕ) (x : Content) → map.get content u ≡ Some x → (kind_of accepted u ≡ Some x.kind) × (length_of accepted u ≡ Some x.length) × (length x.bytes ≡ offset_of accepted u)
+  pub each : (u : ℕ) (x : Content) → map.get content u ≡ Some x → (kind_of accepted u ≡ Some x.kind) × (length_of accepted u ≡ x.length) × (length x.bytes ≡ offset_of accepted u)
 
 -- what holds of every book
 pub record IsSoundBook (s : State) : Type 0 where

@@ -12,3 +12,4 @@ pub mod Decision
 pub mod Plans
 pub mod Fits
 pub mod Views
+pub mod Finishing

@@ -25,11 +25,16 @@ abbrev pub field_of : List ℕ → Option (List ℕ) → List Field
 field_of name None = []
 field_of name (Some text) = (name, text) ∷ []
 
+-- the length, or that it is to come later
+abbrev pub size_field : Option ℕ → Field
+size_field None = (codes "Upload-Defer-Length", codes "1")
+size_field (Some n) = (codes "Upload-Length", decimal n)
+
 -- the fields that tell how an upload stands, none where there is none
 abbrev pub standing_fields : Option Content → List Field
 standing_fields None = []
 standing_fields (Some x) =
-    ((codes "Upload-Offset", decimal (length x.bytes)) ∷ (codes "Upload-Length", decimal x.length) ∷ [])
+    ((codes "Upload-Offset", decimal (length x.bytes)) ∷ size_field x.length ∷ [])
     ++ field_of (codes "Upload-Metadata") x.metadata ++ field_of (codes "Upload-Concat") x.concat
 
 -- how an upload stands
@@ -47,7 +52,7 @@ version = (codes "Tus-Version", codes "1.0.0")
 -- what the server can do, with uploads of at most this size
 abbrev pub can_do : ℕ → Response
 can_do max_size =
-    answered 204 (version ∷ (codes "Tus-Extension", codes "creation,termination,concatenation") ∷ (codes "Tus-Max-Size", decimal max_size) ∷ []) []
+    answered 204 (version ∷ (codes "Tus-Extension", codes "creation,creation-defer-length,termination,concatenation") ∷ (codes "Tus-Max-Size", decimal max_size) ∷ []) []
 
 -- the type of every text that is answered
 abbrev pub plain_text : Field

@@ -7,9 +7,10 @@ use Rattle.up_events.specs.History.{is_final_kind}
 use Rattle.up_events.specs.Records.{Records, noted}
 use Rattle.up_events.specs.declared.event.Accepted.{Accepted}
 use Rattle.up_headers.specs.declared.request.NewUpload.{NewUpload}
+use Rattle.up_headers.specs.declared.request.Patch.{Patch}
 use Rattle.up_headers.specs.declared.request.Request.{Request}
 use Rattle.up_headers.specs.declared.request.Request.TheVariants as request
-use Rattle.up_machine.specs.Content.{Content, made_of, with_more}
+use Rattle.up_machine.specs.Content.{Content, made_of, patched}
 
 -- the uploads by id
 abbrev pub Contents : Type 0
@@ -40,17 +41,17 @@ joined content parts = flat_map (λ part. bytes_of (map.get content part)) parts
 abbrev pub first_bytes : Contents → NewUpload → List ℕ
 first_bytes content new = if is_final_kind new.kind then joined content new.parts else []
 
--- the content with more bytes at an upload's end
-abbrev pub extended : Contents → ℕ → List ℕ → Option Content → Contents
-extended content u more None = content
-extended content u more (Some x) = map.insert content u (with_more x more)
+-- the content after a PATCH of this upload
+abbrev pub extended : Contents → Patch → Option Content → Contents
+extended content p None = content
+extended content p (Some x) = map.insert content p.id (patched p x)
 
 -- the content after a request that is carried out
 abbrev pub next : Contents → Request → ℕ → Contents
 next content request.Options id = content
 next content (request.Create new) id = map.insert content id (made_of new (first_bytes content new))
 next content (request.Head u) id = content
-next content (request.Patch p) id = extended content p.id p.bytes (map.get content p.id)
+next content (request.Patch p) id = extended content p (map.get content p.id)
 next content (request.Delete u) id = map.remove content u
 next content (request.Get u) id = content
 

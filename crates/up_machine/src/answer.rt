@@ -1,7 +1,7 @@
 //! The responses, each made before anything is changed.
 ghost use Rattle.std.specs.Prelude.{◌≡◌, ◌++◌, ◌∷◌, [], codes, decimal, Some, IfOk};
 ghost use Rattle.std.specs.Option.{option_copied};
-ghost use Rattle.up_machine.specs.Responses.{answered, created, reached_offset, removed, standing, downloaded, can_do, refused_with, out_of_memory, field_of};
+ghost use Rattle.up_machine.specs.Responses.{answered, created, reached_offset, removed, standing, downloaded, can_do, refused_with, out_of_memory, field_of, size_field};
 
 use crate::reason::Reason;
 use crate::upload::Upload;
@@ -44,7 +44,7 @@ pub fn to_options(alloc: Global, max_size: u64) -> Result<Response, NoMemory>
         .with_field(
             alloc,
             b"Tus-Extension",
-            b"creation,termination,concatenation",
+            b"creation,creation-defer-length,termination,concatenation",
         )?;
     with_number(response, alloc, b"Tus-Max-Size", max_size)
 }
@@ -58,13 +58,23 @@ pub fn to_create(alloc: Global, id: Id) -> Result<Response, NoMemory>
     Ok(Response::new(alloc, 201).with_field(alloc, b"Location", &path)?)
 }
 
+/// With the length, or that it is to come later.
+fn with_size(response: Response, alloc: Global, size: Option<u64>) -> Result<Response, NoMemory>
+    ensures { IfOk result (λ made. made ≡ record response { fields = response.fields ++ size_field size ∷ [] }) }
+{
+    match size {
+        Some(n) => with_number(response, alloc, b"Upload-Length", n),
+        None => Ok(response.with_field(alloc, b"Upload-Defer-Length", b"1")?),
+    }
+}
+
 /// To a HEAD of an upload: how it stands (tus 1.0.0, HEAD).
 pub fn to_head(alloc: Global, upload: &Upload) -> Result<Response, NoMemory>
     ensures { IfOk result (λ made. made ≡ standing (Some upload.now)) }
 {
     let response = Response::new(alloc, 200);
     let response = with_number(response, alloc, b"Upload-Offset", upload.offset())?;
-    let response = with_number(response, alloc, b"Upload-Length", upload.length())?;
+    let response = with_size(response, alloc, upload.length())?;
     let response = with_text(response, alloc, b"Upload-Metadata", upload.metadata())?;
     with_text(response, alloc, b"Upload-Concat", upload.concat())
 }

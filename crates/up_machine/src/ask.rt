@@ -4,11 +4,12 @@ ghost use Rattle.std.specs.Option.{option_copied};
 ghost use Rattle.up_events.specs.History.{is_final_kind};
 ghost use Rattle.up_machine.specs.Asks.{ask_of, value_of};
 
+use crate::checks::Step;
 use crate::reason::Reason;
 use crate::upload::Upload;
 use std::alloc::Global;
 use up_events::{Id, Kind, NoMemory};
-use up_headers::{NewUpload, Pairs};
+use up_headers::{NewUpload, Pairs, Patch};
 use up_wire::Sequence;
 
 /// When a closure is asked.
@@ -18,20 +19,22 @@ pub enum Point {
     Create,
     /// Before an upload is removed: `pre-terminate`.
     Terminate,
+    /// Before an upload is complete, by its creation or by bytes: `pre-finish`.
+    Finish,
 }
 
 /// What a closure is asked about.
 #[derive(Drop)]
 pub struct Ask {
     pub point: Point,
-    /// The upload that is to be removed. None where one is to be made, which has no id yet.
+    /// The upload that is to be removed, or to get bytes. None where one is to be made, which has no id yet.
     pub target: Option<Id>,
     pub kind: Kind,
-    /// In bytes: how far the upload has come, or will have come once it is made, which is all of it for a final one and 0 for any
-    /// other.
+    /// In bytes: how far an upload that is to be removed has come; else how far it will have come with the request. A new one
+    /// begins with all of its bytes if it is final, and with none if it isn't.
     pub offset: u64,
-    /// In bytes. A final upload has the length of its parts together.
-    pub length: u64,
+    /// In bytes, where it is known. A final upload has the length of its parts together.
+    pub length: Option<u64>,
     /// The pairs of the metadata text with which the upload is made, or was.
     pub pairs: Pairs,
 }
@@ -68,32 +71,65 @@ fn copy_pairs(alloc: Global, pairs: &[(Sequence<u8>, Sequence<u8>)]) -> Result<P
     Ok(made)
 }
 
-impl Ask {
-    ghost use Rattle.up_machine.specs.declared.ask.Point.TheVariants.{Create, Terminate};
+/// The length of a new upload that begins with so many bytes.
+pub(crate) fn first_size(new: &NewUpload, offset: u64) -> Option<u64>
+    ensures { result ≡ (if is_final_kind new.now.kind then Some offset else new.now.length) }
+{
+    if new.kind == Kind::Final {
+        Some(offset)
+    } else {
+        new.length
+    }
+}
 
-    /// What is asked before this upload is made, which begins with so many bytes.
-    pub(crate) fn to_create(alloc: Global, new: &NewUpload, offset: u64) -> Result<Ask, NoMemory>
+impl Ask {
+    ghost use Rattle.up_machine.specs.Content.{patched};
+    ghost use Rattle.up_machine.specs.Decision.{step_of};
+    ghost use Rattle.up_machine.specs.declared.ask.Point.TheVariants.{Terminate, Finish};
+
+    /// What is asked at this point before an upload is made, which begins with so many bytes.
+    pub(crate) fn to_create(
+        alloc: Global,
+        point: Point,
+        new: &NewUpload,
+        offset: u64,
+    ) -> Result<Ask, NoMemory>
         ensures { IfOk result (λ ask. ask ≡ record {
-          point = Create;
+          point = point;
           target = None;
           kind = new.now.kind;
           offset = offset;
-          length = if is_final_kind new.now.kind then offset else new.now.length;
+          length = if is_final_kind new.now.kind then Some offset else new.now.length;
           pairs = new.now.pairs;
         }) }
     {
-        let length = if new.kind == Kind::Final {
-            offset
-        } else {
-            new.length
-        };
         Ok(Ask {
-            point: Point::Create,
+            point,
             target: None,
             kind: new.kind,
             offset,
-            length,
+            length: first_size(new, offset),
             pairs: copy_pairs(alloc, new.pairs.as_slice())?,
+        })
+    }
+
+    /// What is asked before an upload takes bytes that make it complete.
+    pub(crate) fn to_take(
+        alloc: Global,
+        patch: &Patch,
+        upload: &Upload,
+        step: Step,
+    ) -> Result<Ask, NoMemory>
+        requires { step ≡ step_of patch.now (Some upload.now) }
+        ensures { IfOk result (λ ask. ask ≡ ask_of Finish (Some patch.now.id) (patched patch.now upload.now)) }
+    {
+        Ok(Ask {
+            point: Point::Finish,
+            target: Some(patch.id),
+            kind: upload.kind(),
+            offset: step.offset,
+            length: step.size,
+            pairs: copy_pairs(alloc, upload.pairs())?,
         })
     }
 

@@ -2,8 +2,8 @@
 ghost use Rattle.std.specs.Prelude.{◌≡◌, ◌≤◌, ◌<◌, ◌^◌, true, length, IfOk, IsErr, OnErr};
 ghost use Rattle.std.specs.FinMap as map;
 
-use crate::ask::Ask;
-use crate::checks::{check_asked, check_patch};
+use crate::ask::{Ask, Point, first_size};
+use crate::checks::{change_by, check_asked, check_bytes, check_take};
 use crate::plan::{Asked, Done, Plan};
 use crate::refusal::Refusal;
 use crate::upload::Upload;
@@ -43,12 +43,12 @@ impl Model for Book {
 
 impl Book {
     ghost use Rattle.up_headers.specs.Rows.{first_that_holds};
+    ghost use Rattle.up_headers.specs.Creations.{IsWithin};
     ghost use Rattle.up_headers.specs.Table.{FitsWithin};
     ghost use Rattle.up_headers.specs.declared.request.Request.TheVariants as request;
     ghost use Rattle.up_machine.specs.State.{empty_state, after, first_bytes};
     ghost use Rattle.up_machine.specs.Decision.{Answers, answer_to, decide, decide_plan, is_asked, is_refusal, planned_rows, rows_of, unless};
     ghost use Rattle.up_machine.specs.Views.{Shows};
-    ghost use Rattle.up_machine.specs.declared.plan.Asked.TheVariants.{Skipped};
 
     /// A book with no upload, with a log for each lane, and with this most size of an upload, in bytes.
     pub fn new(alloc: Global, lanes: u64, max_size: u64) -> Result<Book, NoMemory>
@@ -113,7 +113,7 @@ impl Book {
         let Some(upload) = self.uploads.get(id) else {
             return Err(Refusal::NotFound);
         };
-        if upload.offset() != upload.length() {
+        if !upload.is_complete() {
             return Err(Refusal::Unfinished);
         }
         Ok(answer::to_get(alloc, upload)?)
@@ -133,8 +133,8 @@ impl Book {
     fn check_new(&self, new: &NewUpload, id: Id, asked: &Asked) -> Result<(), Refusal>
         ensures { result ≡ unless (first_that_holds (rows_of self.now (request.Create new.now) id asked.now)) tt }
     {
-        self.check_create(new)?;
-        check_asked(asked)?;
+        let offset = self.check_create(new)?;
+        check_asked(first_size(new, offset) == Some(offset), asked)?;
         if self.journal.knows(id) {
             return Err(Refusal::IdTaken);
         }
@@ -149,7 +149,7 @@ impl Book {
         id: Id,
         asked: &Asked,
     ) -> Result<Done, Refusal>
-        requires bounded { new.length ≤ 2 ^ 30 }
+        requires bounded { IsWithin (2 ^ 30) new.length }
         ensures answer { Answers result (decide self.old (request.Create new) id asked.now) }
         ensures ok { IfOk result (λ done. self.new ≡ after self.old (request.Create new) id done.change) }
         ensures err { OnErr result (self.new ≡ self.old) }
@@ -167,21 +167,22 @@ impl Book {
     }
 
     /// Takes bytes at the end of an upload (tus 1.0.0, PATCH).
-    fn patch(&mut self, alloc: Global, patch: Patch) -> Result<Done, Refusal>
-        ensures answer { Answers result (decide self.old (request.Patch patch) 0 Skipped) }
+    fn patch(&mut self, alloc: Global, patch: Patch, asked: &Asked) -> Result<Done, Refusal>
+        ensures answer { Answers result (decide self.old (request.Patch patch) 0 asked.now) }
         ensures ok { IfOk result (λ done. self.new ≡ after self.old (request.Patch patch) 0 done.change) }
         ensures err { OnErr result (self.new ≡ self.old) }
     {
-        let offset = check_patch(&self.uploads, self.closed, &patch)?;
-        let response = answer::to_patch(alloc, offset)?;
+        let step = check_take(&self.uploads, self.closed, self.max_size, &patch, asked)?;
+        let response = answer::to_patch(alloc, step.offset)?;
         let id = patch.id;
         let count = patch.bytes.len() as u64;
-        if count == 0 {
+        let Some(change) = change_by(id, step.declared, count) else {
             return Ok(Done::unchanged(response));
-        }
+        };
         let bytes = patch.bytes.as_slice();
-        self.uploads.append(alloc, &mut self.journal, id, bytes)?;
-        let change = Some(Accepted::Appended { id, count });
+        self.uploads
+            .take(alloc, &mut self.journal, change, id, step.size, bytes)?;
+        let change = change_by(id, step.declared, count);
         Ok(Done { response, change })
     }
 
@@ -203,7 +204,29 @@ impl Book {
         ensures { Answers result (decide_plan self.now (request.Create new.now)) }
     {
         let offset = self.check_create(new)?;
-        Ok(Plan::Ask(Ask::to_create(alloc, new, offset)?))
+        let made = Ask::to_create(alloc, Point::Create, new, offset)?;
+        if first_size(new, offset) != Some(offset) {
+            return Ok(Plan::Ask(made));
+        }
+        let complete = Ask::to_create(alloc, Point::Finish, new, offset)?;
+        Ok(Plan::AskBoth(made, complete))
+    }
+
+    /// What closures are asked before bytes are taken.
+    fn plan_patch(&self, alloc: Global, patch: &Patch) -> Result<Plan, Refusal>
+        ensures { Answers result (decide_plan self.now (request.Patch patch.now)) }
+    {
+        if self.closed {
+            return Err(Refusal::Closed);
+        }
+        let Some(upload) = self.uploads.get(patch.id) else {
+            return Err(Refusal::NotFound);
+        };
+        let step = check_bytes(upload, self.max_size, patch)?;
+        if !step.completes {
+            return Ok(Plan::Ready);
+        }
+        Ok(Plan::Ask(Ask::to_take(alloc, patch, upload, step)?))
     }
 
     /// What closures are asked before an upload is removed.
@@ -226,7 +249,7 @@ impl Book {
         ensures err { OnErr result (self.new ≡ self.old) }
     {
         self.check_delete(id)?;
-        check_asked(asked)?;
+        check_asked(false, asked)?;
         let response = answer::to_delete(alloc);
         self.journal.note(Accepted::Terminated { id })?;
         self.uploads.remove(id);
@@ -234,8 +257,8 @@ impl Book {
         Ok(Done { response, change })
     }
 
-    /// What would come of a request: the response to one that changes nothing, what closures are asked before one that makes or
-    /// removes an upload, that bytes can be committed, or the refusal. `NoMemory` comes only to a request that nothing else refuses.
+    /// What would come of a request: the response to one that changes nothing, what closures are asked before one that makes,
+    /// completes or removes an upload, that other bytes can be committed, or the refusal. `NoMemory` comes only to a request that nothing else refuses.
     pub fn plan(&self, alloc: Global, request: &Request) -> Result<Plan, Refusal>
         ensures { Answers result (decide_plan self.now request.now) }
     {
@@ -244,17 +267,14 @@ impl Book {
             Request::Head(id) => Ok(Plan::Answer(self.head(alloc, *id)?)),
             Request::Get(id) => Ok(Plan::Answer(self.get(alloc, *id)?)),
             Request::Create(new) => self.plan_create(alloc, new),
-            Request::Patch(patch) => {
-                check_patch(&self.uploads, self.closed, patch)?;
-                Ok(Plan::Ready)
-            }
+            Request::Patch(patch) => self.plan_patch(alloc, patch),
             Request::Delete(id) => self.plan_delete(alloc, *id),
         }
     }
 
     /// Decides on a request, and carries it out where nothing refuses it. The id is for a new upload, the others bring their
-    /// own. A request that is refused changes nothing; `NoMemory` comes only to one that nothing else refuses. A creation or a removal
-    /// that a closure refuses is refused, if not for another reason, and changes nothing.
+    /// own. A request that is refused changes nothing; `NoMemory` comes only to one that nothing else refuses. A creation, bytes or a
+    /// removal that a closure refuses are refused, if not for another reason, and changes nothing.
     pub fn commit(
         &mut self,
         alloc: Global,
@@ -272,7 +292,7 @@ impl Book {
             Request::Options => Ok(Done::unchanged(self.options(alloc)?)),
             Request::Create(new) => self.create(alloc, new, id, asked),
             Request::Head(id) => Ok(Done::unchanged(self.head(alloc, id)?)),
-            Request::Patch(patch) => self.patch(alloc, patch),
+            Request::Patch(patch) => self.patch(alloc, patch, asked),
             Request::Delete(id) => self.delete(alloc, id, asked),
             Request::Get(id) => Ok(Done::unchanged(self.get(alloc, id)?)),
         }

@@ -1,22 +1,42 @@
 //! The checks of a request against the uploads, in their order.
-ghost use Rattle.std.specs.Prelude.{◌≡◌, ◌∷◌, ◌+◌, length};
+ghost use Rattle.std.specs.Prelude.{◌≡◌, ◌++◌, ◌∷◌, [], Some};
 ghost use Rattle.std.specs.FinMap as map;
 ghost use Rattle.up_headers.specs.Rows.{first_that_holds};
-ghost use Rattle.up_machine.specs.State.{bytes_of};
-ghost use Rattle.up_machine.specs.Decision.{asked_rows, patch_rows, rows_at, unless};
+ghost use Rattle.up_machine.specs.Content.{declared};
+ghost use Rattle.up_machine.specs.Decision.{asked_rows, change_by, is_bad_size, patch_completes, patch_rows, rows_at, step_of, unless};
 ghost use Rattle.up_machine.specs.declared.refusal.Refusal.TheVariants as refusal;
 
 use crate::plan::Asked;
 use crate::refusal::Refusal;
 use crate::upload::Upload;
 use crate::uploads::Uploads;
-use up_events::Kind;
-use up_headers::Patch;
+use up_events::{Accepted, Id, Kind};
+use up_headers::{NotDigits, Patch};
 
-/// What refuses a PATCH, or else the offset that the upload has after it.
-pub fn check_patch(uploads: &Uploads, closed: bool, patch: &Patch) -> Result<u64, Refusal>
-    ensures { result ≡ unless (first_that_holds ((closed, refusal.Closed) ∷ rows_at (map.get uploads.now patch.now.id) (patch_rows patch.now)))
-        (length (bytes_of (map.get uploads.now patch.now.id)) + length patch.now.bytes) }
+/// What a PATCH comes to.
+#[derive(Clone, Copy, Debug)]
+pub struct Step {
+    /// How many bytes the upload then has.
+    pub offset: u64,
+    /// How many it is to have, where that is then known.
+    pub size: Option<u64>,
+    /// The length, where it is declared.
+    pub declared: Option<u64>,
+    /// Whether the upload is complete by that.
+    pub completes: bool,
+}
+
+/// What refuses a PATCH, before which this was said, or else what it comes to.
+pub fn check_take(
+    uploads: &Uploads,
+    closed: bool,
+    max_size: u64,
+    patch: &Patch,
+    asked: &Asked,
+) -> Result<Step, Refusal>
+    ensures { result ≡ unless (first_that_holds ((closed, refusal.Closed) ∷ rows_at (map.get uploads.now patch.now.id) (patch_rows max_size patch.now)
+        ++ asked_rows (patch_completes patch.now (map.get uploads.now patch.now.id)) asked.now))
+        (step_of patch.now (map.get uploads.now patch.now.id)) }
 {
     if closed {
         return Err(Refusal::Closed);
@@ -24,12 +44,21 @@ pub fn check_patch(uploads: &Uploads, closed: bool, patch: &Patch) -> Result<u64
     let Some(upload) = uploads.get(patch.id) else {
         return Err(Refusal::NotFound);
     };
-    check_bytes(upload, patch)
+    check_said(upload, max_size, patch, asked)
 }
 
 /// The same, where the upload is there.
-fn check_bytes(upload: &Upload, patch: &Patch) -> Result<u64, Refusal>
-    ensures { result ≡ unless (first_that_holds (patch_rows patch.now upload.now)) (length upload.now.bytes + length patch.now.bytes) }
+fn check_said(upload: &Upload, max_size: u64, patch: &Patch, asked: &Asked) -> Result<Step, Refusal>
+    ensures { result ≡ unless (first_that_holds (patch_rows max_size patch.now upload.now ++ asked_rows (patch_completes patch.now (Some upload.now)) asked.now)) (step_of patch.now (Some upload.now)) }
+{
+    let step = check_bytes(upload, max_size, patch)?;
+    check_asked(step.completes, asked)?;
+    Ok(step)
+}
+
+/// What refuses a PATCH of this upload at planning, or else what it comes to.
+pub fn check_bytes(upload: &Upload, max_size: u64, patch: &Patch) -> Result<Step, Refusal>
+    ensures { result ≡ unless (first_that_holds (patch_rows max_size patch.now upload.now)) (step_of patch.now (Some upload.now)) }
 {
     if upload.kind() == Kind::Final {
         return Err(Refusal::FinalUpload);
@@ -44,19 +73,60 @@ fn check_bytes(upload: &Upload, patch: &Patch) -> Result<u64, Refusal>
     if offset != reached {
         return Err(Refusal::WrongOffset);
     }
+    let declared = declared(upload, patch.length)?;
+    if declared.is_some_and(|size| size > max_size) {
+        return Err(Refusal::DeclaredTooLong);
+    }
+    let size = upload.length().or(declared);
     let count = patch.bytes.len() as u64;
-    if count > upload.length() - reached {
+    let most = size.unwrap_or(max_size);
+    if reached > most || count > most - reached {
         return Err(Refusal::TooMuch);
     }
-    Ok(reached + count)
+    let offset = reached + count;
+    let changes = change_by(patch.id, declared, count).is_some();
+    Ok(Step {
+        offset,
+        size,
+        declared,
+        completes: changes && size == Some(offset),
+    })
 }
 
-/// What refuses a request of those that were asked.
-pub fn check_asked(asked: &Asked) -> Result<(), Refusal>
-    ensures { result ≡ unless (first_that_holds (asked_rows asked.now)) tt }
+/// The length that is declared, if one is, or else what refuses the one that was sent.
+fn declared(upload: &Upload, sent: Option<Result<u64, NotDigits>>) -> Result<Option<u64>, Refusal>
+    ensures { result ≡ unless (first_that_holds ((is_bad_size sent upload.now, refusal.BadDeclared) ∷ [])) (declared sent upload.now.length) }
+{
+    let size = match sent {
+        None => return Ok(None),
+        Some(Err(_)) => return Err(Refusal::BadDeclared),
+        Some(Ok(size)) => size,
+    };
+    match upload.length() {
+        Some(known) if size == known => Ok(None),
+        None if size >= upload.offset() => Ok(Some(size)),
+        _ => Err(Refusal::BadDeclared),
+    }
+}
+
+/// The change that a length, if one is declared, and so many bytes are to an upload.
+pub fn change_by(id: Id, declared: Option<u64>, count: u64) -> Option<Accepted>
+    ensures { result ≡ change_by id declared count }
+{
+    match declared {
+        Some(length) => Some(Accepted::Declared { id, length, count }),
+        None if count > 0 => Some(Accepted::Appended { id, count }),
+        None => None,
+    }
+}
+
+/// What refuses a request because of those that were asked, or weren't.
+pub fn check_asked(completes: bool, asked: &Asked) -> Result<(), Refusal>
+    ensures { result ≡ unless (first_that_holds (asked_rows completes asked.now)) tt }
 {
     match asked {
-        Asked::Skipped | Asked::Allowed => Ok(()),
+        Asked::Skipped | Asked::Allowed if completes => Err(Refusal::NotAsked),
+        Asked::Skipped | Asked::Allowed | Asked::AllowedFinish => Ok(()),
         Asked::Refused { status, reason } => Err(Refusal::ByHook {
             status: *status,
             reason: *reason,

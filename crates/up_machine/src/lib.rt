@@ -20,7 +20,7 @@ mod view;
 
 pub use ask::{Ask, Point, Verdict};
 pub use book::Book;
-pub use law::refusals_of_plans_are_kept;
+pub use law::{post_finish_is_asked, refusals_of_plans_are_kept};
 pub use plan::{Asked, Done, Plan};
 pub use reason::Reason;
 pub use refusal::{Refusal, response_of};

@@ -4,7 +4,8 @@ ghost use Rattle.std.specs.FinMap as map;
 ghost use Rattle.std.specs.List.{list_any};
 ghost use Rattle.up_headers.specs.Rows.{first_that_holds};
 ghost use Rattle.up_machine.specs.State.{bytes_of, first_bytes, joined};
-ghost use Rattle.up_machine.specs.Decision.{create_rows, is_complete, is_partial, part_rows, passes, unless};
+ghost use Rattle.up_machine.specs.Decision.{create_rows, is_partial, part_rows, passes, unless};
+ghost use Rattle.up_machine.specs.Content.{is_complete};
 
 use crate::refusal::Refusal;
 use crate::uploads::Uploads;
@@ -31,7 +32,7 @@ fn is_complete(uploads: &Uploads, id: Id) -> bool
     ensures { result ≡ passes is_complete (map.get uploads.now id) }
 {
     match uploads.get(id) {
-        Some(upload) => upload.offset() == upload.length(),
+        Some(upload) => upload.is_complete(),
         None => false,
     }
 }

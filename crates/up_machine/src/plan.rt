@@ -11,6 +11,8 @@ pub enum Plan {
     Answer(Response),
     /// The closures are to be asked this, and then it is to be committed.
     Ask(Ask),
+    /// The closures are to be asked the first and, where none refuses it, the second, and then it is to be committed.
+    AskBoth(Ask, Ask),
     /// It is to be committed.
     Ready,
 }
@@ -18,12 +20,26 @@ pub enum Plan {
 /// What was said to a request before it is committed.
 #[derive(Clone, Copy, Debug, PartialEq, Eq)]
 pub enum Asked {
-    /// Nobody was asked, which counts as allowed.
+    /// Nobody was asked, which counts as allowed. A request that would make an upload complete is refused.
     Skipped,
-    /// No closure refuses.
+    /// No closure refuses. A request that would make an upload complete is refused, since nobody was asked that.
     Allowed,
+    /// No closure refuses, nor that the upload is complete.
+    AllowedFinish,
     /// A closure refuses, with this status and reason.
     Refused { status: u16, reason: Reason },
+}
+
+impl Asked {
+    ghost use Rattle.std.specs.Prelude.{◌≡◌};
+    ghost use Rattle.up_machine.specs.Decision.{is_refusal};
+
+    /// Whether a closure refuses.
+    pub fn is_refusal(&self) -> bool
+        ensures { result ≡ is_refusal self.now }
+    {
+        matches!(self, Asked::Refused { .. })
+    }
 }
 
 /// What came of a request that was carried out.

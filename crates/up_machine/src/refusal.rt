@@ -31,7 +31,14 @@ pub enum Refusal {
     /// The upload's offset is another than the one that a PATCH says (409).
     #[error("the upload has another offset")]
     WrongOffset,
-    /// With the bytes of a PATCH the upload would have more than its length (413).
+    /// A PATCH says a length that is no number, another than the upload's, or less than the bytes that it has (400).
+    #[error("the upload can't have the length that was sent")]
+    BadDeclared,
+    /// A PATCH declares a length above the size that an upload may have (413).
+    #[error("the length that was declared is too long")]
+    DeclaredTooLong,
+    /// With the bytes of a PATCH the upload would have more than its length, or than an upload may have while its length isn't
+    /// known (413).
     #[error("more bytes than the upload is to have")]
     TooMuch,
     /// A part of a final upload isn't there (400).
@@ -46,6 +53,9 @@ pub enum Refusal {
     /// Together the parts of a final upload are longer than an upload may be (413).
     #[error("the parts are too long together")]
     SumTooLong,
+    /// The request would make an upload complete, and the closures for that weren't asked (409).
+    #[error("nobody was asked whether the upload may be complete")]
+    NotAsked,
     /// A closure refuses the request (with the status and the reason that it gave).
     #[error("a closure refuses")]
     ByHook { status: u16, reason: Reason },
@@ -80,11 +90,14 @@ pub fn response_of(alloc: Global, refusal: &Refusal) -> Result<Response, NoMemor
         Refusal::MediaType => (415, "23 MediaType\n"),
         Refusal::BadOffset => (400, "24 BadOffset\n"),
         Refusal::WrongOffset => (409, "25 WrongOffset\n"),
+        Refusal::BadDeclared => (400, "36 BadDeclared\n"),
+        Refusal::DeclaredTooLong => (413, "37 DeclaredTooLong\n"),
         Refusal::TooMuch => (413, "26 TooMuch\n"),
         Refusal::PartUnknown => (400, "27 PartUnknown\n"),
         Refusal::PartNotPartial => (400, "28 PartNotPartial\n"),
         Refusal::PartUnfinished => (400, "29 PartUnfinished\n"),
         Refusal::SumTooLong => (413, "30 SumTooLong\n"),
+        Refusal::NotAsked => (409, "35 NotAsked\n"),
         Refusal::ByHook { status, reason } => return answer::refused_because(
             alloc, *status, reason,
         ),

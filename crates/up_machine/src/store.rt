@@ -26,17 +26,17 @@ impl Store {
         }
     }
 
-    /// To be shared once there are `length` bytes. Where memory for that is wanting, they stay as they are.
-    pub fn settled(self, length: u64) -> Store
-        requires { IsStored self length }
+    /// To be shared once there are as many bytes as this length says. Where memory for that is wanting, they stay as they are.
+    pub fn settled(self, size: Option<u64>) -> Store
+        requires { IsStored self size }
         ensures same { stored result ≡ stored self }
-        ensures stored { IsStored result length }
+        ensures stored { IsStored result size }
     {
         let bytes = match self {
             Store::Open(bytes) => bytes,
             Store::Whole(bytes) => return Store::Whole(bytes),
         };
-        if (bytes.len() as u64) < length {
+        if size != Some(bytes.len() as u64) {
             return Store::Open(bytes);
         }
         match Bytes::from_vec(bytes) {

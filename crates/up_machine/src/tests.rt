@@ -1,10 +1,12 @@
 //! What the proofs can't see: whether the clauses say what the rules mean, and that calls succeed.
 ghost use Rattle.std.specs.Prelude.{◌≤◌, ◌<◌, ◌^◌, IfOk};
+ghost use Rattle.up_headers.specs.Creations.{IsWithin};
 ghost use Rattle.up_headers.specs.Table.{FitsWithin};
 
 mod answers;
 mod asks;
 mod concatenation;
+mod deferred;
 mod drawn;
 mod events;
 mod plain;
@@ -21,7 +23,7 @@ use std::alloc::{AllocError, Global};
 use std::process::Abort;
 use std::test::Fail;
 use up_events::{Accepted, Event, Hook, Id, Kind};
-use up_headers::{NewUpload, Patch, Request, pairs_of};
+use up_headers::{NewUpload, NotDigits, Patch, Request, pairs_of};
 use up_wire::{Response, Sequence};
 
 /// The ids of these tests are the numbers below this one.
@@ -33,6 +35,8 @@ enum Short<'a> {
     Options,
     /// A plain upload, with this length and metadata text.
     Create(u8, &'a str),
+    /// A plain upload whose length comes later.
+    Deferred,
     /// A partial one, with this length and the metadata text "part".
     Partial(u8),
     /// A final one of the uploads with these numbers, with this text of `Upload-Concat` and the metadata text "whole".
@@ -40,6 +44,8 @@ enum Short<'a> {
     Head,
     /// With a right or a wrong media type, this offset and these bytes.
     Patch(bool, Option<u64>, &'a [u8]),
+    /// With all that a PATCH must have, at this offset, with these bytes and this length.
+    Declare(u64, &'a [u8], Result<u64, NotDigits>),
     Delete,
     Get,
 }
@@ -67,12 +73,17 @@ fn ids_of(alloc: Global, numbers: &[u128]) -> Result<Sequence<Id>, AllocError> {
 }
 
 /// A new upload without parts, with this metadata text and the pairs of it.
-fn upload_of(alloc: Global, kind: Kind, length: u8, metadata: &str) -> Result<NewUpload, Fail>
-    ensures { IfOk result (λ new. new.length ≤ 2 ^ 30) }
+fn upload_of(
+    alloc: Global,
+    kind: Kind,
+    length: Option<u8>,
+    metadata: &str,
+) -> Result<NewUpload, Fail>
+    ensures { IfOk result (λ new. IsWithin (2 ^ 30) new.length) }
 {
     Ok(NewUpload {
         kind,
-        length: u64::from(length),
+        length: length.map(|length| u64::from(length)),
         parts: Sequence::new(alloc),
         pairs: pairs_of(alloc, metadata.as_bytes())?,
         metadata: text_of(alloc, metadata)?,
@@ -87,22 +98,31 @@ fn request_of(alloc: Global, id: Id, short: Short) -> Result<Request, Fail>
     Ok(match short {
         Short::Options => Request::Options,
         Short::Create(length, metadata) => {
-            Request::Create(upload_of(alloc, Kind::Plain, length, metadata)?)
+            Request::Create(upload_of(alloc, Kind::Plain, Some(length), metadata)?)
         }
+        Short::Deferred => Request::Create(upload_of(alloc, Kind::Plain, None, "")?),
         Short::Partial(length) => Request::Create(NewUpload {
             concat: text_of(alloc, "partial")?,
-            ..upload_of(alloc, Kind::Partial, length, "part")?
+            ..upload_of(alloc, Kind::Partial, Some(length), "part")?
         }),
         Short::Final(parts, concat) => Request::Create(NewUpload {
             parts: ids_of(alloc, parts)?,
             concat: text_of(alloc, concat)?,
-            ..upload_of(alloc, Kind::Final, 0, "whole")?
+            ..upload_of(alloc, Kind::Final, Some(0), "whole")?
         }),
         Short::Head => Request::Head(id),
         Short::Patch(media, offset, bytes) => Request::Patch(Patch {
             id,
             media,
             offset,
+            length: None,
+            bytes: Sequence::from_slice(alloc, bytes)?,
+        }),
+        Short::Declare(offset, bytes, length) => Request::Patch(Patch {
+            id,
+            media: true,
+            offset: Some(offset),
+            length: Some(length),
             bytes: Sequence::from_slice(alloc, bytes)?,
         }),
         Short::Delete => Request::Delete(id),
@@ -148,10 +168,18 @@ fn refusal_words(alloc: Global, refusal: &Refusal) -> Result<String, Fail> {
     response_words(alloc, &response_of(alloc, refusal)?)
 }
 
+/// A length in words: "-" where it isn't known.
+fn length_words(alloc: Global, length: Option<u64>) -> Result<String, Fail> {
+    match length {
+        Some(length) => Ok(format!(in alloc; "{length}")?),
+        None => Ok(String::from_str(alloc, "-")?),
+    }
+}
+
 /// What closures are asked, in words, as "Create None Plain 0/5 [name: ab; ]": point, target, kind, offset and length, and pairs.
 fn ask_words(alloc: Global, ask: &Ask) -> Result<String, Fail> {
     let (point, target, kind) = (ask.point, ask.target, ask.kind);
-    let (offset, length) = (ask.offset, ask.length);
+    let (offset, length) = (ask.offset, length_words(alloc, ask.length)?);
     let mut words = format!(in alloc; "{point:?} {target:?} {kind:?} {offset}/{length} [")?;
     push_pairs(&mut words, ask.pairs.as_slice())?;
     words.push_str("]")?;
@@ -163,6 +191,11 @@ fn plan_words(alloc: Global, planned: &Result<Plan, Refusal>) -> Result<String, 
     match planned {
         Ok(Plan::Answer(response)) => response_words(alloc, response),
         Ok(Plan::Ask(ask)) => ask_words(alloc, ask),
+        Ok(Plan::AskBoth(first, second)) => {
+            let first = ask_words(alloc, first)?;
+            let second = ask_words(alloc, second)?;
+            Ok(format!(in alloc; "{first}, {second}")?)
+        }
         Ok(Plan::Ready) => Ok(String::from_str(alloc, "ready")?),
         Err(refusal) => refusal_words(alloc, refusal),
     }
@@ -281,13 +314,13 @@ impl Both {
         Ok(())
     }
 
-    /// Holds that both answer these requests so, before which nobody was asked.
+    /// Holds that both answer these requests so, which the closures allow.
     fn hold(
         &mut self,
         rt: &impl Abort,
         alloc: Global,
         rows: &[(u128, Short, &str)],
     ) -> Result<(), Fail> {
-        self.hold_asked(rt, alloc, &Asked::Skipped, rows)
+        self.hold_asked(rt, alloc, &Asked::AllowedFinish, rows)
     }
 }

@@ -8,15 +8,18 @@ use bytes::Bytes;
 use std::alloc::{AllocError, Global};
 use std::marker::Model;
 use std::mem;
-use up_events::{Accepted, Id, Journal, Kind, NoMemory};
+use up_events::{Accepted, Journal, Kind, NoMemory};
 use up_headers::{NewUpload, Pairs};
 use up_wire::Sequence;
 
-/// An upload: what its client said of it, and the bytes that have come so far, never more than its length says.
+/// The most bytes of an upload whose length isn't known.
+const MOST_BYTES: u64 = 1 << 30;
+
+/// An upload: what its client said of it, and the bytes that have come so far, never more than its length says, where that is known.
 #[derive(Drop)]
 pub struct Upload {
     kind: Kind,
-    length: u64,
+    length: Option<u64>,
     bytes: Store,
     metadata: Option<Sequence<u8>>,
     pairs: Pairs,
@@ -47,11 +50,10 @@ fn text(sent: &Option<Sequence<u8>>) -> Option<&[u8]>
 }
 
 impl Upload {
-    ghost use Rattle.up_machine.specs.Content.{made_of, with_more, IsWithinLength, HasRoom};
+    ghost use Rattle.up_machine.specs.Content.{made_of, is_complete, with_more, IsWithinLength, CanTake};
     ghost use Rattle.up_machine.specs.Views.{IsViewOf};
     ghost use Rattle.up_events.specs.History.{CanFollow};
     ghost use Rattle.up_events.specs.Records.{noted};
-    ghost use Rattle.up_events.specs.declared.event.Accepted.TheVariants.{Appended};
 
     /// A new upload that begins with these bytes: a final one has just them, any other none.
     pub fn new(new: NewUpload, bytes: Vec<u8>) -> Self
@@ -67,7 +69,7 @@ impl Upload {
             concat,
         } = new;
         let length = if kind == Kind::Final {
-            bytes.len() as u64
+            Some(bytes.len() as u64)
         } else {
             length
         };
@@ -88,19 +90,25 @@ impl Upload {
         self.kind
     }
 
-    /// How many bytes it is to have.
-    pub fn length(&self) -> u64
+    /// How many bytes it is to have, where that is known.
+    pub fn length(&self) -> Option<u64>
         ensures { result ≡ self.now.length }
     {
         self.length
     }
 
-    /// How many bytes have come so far, no more than the length says.
+    /// How many bytes have come so far.
     pub fn offset(&self) -> u64
-        ensures value { result ≡ length self.now.bytes }
-        ensures within { IsWithinLength self.now }
+        ensures { result ≡ length self.now.bytes }
     {
         self.bytes.as_slice().len() as u64
+    }
+
+    /// Whether all bytes have come.
+    pub fn is_complete(&self) -> bool
+        ensures { result ≡ is_complete self.now }
+    {
+        self.length == Some(self.offset())
     }
 
     /// The bytes that have come so far.
@@ -160,28 +168,30 @@ impl Upload {
         self.bytes = store.settled(self.length);
     }
 
-    /// Notes the change, and takes the bytes at the end. Where memory is wanting, nothing is changed.
-    pub fn append(
+    /// Notes the change, and takes the bytes at the end, with this length from now on. Where memory is wanting, nothing is
+    /// changed.
+    pub fn take(
         &mut self,
         alloc: Global,
         journal: &mut Journal,
-        id: Id,
+        change: Accepted,
+        size: Option<u64>,
         more: &[u8],
     ) -> Result<(), NoMemory>
-        requires room { HasRoom (length more.now) self.old }
-        requires follows { CanFollow journal.old.accepted (Appended id (length more.now)) }
-        ensures ok { OnOk result (self.new ≡ with_more self.old more.now) }
-        ensures noted { OnOk result (journal.new ≡ noted journal.old (Appended id (length more.now))) }
+        requires room { CanTake size (length more.now) self.old }
+        requires follows { CanFollow journal.old.accepted change }
+        ensures ok { OnOk result (self.new ≡ with_more self.old size more.now) }
+        ensures noted { OnOk result (journal.new ≡ noted journal.old change) }
         ensures err { OnErr result (self.new ≡ self.old) }
         ensures not_noted { OnErr result (journal.new ≡ journal.old) }
     {
         let Store::Open(bytes) = &mut self.bytes else {
             unreachable!()
         };
-        grow(bytes, more.len(), self.length)?;
-        let count = more.len() as u64;
-        journal.note(Accepted::Appended { id, count })?;
+        grow(bytes, more.len(), size.unwrap_or(MOST_BYTES))?;
+        journal.note(change)?;
         bytes.extend_from_slice(more).unwrap();
+        self.length = size;
         self.settle(alloc);
         Ok(())
     }

@@ -57,8 +57,7 @@ fn create(
 }
 
 impl Uploads {
-    ghost use Rattle.up_events.specs.declared.event.Accepted.TheVariants.{Appended};
-    ghost use Rattle.up_machine.specs.Content.{with_more, HasRoom};
+    ghost use Rattle.up_machine.specs.Content.{with_more, CanTake};
 
     /// No uploads. Takes no memory.
     pub fn new(alloc: Global) -> Self
@@ -76,25 +75,28 @@ impl Uploads {
         self.entries.get(&id)
     }
 
-    /// Notes the change, and takes the bytes at the end of the upload. Where memory is wanting, nothing is changed.
-    pub fn append(
+    /// Notes the change, and takes the bytes at the end of the upload, with this length from now on. Where memory is wanting,
+    /// nothing is changed.
+    pub fn take(
         &mut self,
         alloc: Global,
         journal: &mut Journal,
+        change: Accepted,
         id: Id,
+        size: Option<u64>,
         more: &[u8],
     ) -> Result<(), NoMemory>
-        requires room { IsSomeAnd (map.get self.old id) (HasRoom (length more.now)) }
-        requires follows { CanFollow journal.old.accepted (Appended id (length more.now)) }
-        ensures ok { OnOk result (IfSome (map.get self.old id) (λ x. self.new ≡ map.insert self.old id (with_more x more.now))) }
-        ensures noted { OnOk result (journal.new ≡ noted journal.old (Appended id (length more.now))) }
+        requires room { IsSomeAnd (map.get self.old id) (CanTake size (length more.now)) }
+        requires follows { CanFollow journal.old.accepted change }
+        ensures ok { OnOk result (IfSome (map.get self.old id) (λ x. self.new ≡ map.insert self.old id (with_more x size more.now))) }
+        ensures noted { OnOk result (journal.new ≡ noted journal.old change) }
         ensures err { OnErr result (self.new ≡ self.old) }
         ensures not_noted { OnErr result (journal.new ≡ journal.old) }
     {
         let Some(upload) = self.entries.get_mut(&id) else {
             unreachable!()
         };
-        upload.append(alloc, journal, id, more)
+        upload.take(alloc, journal, change, size, more)
     }
 
     /// Notes the change, and puts a new upload in. Where memory is wanting, nothing is changed.

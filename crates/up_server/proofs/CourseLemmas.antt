@@ -1,22 +1,24 @@
 -- A dispatcher's fields after one more request.
 use Rattle.std.proofs.Common.{◌≡◌, ◌⊎◌, inl, inr, ℕ, ◌+◌, ◌<◌, ◌≤◌, ◌%◌, true, false, Option, Some, None, is_some, Ok, Err, List, [], ◌∷◌, ◌++◌, length, zero, suc, refl, sym, ap, ◌∙◌, subst, arith, slice_get, slice_set, length-append, eqb, cond}
 use Rattle.std.proofs.Math.ListN.{length-set}
+use Rattle.std.specs.FinMap as map
 use Rattle.std.proofs.lemmas.Bool.{eqb-true}
 use Rattle.std.proofs.lemmas.List.Elements.{Contains-append_left}
-use Rattle.up_events.proofs.HistoryLemmas.{log_of-snoc, creation_of-other}
+use Rattle.up_events.proofs.HistoryLemmas.{log_of-snoc, kind_of-other}
 use Rattle.up_events.proofs.JournalLemmas.{each_set, get-push}
-use Rattle.up_events.proofs.Sound.{creation_of-appended, creation_of-terminated}
-use Rattle.up_events.specs.History.{id_of, creation_of, is_known, events_of, steps_of}
+use Rattle.up_events.proofs.Sound.{kind_of-appended, kind_of-declared, kind_of-terminated}
+use Rattle.up_events.specs.History.{id_of, kind_of, is_known, events_of, steps_of}
+use Rattle.up_events.specs.Lists.{first_given}
 use Rattle.up_events.specs.Log.{log_of, numbered}
 use Rattle.up_events.specs.Records.{Records, lane_log, noted}
 use Rattle.up_events.specs.declared.event.Accepted.{Accepted}
-use Rattle.up_events.specs.declared.event.Accepted.TheVariants.{Created, Appended, Terminated}
+use Rattle.up_events.specs.declared.event.Accepted.TheVariants.{Created, Appended, Declared, Terminated}
 use Rattle.up_events.specs.declared.event.Event.{Event}
 use Rattle.up_headers.specs.Rows.{first_that_holds}
 use Rattle.up_headers.specs.declared.request.Request.{Request}
 use Rattle.up_headers.specs.declared.request.Request.TheVariants as request
 use Rattle.up_machine.specs.Content.{made_of}
-use Rattle.up_machine.specs.Decision.{unless, change_of, appended, response_to, rows_of}
+use Rattle.up_machine.specs.Decision.{unless, change_by, change_of, patch_declared, response_to, rows_of}
 use Rattle.up_machine.specs.State.{State, empty_state, after, first_bytes}
 use Rattle.up_machine.specs.declared.plan.Done.{Done}
 use Rattle.up_machine.specs.declared.refusal.Refusal.{Refusal}
@@ -51,7 +53,7 @@ pub AreNew-push : (n : ℕ) (feeds : List Passage) (f : Passage) → AreNew n fe
 AreNew-push n feeds f are here = record { rows = length-append feeds (f ∷ []) ∙ omega (arith, are.rows); new = get-push (λ g. (log : List Event) → IsFrom log g) feeds f are.new here }
 
 pub sound_new : (book : State) (feeds : List Passage) (lanes max_size : ℕ) → 0 < lanes → book ≡ empty_state lanes max_size → AreNew lanes feeds → IsSound book feeds 0
-unfolding creation_of
+unfolding kind_of first_given
 sound_new book feeds lanes max_size some is are = record {
   some = subst (λ (s : State). 0 < s.journal.lanes) (sym is) some;
   rows = are.rows ∙ ap (λ (s : State). s.journal.lanes) (sym is);
@@ -90,10 +92,12 @@ none_reported handed journal (suc k) r e = absurd (cc)
 abbrev pub IsOlder : Accepted → ℕ → Type 0
 IsOlder (Created id n kind) u = id < u
 IsOlder (Appended id n) u = Unit {0}
+IsOlder (Declared id n count) u = Unit {0}
 IsOlder (Terminated id) u = Unit {0}
 
-older_appended : (id n : ℕ) (c : Accepted) (u : ℕ) → appended id n ≡ Some c → IsOlder c u
-older_appended id n c u = elim (eqb n 0) as (λ b. cond b None (Some (Appended id n)) ≡ Some c → IsOlder c u) [
+older_bytes : (id : ℕ) (declared : Option ℕ) (n : ℕ) (c : Accepted) (u : ℕ) → change_by id declared n ≡ Some c → IsOlder c u
+older_bytes id (Some size) n c u = λ e. let h : Declared id size n ≡ c = cc in subst (λ d. IsOlder d u) h tt
+older_bytes id None n c u = elim (eqb n 0) as (λ b. cond b None (Some (Appended id n)) ≡ Some c → IsOlder c u) [
   | true ↦ λ e. absurd (cc)
   | false ↦ λ e. let h : Appended id n ≡ c = cc in subst (λ d. IsOlder d u) h tt
 ]
@@ -105,7 +109,7 @@ older_change s (request.Create new) last c u is above =
     let h : Created (last + 1) x.length x.kind ≡ c = cc in
     subst (λ d. IsOlder d u) h above
 older_change s (request.Head v) last c u is above = absurd (cc)
-older_change s (request.Patch p) last c u is above = older_appended p.id (length p.bytes) c u is
+older_change s (request.Patch p) last c u is above = older_bytes p.id (patch_declared p (map.get s.content p.id)) (length p.bytes) c u is
 older_change s (request.Delete v) last c u is above = let h : Terminated v ≡ c = cc in subst (λ d. IsOlder d u) h tt
 older_change s (request.Get v) last c u is above = absurd (cc)
 
@@ -113,9 +117,10 @@ apart : (id u : ℕ) → id < u → eqb id u ≡ false
 apart id u below = elim (eqb id u) as (λ b. eqb id u ≡ b → b ≡ false) [ true ↦ λ e. let same = eqb-true id u e in absurd (omega arith) | false ↦ λ e. refl ] refl
 
 unknown_after : (changes : List Accepted) (c : Accepted) (u : ℕ) → is_known changes u ≡ false → IsOlder c u → is_known (changes ++ c ∷ []) u ≡ false
-unknown_after changes (Created id n kind) u new older = ap is_some (creation_of-other changes (Created id n kind) u (apart id u older)) ∙ new
-unknown_after changes (Appended id n) u new older = ap is_some (creation_of-appended changes id n u) ∙ new
-unknown_after changes (Terminated id) u new older = ap is_some (creation_of-terminated changes id u) ∙ new
+unknown_after changes (Created id n kind) u new older = ap is_some (kind_of-other changes (Created id n kind) u (apart id u older)) ∙ new
+unknown_after changes (Appended id n) u new older = ap is_some (kind_of-appended changes id n u) ∙ new
+unknown_after changes (Declared id n count) u new older = ap is_some (kind_of-declared changes id n count u) ∙ new
+unknown_after changes (Terminated id) u new older = ap is_some (kind_of-terminated changes id u) ∙ new
 
 last_rises : (last : ℕ) (asks : Request) → last ≤ last_after last asks
 last_rises last request.Options = omega arith

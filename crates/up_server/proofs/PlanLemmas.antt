@@ -1,5 +1,5 @@
 -- A request that its plan refuses, or for which memory is wanting.
-use Rattle.std.proofs.Common.{◌≡◌, ◌⊎◌, inl, inr, ℕ, Option, Some, None, Result, Ok, Err, IsErrAnd, refl, sym, ap, ◌∙◌, subst}
+use Rattle.std.proofs.Common.{◌≡◌, ◌⊎◌, inl, inr, ℕ, Result, Err, IsErrAnd, refl, sym, ap, ◌∙◌, subst}
 use Rattle.std.proofs.lemmas.Result.{err_from_is_err_and}
 use Rattle.up_headers.specs.declared.request.Request.{Request}
 use Rattle.up_machine.proofs.PlanLemmas.{refusals_kept}

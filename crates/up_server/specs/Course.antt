@@ -1,11 +1,11 @@
 -- What a dispatcher stands for, and what a request makes of it.
-use Rattle.std.specs.Prelude.{◌≡◌, ◌⊎◌, ℕ, ◌+◌, List, length, slice_get, Some, Result, Ok, Err}
+use Rattle.std.specs.Prelude.{◌≡◌, ◌⊎◌, ℕ, ◌+◌, true, false, List, length, slice_get, Some, Result, Ok, Err}
 use Rattle.up_events.specs.Delivery.{IsWithin}
 use Rattle.up_events.specs.Records.{Records, lane_log}
 use Rattle.up_events.specs.declared.event.Event.{Event}
 use Rattle.up_headers.specs.declared.request.Request.{Request}
 use Rattle.up_headers.specs.declared.request.Request.TheVariants as request
-use Rattle.up_machine.specs.Decision.{decide, decide_plan}
+use Rattle.up_machine.specs.Decision.{decide, decide_plan, is_refusal}
 use Rattle.up_machine.specs.Refusals.{response_of}
 use Rattle.up_machine.specs.Responses.{out_of_memory}
 use Rattle.up_machine.specs.State.{State, after}
@@ -46,10 +46,17 @@ IsOutOfMemory old new response = (response ≡ out_of_memory) × (new ≡ old)
 abbrev pub Gives : Type 1
 Gives = Ask → Asked → Type 0
 
+-- what they gave to the first question, where that is a refusal, and else to the second
+abbrev pub AreAskedInTurn : Gives → Ask → Ask → Asked → Type 0
+AreAskedInTurn gives first second asked =
+    (gives first asked × (is_refusal asked ≡ true))
+    ⊎ ((passed : Asked) × gives first passed × (is_refusal passed ≡ false) × gives second asked)
+
 -- what the closures gave to what a plan asks them; nobody was asked where it asks nothing
 abbrev pub IsAsked : Gives → Result Plan Refusal → Asked → Type 0
 IsAsked gives (Ok (plan.Answer response)) asked = asked ≡ Skipped
 IsAsked gives (Ok (plan.Ask ask)) asked = gives ask asked
+IsAsked gives (Ok (plan.AskBoth first second)) asked = AreAskedInTurn gives first second asked
 IsAsked gives (Ok plan.Ready) asked = asked ≡ Skipped
 IsAsked gives (Err refused) asked = asked ≡ Skipped
 

@@ -1,5 +1,5 @@
 -- The report of a run, as text.
-use Rattle.std.specs.Prelude.{ℕ, ◌+◌, List, [], ◌∷◌, ◌++◌, length, flat_map, codes, decimal}
+use Rattle.std.specs.Prelude.{ℕ, ◌+◌, List, [], ◌∷◌, ◌++◌, length, flat_map, codes, decimal, Option, Some, None}
 use Rattle.std.specs.List.{concat}
 use Rattle.up_events.specs.IdText.{text_of}
 use Rattle.up_events.specs.Names.{name_of}
@@ -18,10 +18,15 @@ abbrev pub outcome_of : Outcome → List ℕ
 outcome_of Done = codes " done\n"
 outcome_of (Failed code) = concat (codes " failed " ∷ decimal code ∷ codes "\n" ∷ [])
 
+-- a length, and a dash where it isn't known
+abbrev pub length_text : Option ℕ → List ℕ
+length_text None = codes "-"
+length_text (Some length) = decimal length
+
 -- an event: its id, number, hook, offset and length
 abbrev pub event_text : Event → List ℕ
 event_text e =
-    concat (text_of e.id ∷ codes " " ∷ decimal e.number ∷ codes " " ∷ name_of e.hook ∷ codes " " ∷ decimal e.offset ∷ codes "/" ∷ decimal e.length ∷ [])
+    concat (text_of e.id ∷ codes " " ∷ decimal e.number ∷ codes " " ∷ name_of e.hook ∷ codes " " ∷ decimal e.offset ∷ codes "/" ∷ length_text e.length ∷ [])
 
 -- that, and what its post-hook answered
 abbrev pub event_line : Event × Outcome → List ℕ

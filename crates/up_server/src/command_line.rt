@@ -85,7 +85,16 @@ fn with_rules<'a>(alloc: Global, command: Command<'a>) -> Result<Command<'a>, Al
         .long("keep")
         .action(ArgAction::SetTrue)
         .help("Refuse to remove an upload");
-    command.arg(require_key)?.arg(max_length)?.arg(keep)
+    let max_finish = Arg::new(alloc, "max-finish")
+        .long("max-finish")
+        .value_name("N")
+        .value_parser(ValueParser::unsigned(0, u64::MAX))
+        .help("Refuse to complete an upload of more than N bytes, from 0 to 18446744073709551615");
+    command
+        .arg(require_key)?
+        .arg(max_length)?
+        .arg(keep)?
+        .arg(max_finish)
 }
 
 /// The words that are known.
@@ -131,6 +140,7 @@ fn words_of(alloc: Global, replay: &ArgMatches<'_>) -> Result<Words, AllocError>
         require_key: text_of(alloc, replay, "require-key")?,
         max_length: replay.get_one::<u64>("max-length"),
         keep: replay.get_flag("keep"),
+        max_finish: replay.get_one::<u64>("max-finish"),
     })
 }
 

@@ -1,9 +1,9 @@
 //! Requests come in, and the events of each upload go to its lane.
-ghost use Rattle.std.specs.Prelude.{◌≡◌, ◌⊎◌, ◌+◌, ◌<◌, ◌≤◌, ◌^◌, [], Err, IfOk, OnErr, All, length};
+ghost use Rattle.std.specs.Prelude.{◌≡◌, ◌⊎◌, ◌+◌, ◌<◌, ◌≤◌, ◌^◌, [], Ok, Err, IfOk, OnErr, All, length};
 ghost use Rattle.up_headers.specs.Table.{FitsWithin};
 ghost use Rattle.up_hooks.specs.Gives.{ClosuresGive};
 ghost use Rattle.up_machine.specs.State.{after};
-ghost use Rattle.up_server.specs.Course.{AreNew, IsCommitted, last_after};
+ghost use Rattle.up_server.specs.Course.{AreNew, IsAsked, IsCommitted, last_after};
 
 use crate::feed::{Feed, LaneReport};
 use crate::reply::reply_to_refusal;
@@ -73,8 +73,27 @@ fn last_after(last: u64, request: &Request) -> u64
     }
 }
 
-/// Decides on a request, after the closures were asked of one that makes or removes an upload, and carries it out where nothing refuses
-/// it. The id is for a new upload. A request that changes nothing is answered by its plan.
+/// What the closures say to what a plan asks them: to its one question, or to the second of two where none refuses at the first.
+/// Nobody is asked where it asks nothing.
+fn ask_as_planned(hooks: &PreHooks, plan: &Plan) -> Asked
+    ensures { IsAsked (ClosuresGive hooks.now) (Ok plan.now) result }
+{
+    match plan {
+        Plan::Answer(_) | Plan::Ready => Asked::Skipped,
+        Plan::Ask(ask) => hooks.ask(ask),
+        Plan::AskBoth(first, second) => {
+            let asked = hooks.ask(first);
+            if asked.is_refusal() {
+                asked
+            } else {
+                hooks.ask(second)
+            }
+        }
+    }
+}
+
+/// Decides on a request, after the closures were asked of one that makes, completes or removes an upload, and carries it out where
+/// nothing refuses it. The id is for a new upload. A request that changes nothing is answered by its plan.
 fn carry_out(
     book: &mut Book,
     alloc: Global,
@@ -89,11 +108,10 @@ fn carry_out(
 {
     match book.plan(alloc, &request)? {
         Plan::Answer(response) => Ok(Done::unchanged(response)),
-        Plan::Ask(ask) => {
-            let asked = hooks.ask(&ask);
+        plan => {
+            let asked = ask_as_planned(hooks, &plan);
             book.commit(alloc, request, id, &asked)
         }
-        Plan::Ready => book.commit(alloc, request, id, &Asked::Skipped),
     }
 }
 

@@ -1,5 +1,5 @@
 //! An upload server for the tus resumable upload protocol 1.0.0, whose lanes hand the events of each upload to post-hooks, and which
-//! asks stored closures before an upload is made or removed. `replay` serves one conversation.
+//! asks stored closures before an upload is made, completed or removed. `replay` serves one conversation.
 #![tactic(auto)]
 
 mod command_line;
@@ -18,7 +18,7 @@ mod settings;
 
 pub use command_line::{WordsFault, words};
 pub use recorders::new_recorders;
-pub use rules::{at_most, keeps, needs_key};
+pub use rules::{at_most, finishes_at_most, keeps, needs_key};
 pub use server_fault::ServerFault;
 pub use serving::replay;
 pub use settings::{Settings, Words};

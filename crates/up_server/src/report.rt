@@ -2,7 +2,7 @@
 ghost use Rattle.std.specs.Prelude.{◌≡◌, flat_map, OnErr};
 ghost use Rattle.up_wire.specs.Device.{GaveUp};
 ghost use Rattle.up_wire.specs.Response.{Writes};
-ghost use Rattle.up_server.specs.ReportText.{count_line, event_line, event_text, lane_line, lane_text, lanes_text, report_text, how_of, outcome_of};
+ghost use Rattle.up_server.specs.ReportText.{count_line, event_line, event_text, lane_line, lane_text, lanes_text, report_text, how_of, length_text, outcome_of};
 
 use crate::dispatcher::Report;
 use crate::feed::{How, LaneReport};
@@ -111,6 +111,16 @@ fn write_event<W: Sink>(sink: &mut W, told: &(Event, Outcome)) -> Result<(), Wri
     write_outcome(sink, told.1)
 }
 
+/// A length in digits, and a dash where it isn't known.
+fn length_text(digits: &mut Buffer, length: Option<u64>) -> &[u8]
+    ensures { result.now ≡ length_text length }
+{
+    match length {
+        Some(length) => digits.format(length).as_bytes(),
+        None => b"-",
+    }
+}
+
 /// Writes an event: its id, number, hook, offset and length.
 fn write_event_text<W: Sink>(sink: &mut W, event: &Event) -> Result<(), WriteFailed>
     ensures written { Writes (W.written sink.old) (W.written sink.new) (event_text event.now) result }
@@ -129,7 +139,7 @@ fn write_event_text<W: Sink>(sink: &mut W, event: &Event) -> Result<(), WriteFai
         b" ",
         offset.format(event.offset).as_bytes(),
         b"/",
-        length.format(event.length).as_bytes(),
+        length_text(&mut length, event.length),
     ];
     write_pieces(sink, &pieces)
 }

@@ -1,9 +1,10 @@
 //! The rules that the program's closures keep. Each is asked about a request, and answers what becomes of it.
 ghost use Rattle.std.specs.Prelude.{◌≡◌, true, IsTrue};
+ghost use Rattle.up_headers.specs.Creations.{is_above};
 ghost use Rattle.up_hooks.specs.Verdicts.{is_lawful};
 ghost use Rattle.up_machine.specs.Reasons.{is_reason};
 ghost use Rattle.up_machine.specs.declared.ask.Verdict.TheVariants.{Refuse};
-ghost use Rattle.up_server.specs.Rules.{at_most, keeps, needs_key};
+ghost use Rattle.up_server.specs.Rules.{at_most, finishes_at_most, keeps, needs_key};
 
 use up_events::Kind;
 use up_machine::{Ask, Reason, Verdict};
@@ -30,15 +31,35 @@ pub fn needs_key(ask: &Ask, key: &[u8]) -> Verdict
     }
 }
 
-/// Refuses an upload of more bytes than the limit with 413. A final upload has the length of its parts together.
+/// Whether the upload that is asked about is known to have more bytes than the limit once it is complete.
+fn is_longer(ask: &Ask, limit: u64) -> bool
+    ensures { result ≡ is_above limit ask.now.length }
+{
+    ask.length.is_some_and(|length| length > limit)
+}
+
+/// Refuses an upload of more bytes than the limit with 413. A final upload has the length of its parts together, and one whose
+/// length isn't known yet is allowed.
 pub fn at_most(ask: &Ask, limit: u64) -> Verdict
     ensures answer { result ≡ at_most ask.now limit }
     ensures lawful { IsTrue (is_lawful result) }
 {
-    if ask.length <= limit {
-        Verdict::Allow
-    } else {
+    if is_longer(ask, limit) {
         refuse(413, b"too long for this server")
+    } else {
+        Verdict::Allow
+    }
+}
+
+/// Refuses an upload that would be complete with more bytes than the limit with 422.
+pub fn finishes_at_most(ask: &Ask, limit: u64) -> Verdict
+    ensures answer { result ≡ finishes_at_most ask.now limit }
+    ensures lawful { IsTrue (is_lawful result) }
+{
+    if is_longer(ask, limit) {
+        refuse(422, b"too long to finish")
+    } else {
+        Verdict::Allow
     }
 }
 

@@ -97,8 +97,8 @@ fn tell<F, W: Sink>(sink: &mut W, served: &Served<Recorder<F>>) -> Result<(), Se
 }
 
 /// Serves the messages of `source` as one conversation, with ids counted from 1, writes the replies to `sink`, ends the
-/// lanes and writes the report. The closures of `hooks` are asked before an upload is made or removed, and each lane hands its events to
-/// the recorder at its place. Of what went wrong the first in the order of `ServerFault` is answered; after `Memory` and `Write` there may
+/// lanes and writes the report. The closures of `hooks` are asked before an upload is made, completed or removed, and each lane hands its
+/// events to the recorder at its place. Of what went wrong the first in the order of `ServerFault` is answered; after `Memory` and `Write` there may
 /// be no report.
 pub fn replay<F: Fn(&Event) -> Outcome + Send + Drop, R: Source, W: Sink>(
     alloc: Global,

@@ -41,8 +41,10 @@ pub struct Words {
     pub settings: Settings,
     /// The key that the metadata of each plain or final upload must have.
     pub require_key: Option<String>,
-    /// The most bytes that an upload may have, beside the most that the settings allow.
+    /// The most bytes that an upload may have whose length is known when it is made, beside the most that the settings allow.
     pub max_length: Option<u64>,
     /// Whether nobody may remove an upload.
     pub keep: bool,
+    /// The most bytes with which an upload may be complete.
+    pub max_finish: Option<u64>,
 }

@@ -1,6 +1,7 @@
 -- What the steps of reading a message make of it as a whole.
-use Rattle.std.proofs.Common.{◌≡◌, ℕ, ◌≤◌, ◌⊎◌, Bool, true, false, cond, eqb, leb, List, [], ◌∷◌, ◌++◌, Result, Ok, Err, refl, sym, ap, ◌∙◌, subst, arith, inl, inr}
+use Rattle.std.proofs.Common.{◌≡◌, ℕ, ◌<◌, ◌≤◌, ◌⊎◌, Option, Bool, true, false, cond, eqb, leb, List, [], ◌∷◌, ◌++◌, Result, Ok, Err, refl, sym, ap, ◌∙◌, subst, arith, inl, inr}
 use Rattle.std.specs.Prelude.{codes, bytes_eq}
+use Rattle.std.proofs.Math.Nat.{eq-or-lt_of_le}
 use Rattle.std.specs.Str.Parse.{digits_value}
 use Rattle.httparse.specs.Grammar.{RequestHead}
 use Rattle.httparse.proofs.GrammarLemmas.{ReadsRequest-append}
@@ -14,20 +15,44 @@ use Rattle.up_wire.specs.Fields.{Field, same_name, values}
 use Rattle.up_wire.specs.Digits.{is_digits}
 use Rattle.up_wire.specs.Framing.{framed, framing, interim, closes}
 use Rattle.up_wire.specs.Message.{Ending, open_yet, ended, failed, IsHead, is_bare, framing_of, IsFault, IsFramingFault, IsBodyFault, HasParts}
-use Rattle.up_wire.specs.Device.{Device, GaveUp}
-use Rattle.up_wire.specs.Reading.{IsInterimAtFault, IsDue, Shows, interim_after}
+use Rattle.up_wire.specs.declared.message.Taken.{Taken}
+use Rattle.up_wire.specs.Limits.{max_interruptions}
+use Rattle.up_wire.specs.Device.{Device, GaveUp, Broke}
+use Rattle.up_wire.specs.Reading.{IsInterimAtFault, IsDue, Shows, IsPatient, IsWriteFailure, interim_after}
 use Rattle.up_wire.specs.Steps.{EndsSo, IsHeadFault, HasHead}
 
--- what the source shows outside of a call
-pub shows_of : (ending : Ending) (source : Device) (a b : ℕ) → EndsSo ending source.bytes source.has_failed a → a ≤ b → Shows ending source b
-shows_of open_yet source a b ends less = tt
-shows_of ended source a b ends less = ends.0
-shows_of failed source a b (inl so) less = inl so
-shows_of failed source a b (inr often) less = inr (omega arith)
+-- what the source shows outside of a call, where it was interrupted in it if the call was too often
+pub shows_of : (ending : Ending) (source after : Device) (a b : ℕ) → EndsSo ending after.bytes after.has_failed a → a ≡ b
+    → (max_interruptions ≤ a → source.interruptions < after.interruptions) → Shows ending source after b
+shows_of open_yet source after a b ends same rose = tt
+shows_of ended source after a b ends same rose = ends.0
+shows_of failed source after a b (inl so, most) same rose = inl so
+shows_of failed source after a b (inr often, most) same rose = inr (omega (arith, often, most), rose often)
 
-pub gave_up : (has_failed : Bool) (a b : ℕ) → GaveUp has_failed a → a ≤ b → GaveUp has_failed b
-gave_up has_failed a b (inl so) less = inl so
-gave_up has_failed a b (inr often) less = inr (omega arith)
+-- a call that ends so is patient
+pub patient_of : (ending : Ending) (left : Option (List ℕ)) (has_failed : Bool) (a b : ℕ) (answer : Taken) → EndsSo ending left has_failed a → a ≡ b → IsPatient ending answer b
+patient_of open_yet left has_failed a b answer ends same = inl (omega arith)
+patient_of ended left has_failed a b answer ends same = inl (omega (arith, ends.1))
+patient_of failed left has_failed a b answer ends same = elim (eq-or-lt_of_le ends.1) [ inl all ↦ inr (omega (arith, all), inl refl) | inr less ↦ inl (omega (arith, less)) ]
+
+-- a call that writes no more is patient
+pub patient_write : (ending : Ending) (bare : Bool) (a b : ℕ) → a ≤ max_interruptions → a ≡ b → IsPatient ending (Taken.Fault WriteFailed bare) b
+patient_write ending bare a b most same =
+    elim (eq-or-lt_of_le most) [ inl all ↦ inr (omega (arith, all), inr (bare, refl)) | inr less ↦ inl (omega (arith, less)) ]
+
+-- a call that goes on was interrupted less
+pub still_open : (ending : Ending) (left : Option (List ℕ)) (has_failed : Bool) (a : ℕ) → ending ≡ open_yet → EndsSo ending left has_failed a → a < max_interruptions
+still_open ending left has_failed a is ends = subst (λ e. EndsSo e left has_failed a) is ends
+
+-- a sink that was given up in a call
+pub broke : (before after : Device) (a b : ℕ) → GaveUp after.has_failed a → a ≤ max_interruptions → a ≡ b
+    → (max_interruptions ≤ a → before.interruptions < after.interruptions) → Broke before after b
+broke before after a b (inl so) most same rose = inl so
+broke before after a b (inr often) most same rose = inr (omega (arith, often, most), rose often)
+
+-- another fault isn't that of a write
+pub no_write : (fault : WireFault) (bare : Bool) → (fault ≡ WriteFailed → ⊥) → IsWriteFailure (Taken.Fault fault bare) → ⊥
+no_write fault bare other (b, is) = other (cc is)
 
 -- a fault before the whole head
 pub head_fault : (limit : ℕ) (input : List ℕ) (ending : Ending) (fault : WireFault) (bare : Bool) → IsHeadFault input ending fault bare

@@ -1,6 +1,6 @@
 -- Empty lines are no head.
-use Rattle.std.proofs.Common.{◌≡◌, ℕ, ◌<◌, ◌⊎◌, Bool, true, false, ◌&&◌, ◌||◌, not, eqb, List, [], ◌∷◌, ◌++◌, All, IsTrue, length, refl, sym, ap, ◌∙◌, subst, arith, append_assoc, inl, inr, true≢false}
-use Rattle.std.proofs.lemmas.List.Elements.{All-nil, All-cons, All-head, All-push, All-tail}
+use Rattle.std.proofs.Common.{◌≡◌, ℕ, ◌<◌, ◌⊎◌, Bool, true, false, ◌&&◌, eqb, List, [], ◌∷◌, ◌++◌, All, IsTrue, length, refl, sym, ap, ◌∙◌, subst, arith, append_assoc, inl, inr, true≢false}
+use Rattle.std.proofs.lemmas.List.Elements.{All-nil, All-cons, All-head, All-tail}
 use Rattle.std.proofs.lemmas.Bool.{eqb-true}
 use Rattle.httparse.specs.Grammar.{RequestHead, print_request, HasNoRequest, print_blank, print_version, print_end, print_section, is_token_byte}
 use Rattle.up_wire.specs.Message.{IsBlank, is_crlfs}
@@ -67,18 +67,3 @@ ends_have_none text ends head rest reads =
 -- empty lines are no head
 pub blank_has_none : (text : List ℕ) → IsBlank text → HasNoRequest text
 blank_has_none text blank = ends_have_none text (blank_bytes text blank)
-
--- one of two tests holds
-or_parts : (a b : Bool) → (a || b) ≡ true → (a ≡ true) ⊎ (b ≡ true)
-or_parts true b e = inl refl
-or_parts false b e = inr e
-
-end_of : (byte : ℕ) → (eqb byte 13 || eqb byte 10) ≡ true → IsEnd byte
-end_of byte e = elim (or_parts (eqb byte 13) (eqb byte 10) e) [ inl x ↦ inl (eqb-true byte 13 x) | inr x ↦ inr (eqb-true byte 10 x) ]
-
--- one byte more, where nothing but line ends has come
-pub blank_more : (text : List ℕ) (byte : ℕ) (is_begun is_end : Bool) → (is_begun ≡ false → All IsEnd text) → is_end ≡ (eqb byte 13 || eqb byte 10)
-    → (is_begun || not is_end) ≡ false → All IsEnd (text ++ byte ∷ [])
-blank_more text byte true is_end blank is e = absurd (cc)
-blank_more text byte false true blank is e = All-push IsEnd text byte (blank refl) (end_of byte (sym is))
-blank_more text byte false false blank is e = absurd (cc)

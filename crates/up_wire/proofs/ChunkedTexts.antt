@@ -1,10 +1,10 @@
 -- Chunk lines and trailer sections that are read byte by byte.
 use Rattle.std.proofs.Common.{◌≡◌, ◌≢◌, ℕ, ◌+◌, ◌≤◌, ◌⊎◌, Bool, false, List, [], ◌∷◌, ◌++◌, All, IsTrue, length, Option, Some, None, Result, Ok, Err, refl, sym, ap, ◌∙◌, subst, arith, append_assoc, append-nil, true≢false, inl, inr}
 use Rattle.std.proofs.lemmas.List.{length-append}
-use Rattle.std.proofs.lemmas.List.Elements.{All-nil, All-cons, All-head, All-tail, All-push, All-append}
+use Rattle.std.proofs.lemmas.List.Elements.{All-nil, All-cons, All-head, All-tail, All-append}
 use Rattle.std.specs.List.{flat_map}
 use Rattle.std.specs.Char.{is_ascii_hexdigit}
-use Rattle.httparse.specs.Grammar.{LineEnd, lf, Field, IsField, print_field, print_section, ReadsSection, HasNoSection, NeverHasSection, MayBecomeSection, is_ows, is_extension_byte, print_extension, IsExtension, ChunkLine, IsChunkLine, print_chunk_line, ReadsChunkLine, HasNoChunkLine, NeverHasChunkLine}
+use Rattle.httparse.specs.Grammar.{LineEnd, Field, print_field, print_section, ReadsSection, HasNoSection, NeverHasSection, is_ows, is_extension_byte, print_extension, IsExtension, ChunkLine, IsChunkLine, print_chunk_line, ReadsChunkLine, HasNoChunkLine, NeverHasChunkLine}
 use Rattle.httparse.specs.Ascii.{crlf_bytes}
 use Rattle.httparse.specs.Spans.{SectionExceeds}
 use Rattle.up_wire.specs.declared.body.Stop.{Stop}
@@ -12,7 +12,7 @@ use Rattle.up_wire.specs.declared.body.Stop.TheVariants.{Ended, Failed, Bad, NoM
 use Rattle.up_wire.specs.declared.body.BodyRead.{BodyRead}
 use Rattle.up_wire.specs.declared.framing.Framing.TheVariants.{Chunked}
 use Rattle.up_wire.specs.Message.{Ending}
-use Rattle.up_wire.specs.Chunks.{AreChunks, EndInLine, IsTrailers, IsCutChunked, IsBadChunk}
+use Rattle.up_wire.specs.Chunks.{AreChunks, IsTrailers, IsCutChunked, IsBadChunk}
 use Rattle.up_wire.specs.Limits.{max_head, max_fields}
 use Rattle.up_wire.specs.Steps.{IsStop, stopped, IsBodyRead, IsByteRead, IsCrlfRead}
 use Rattle.up_wire.proofs.Heads.{last_of, snoc_parts, section_ends}
@@ -20,7 +20,7 @@ use Rattle.up_wire.proofs.Heads.{last_of, snoc_parts, section_ends}
 -- ---- trailer sections
 
 -- a section with something behind it is there without the last byte too
-section_is_whole : (front : List ℕ) (b : ℕ) (fields : List Field) (last : LineEnd) (rest : List ℕ)
+pub section_is_whole : (front : List ℕ) (b : ℕ) (fields : List Field) (last : LineEnd) (rest : List ℕ)
     → HasNoSection front → ReadsSection (front ++ b ∷ []) fields last rest → rest ≡ []
 section_is_whole front b fields last [] none reads = refl
 section_is_whole front b fields last (x ∷ rest) none reads =
@@ -46,26 +46,13 @@ no_section_at_first fields last rest reads =
     let whole : 0 ≡ length text + length rest = ap length reads.1 ∙ length-append text rest in
     absurd (omega (arith, long, whole))
 
--- no bytes may become one
-pub in_line_at_first : EndInLine []
-in_line_at_first = ([], [], refl, All-nil (λ b. b ≢ 10), (10 ∷ [], [], lf, (All-nil IsField, refl)))
-
--- a byte that ends no line
-pub in_line_yet : (front : List ℕ) (b : ℕ) → EndInLine front → (b ≡ 10 → ⊥) → EndInLine (front ++ b ∷ [])
-in_line_yet front b (lines, tail, e, none, may) other =
-    (lines, tail ++ b ∷ [], ap (λ t. t ++ b ∷ []) e ∙ append_assoc lines tail (b ∷ []), All-push (λ c. c ≢ 10) tail b none other, may)
-
--- a line that ends
-pub in_line_again : (text : List ℕ) → MayBecomeSection text → EndInLine text
-in_line_again text may = (text, [], sym (append-nil text), All-nil (λ b. b ≢ 10), may)
-
--- a section that the last byte ends
-pub trailers_alone : (front : List ℕ) (b : ℕ) (fields : List Field) (last : LineEnd) (rest : List ℕ) → HasNoSection front
-    → ReadsSection (front ++ b ∷ []) fields last rest → length (front ++ b ∷ []) ≤ max_head → length fields ≤ max_fields → IsTrailers (front ++ b ∷ [])
-trailers_alone front b fields last rest none reads short few = record {
+-- a section that stands alone is within the limits
+pub trailers_alone : (text : List ℕ) (fields : List Field) (last : LineEnd) (rest : List ℕ) → ReadsSection text fields last rest → rest ≡ []
+    → length text ≤ max_head → length fields ≤ max_fields → IsTrailers text
+trailers_alone text fields last rest reads alone short few = record {
   fields = fields;
   last = last;
-  reads = (reads.0, reads.1 ∙ ap (λ r. print_section fields last ++ r) (section_is_whole front b fields last rest none reads));
+  reads = (reads.0, reads.1 ∙ ap (λ r. print_section fields last ++ r) alone);
   short = short;
   few = few;
 }
@@ -150,7 +137,7 @@ pub stop_answer : (limit : ℕ) (input : List ℕ) (ending : Ending) (stop : Sto
     → IsBodyRead limit Chunked input ending result
 stop_answer limit input ending Ended body cut bad result same is c b = subst (IsBodyRead limit Chunked input ending) (sym same) (c is.0, inl is.1)
 stop_answer limit input ending Failed body cut bad result same is c b = subst (IsBodyRead limit Chunked input ending) (sym same) (c is.0, inr is.1)
-stop_answer limit input ending Bad body cut bad result same is c b = subst (IsBodyRead limit Chunked input ending) (sym same) (inr (b is.0))
+stop_answer limit input ending Bad body cut bad result same is c b = subst (IsBodyRead limit Chunked input ending) (sym same) (inr (b is))
 stop_answer limit input ending NoMemory body cut bad result same is c b = subst (IsBodyRead limit Chunked input ending) (sym same) (inl refl)
 
 -- the line feed behind the carriage return
@@ -158,7 +145,7 @@ pub crlf_after : (a b : List ℕ) (ending : Ending) (result : Result (Unit {0}) 
 crlf_after a b ending (Ok done) first next = ((λ i. first i ++ next.0 i), next.1)
 crlf_after a b ending (Err Ended) first next = (inr (λ i. first i ++ next.0 i), next.1)
 crlf_after a b ending (Err Failed) first next = (inr (λ i. first i ++ next.0 i), next.1)
-crlf_after a b ending (Err Bad) first next = (inr (next.0.0, (λ i. first i ++ next.0.1 i), next.0.2), next.1)
+crlf_after a b ending (Err Bad) first next = inr (next.0, (λ i. first i ++ next.1 i), next.2)
 crlf_after a b ending (Err NoMemory) first next = next
 
 -- one more chunk, by the pieces that were read

@@ -1,8 +1,10 @@
 pub mod Pieces
 pub mod Tokens
 pub mod Heads
+pub mod Lines
 pub mod BlankLines
 pub mod ChunkedTexts
+pub mod EmptyLines
 pub mod Answering
 pub mod Writing
 pub mod OneAnswerTexts

@@ -1,6 +1,7 @@
 -- What a call of a device does, as its callers see it.
-use Rattle.std.specs.Prelude.{◌≡◌, ℕ, ◌<◌, ◌≤◌, ◌⊎◌, Bool, true, false, List, [], ◌∷◌, length, take, Option, Some, None, ⊤}
+use Rattle.std.specs.Prelude.{◌≡◌, ◌≢◌, ℕ, ◌<◌, ◌≤◌, ◌⊎◌, Bool, true, false, List, [], ◌∷◌, ◌++◌, All, length, take, Option, Some, None, ⊤}
 use Rattle.std.specs.Io.KnownBytes.{IsAtEnd}
+use Rattle.httparse.specs.Ascii.{line_feed}
 use Rattle.up_wire.specs.Limits.{max_interruptions}
 use Rattle.up_wire.specs.declared.device.NextByte.{NextByte}
 use Rattle.up_wire.specs.declared.device.NextByte.TheVariants as Next
@@ -21,6 +22,10 @@ device bytes has_failed interruptions = record { bytes = bytes; has_failed = has
 -- a device failed, or a call was interrupted too often
 abbrev pub GaveUp : Bool → ℕ → Type 0
 GaveUp has_failed count = (has_failed ≡ true) ⊎ (max_interruptions ≤ count)
+
+-- a device failed in a call, or it was interrupted in it and the call as often as it may be
+abbrev pub Broke : Device → Device → ℕ → Type 0
+Broke before after count = (after.has_failed ≡ true) ⊎ ((count ≡ max_interruptions) × (before.interruptions < after.interruptions))
 
 -- the bytes that an answer of a source gives
 abbrev pub given : NextByte → List ℕ
@@ -56,6 +61,18 @@ IsRun (Run.Moved count) most run = (length run ≡ count) × (0 < count) × (cou
 IsRun Run.End most run = run ≡ []
 IsRun Run.Interrupted most run = run ≡ []
 IsRun Run.Failed most run = run ≡ []
+
+-- bytes without a line feed
+abbrev pub HasNoFeed : List ℕ → Type 0
+HasNoFeed bytes = All (λ b. b ≢ line_feed) bytes
+
+-- a line feed alone, behind bytes without one
+abbrev pub IsEndedLine : List ℕ → Type 0
+IsEndedLine bytes = (front : List ℕ) × (bytes ≡ front ++ line_feed ∷ []) × HasNoFeed front
+
+-- no byte but the last is a line feed
+abbrev pub IsInLine : List ℕ → Type 0
+IsInLine bytes = HasNoFeed bytes ⊎ IsEndedLine bytes
 
 -- whether the source answered that it failed
 abbrev pub is_failed_run : Run → Bool

@@ -126,7 +126,7 @@ IsBare input bare =
     (HasNoRequest input × (bare ≡ false))
     ⊎ ((head : RequestHead) × (behind : List ℕ) × IsHead input head behind × (bare ≡ is_bare head))
 
--- the faults of the input, and those of the devices and the memory
+-- the faults of the input, and those of the devices and the memory; `100 Continue` is written before any byte of the body is taken
 abbrev pub IsFault : ℕ → List ℕ → Ending → WireFault → Bool → Type 0
 IsFault limit input ending Fault.BadHead bare = IsBadHead input ending × (bare ≡ false)
 IsFault limit input ending Fault.HeadTooLarge bare = IsTooLarge input × (bare ≡ false)
@@ -135,4 +135,4 @@ IsFault limit input ending Fault.UnknownCoding bare = IsFramingFault limit input
 IsFault limit input ending Fault.BodyTooLarge bare = IsFramingFault limit input Fault.BodyTooLarge bare
 IsFault limit input ending Fault.ReadFailed bare = IsReadFailure input ending × (bare ≡ false)
 IsFault limit input ending Fault.NoMemory bare = IsBare input bare
-IsFault limit input ending Fault.WriteFailed bare = IsBare input bare
+IsFault limit input ending Fault.WriteFailed bare = (head : RequestHead) × IsHead input head [] × (bare ≡ is_bare head)

@@ -1,12 +1,13 @@
 -- What a call of `read_message` took, wrote and answered.
-use Rattle.std.specs.Prelude.{◌≡◌, ℕ, ◌+◌, ◌-◌, ◌<◌, ◌⊎◌, List, [], ◌++◌, length, Result, Ok, Err, ⊤}
+use Rattle.std.specs.Prelude.{◌≡◌, ℕ, Bool, ◌+◌, ◌-◌, ◌<◌, ◌⊎◌, List, [], ◌++◌, length, Result, Ok, Err, ⊤}
 use Rattle.std.specs.Io.KnownBytes.{Consumes, Appends, IsAtEnd}
 use Rattle.httparse.specs.Grammar.{RequestHead}
 use Rattle.up_wire.specs.declared.wire_fault.WireFault.{WireFault}
 use Rattle.up_wire.specs.declared.wire_fault.WireFault.TheVariants as Fault
 use Rattle.up_wire.specs.declared.message.Taken.{Taken}
 use Rattle.up_wire.specs.declared.framing.Framing.{Framing}
-use Rattle.up_wire.specs.Device.{Device, GaveUp}
+use Rattle.up_wire.specs.Device.{Device, Broke}
+use Rattle.up_wire.specs.Limits.{max_interruptions}
 use Rattle.up_wire.specs.Framing.{interim}
 use Rattle.up_wire.specs.Message.{Ending, fields_of, IsHead, framing_of, open_yet, ended, failed, IsMessage, IsCut, IsEndOfInput, IsFault}
 
@@ -49,18 +50,24 @@ IsAnswer limit input ending (Taken.Cut m) = IsCut limit input m × ((ending ≡ 
 IsAnswer limit input ending (Taken.Fault fault bare) = IsFault limit input ending fault bare
 IsAnswer limit input ending Taken.End = IsEndOfInput input × (ending ≡ ended)
 
--- how the input goes on, by what the source shows after a call that was interrupted so often
-abbrev pub Shows : Ending → Device → ℕ → Type 0
-Shows open_yet source count = ⊤
-Shows ended source count = IsAtEnd source.bytes
-Shows failed source count = GaveUp source.has_failed count
+-- how the input goes on, by what the source shows before and after a call that was interrupted so often
+abbrev pub Shows : Ending → Device → Device → ℕ → Type 0
+Shows open_yet source source_after count = ⊤
+Shows ended source source_after count = IsAtEnd source_after.bytes
+Shows failed source source_after count = Broke source source_after count
+
+-- `100 Continue` wasn't taken
+abbrev pub IsWriteFailure : Taken → Type 0
+IsWriteFailure answer = (bare : Bool) × (answer ≡ Taken.Fault Fault.WriteFailed bare)
 
 -- the sink was given up where that is answered
-abbrev pub IsUnwritten : Taken → Device → ℕ → Type 0
-IsUnwritten (Taken.Message m) sink count = ⊤
-IsUnwritten (Taken.Cut m) sink count = ⊤
-IsUnwritten (Taken.Fault fault bare) sink count = fault ≡ Fault.WriteFailed → GaveUp sink.has_failed count
-IsUnwritten Taken.End sink count = ⊤
+abbrev pub IsUnwritten : Taken → Device → Device → ℕ → Type 0
+IsUnwritten answer sink sink_after count = IsWriteFailure answer → Broke sink sink_after count
+
+-- a call gives up at the last interruption that it may have, of reads and writes together, and not before
+abbrev pub IsPatient : Ending → Taken → ℕ → Type 0
+IsPatient ending answer count =
+    (count < max_interruptions) ⊎ ((count ≡ max_interruptions) × ((ending ≡ failed) ⊎ IsWriteFailure answer))
 
 -- how often both devices were interrupted in a call
 abbrev pub interruptions : Device → Device → Device → Device → ℕ
@@ -74,7 +81,8 @@ pub record IsReading (limit : ℕ) (source source_after sink sink_after : Device
   pub line : List ℕ
   pub took : Consumes source.bytes source_after.bytes input
   pub wrote : Appends sink.bytes sink_after.bytes line
-  pub shows : Shows ending source_after (interruptions source source_after sink sink_after)
+  pub shows : Shows ending source source_after (interruptions source source_after sink sink_after)
+  pub is_patient : IsPatient ending answer (interruptions source source_after sink sink_after)
   pub is_answer : IsAnswer limit input ending answer
   pub is_interim : IsInterim limit input answer line
-  pub is_unwritten : IsUnwritten answer sink_after (interruptions source source_after sink sink_after)
+  pub is_unwritten : IsUnwritten answer sink sink_after (interruptions source source_after sink sink_after)

@@ -1,7 +1,7 @@
 -- What the steps of reading a message answer.
-use Rattle.std.specs.Prelude.{◌≡◌, ◌≢◌, ℕ, ◌<◌, ◌≤◌, ◌⊎◌, Bool, true, false, List, [], ◌∷◌, length, Option, Result, Ok, Err}
+use Rattle.std.specs.Prelude.{◌≡◌, ◌≢◌, ℕ, ◌<◌, ◌≤◌, ◌⊎◌, Bool, true, false, ◌&&◌, ◌==◌, List, [], ◌∷◌, ◌++◌, length, Option, Result, Ok, Err}
 use Rattle.std.specs.Io.KnownBytes.{Appends, IsAtEnd}
-use Rattle.httparse.specs.Ascii.{crlf_bytes}
+use Rattle.httparse.specs.Ascii.{carriage_return, line_feed, crlf_bytes}
 use Rattle.httparse.specs.Grammar.{ReadsSection, HasNoSection, NeverHasSection, MayBecomeSection, ChunkLine, print_chunk_line, chunk_size, RequestHead, ReadsRequest, HasNoRequest, NeverHasRequest, MayBecomeRequest}
 use Rattle.httparse.specs.Spans.{RequestExceeds, SectionExceeds}
 use Rattle.up_wire.specs.declared.wire_fault.WireFault.{WireFault}
@@ -15,11 +15,13 @@ use Rattle.up_wire.specs.declared.body.Stop.{Stop}
 use Rattle.up_wire.specs.declared.chunks.Trailers.{Trailers}
 use Rattle.httparse.specs.Grammar as Line
 use Rattle.up_wire.specs.declared.body.Batch.{Batch}
+use Rattle.up_wire.specs.declared.line.Line.{Line as LineTaken}
+use Rattle.up_wire.specs.declared.line.Line.TheVariants as Taken
 use Rattle.up_wire.specs.declared.framing.Framing.{Framing}
 use Rattle.up_wire.specs.Chunks.{IsLine, IsOpenLine, IsBadLine, IsOpenEnd, IsBadEnd, IsTrailers, AreOpenTrailers, AreBadTrailers}
 use Rattle.up_wire.specs.Message.{IsBody, IsCutBody, IsBodyFault, Ending, open_yet, ended, failed, fields_of, is_bare, IsHead, IsEndOfInput, IsBadHead, IsTooLarge, IsReadFailure, IsBare}
 use Rattle.up_wire.specs.Limits.{max_fields, max_interruptions}
-use Rattle.up_wire.specs.Device.{GaveUp}
+use Rattle.up_wire.specs.Device.{GaveUp, HasNoFeed, IsEndedLine}
 use Rattle.up_wire.specs.Reading.{IsFront}
 
 -- the bytes that a step gives
@@ -32,7 +34,7 @@ step_bytes Step.Failed = []
 abbrev pub EndsSo : Ending → Option (List ℕ) → Bool → ℕ → Type 0
 EndsSo open_yet left has_failed count = count < max_interruptions
 EndsSo ended left has_failed count = IsAtEnd left × (count < max_interruptions)
-EndsSo failed left has_failed count = GaveUp has_failed count
+EndsSo failed left has_failed count = GaveUp has_failed count × (count ≤ max_interruptions)
 
 -- the ending that a step shows
 abbrev pub step_ending : Step → Ending
@@ -99,11 +101,31 @@ IsBatch Batch.Came most run = (0 < length run) × (length run ≤ most)
 IsBatch Batch.Ended most run = run ≡ []
 IsBatch Batch.Failed most run = run ≡ []
 
+-- whether the bytes end in a line feed
+abbrev pub EndsInFeed : List ℕ → Bool → Type 0
+EndsInFeed text true = (front : List ℕ) × (text ≡ front ++ line_feed ∷ [])
+EndsInFeed text false = (front : List ℕ) → text ≢ front ++ line_feed ∷ []
+
+-- CRLF, or a line feed alone
+abbrev pub is_line_end : List ℕ → Bool
+is_line_end [] = false
+is_line_end (a ∷ []) = a == line_feed
+is_line_end (a ∷ b ∷ []) = (a == carriage_return) && (b == line_feed)
+is_line_end (a ∷ b ∷ c ∷ rest) = false
+
+-- what was taken of a line: all of it, or some of it and why no more; with the text behind which it was put
+abbrev pub IsLineTaken : ℕ → List ℕ → List ℕ → Ending → LineTaken → Type 0
+IsLineTaken most text line ending Taken.Whole = IsEndedLine line × (ending ≡ open_yet)
+IsLineTaken most text line ending Taken.Full = HasNoFeed line × (length text ≡ most) × (ending ≡ open_yet)
+IsLineTaken most text line ending Taken.Ended = HasNoFeed line × (length text < most) × (ending ≡ ended)
+IsLineTaken most text line ending Taken.Failed = HasNoFeed line × (length text < most) × (ending ≡ failed)
+IsLineTaken most text line ending Taken.NoMemory = HasNoFeed line × (ending ≡ open_yet)
+
 -- why a part stopped: it breaks off so, or is wrong so
 abbrev pub IsStop : Ending → Type 0 → Type 0 → Stop → Type 0
 IsStop ending cut bad Stop.Ended = cut × (ending ≡ ended)
 IsStop ending cut bad Stop.Failed = cut × (ending ≡ failed)
-IsStop ending cut bad Stop.Bad = bad × (ending ≡ open_yet)
+IsStop ending cut bad Stop.Bad = bad
 IsStop ending cut bad Stop.NoMemory = ending ≡ open_yet
 
 -- a body that stops so, with the bytes that came
@@ -139,6 +161,11 @@ AreParsed text Trailers.Whole =
     (fields : List Line.Field) × (last : Line.LineEnd) × (rest : List ℕ) × ReadsSection text fields last rest × (length fields ≤ max_fields)
 AreParsed text Trailers.Partial = HasNoSection text × MayBecomeSection text
 AreParsed text Trailers.Bad = NeverHasSection text ⊎ SectionExceeds max_fields text
+
+-- whole lines behind which trailers break off so, or which are bad
+abbrev pub IsStopBehind : List ℕ → Stop → Stop → Type 0
+IsStopBehind lines stop result =
+    ((result ≡ stop) × MayBecomeSection lines) ⊎ ((result ≡ Stop.Bad) × (NeverHasSection lines ⊎ SectionExceeds max_fields lines))
 
 -- a trailer section
 abbrev pub AreTrailersRead : {X : Type 0} → List ℕ → Ending → Result X Stop → Type 0

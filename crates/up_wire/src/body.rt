@@ -1,5 +1,5 @@
 //! Reading a body.
-ghost use Rattle.std.specs.Prelude.{◌≡◌, ◌+◌, ◌-◌, ◌<◌, ◌≤◌, ◌⊎◌, ◌++◌, [], List, ℕ, true, length, max, min, vec_len, vec_capacity};
+ghost use Rattle.std.specs.Prelude.{◌≡◌, ◌+◌, ◌-◌, ◌<◌, ◌≤◌, ◌⊎◌, ◌++◌, [], List, ℕ, length, vec_len, vec_capacity};
 ghost use Rattle.std.specs.Io.KnownBytes.{Consumes};
 ghost use Rattle.up_wire.specs.Message.{Ending};
 ghost use Rattle.up_wire.specs.Limits.{max_interruptions};
@@ -8,6 +8,7 @@ ghost use Rattle.up_wire.specs.Steps.{EndsSo, IsBodyRead, batch_ending, IsBatch,
 use crate::chunks::read_chunks;
 use crate::device::{Run, Source};
 use crate::framing::Framing;
+use crate::room::make_room;
 use crate::sequence::Sequence;
 use crate::step::MAX_INTERRUPTIONS;
 use crate::wire_fault::WireFault;
@@ -57,6 +58,7 @@ pub(crate) fn read_body<R: Source>(
         × Consumes (R.left source.old) (R.left source.new) input
         × EndsSo ending (R.left source.new) (R.has_failed source.new) interruptions.new
         × IsBodyRead limit framing input ending result }
+    ensures rose { interruptions.old ≤ interruptions.new }
     ensures counted { interruptions.new + R.interruptions source.old
         ≡ interruptions.old + R.interruptions source.new }
 {
@@ -80,6 +82,7 @@ fn read_sized<R: Source>(
         × Consumes (R.left source.old) (R.left source.new) input
         × EndsSo ending (R.left source.new) (R.has_failed source.new) interruptions.new
         × IsBodyRead limit (Framing.Sized size) input ending result }
+    ensures rose { interruptions.old ≤ interruptions.new }
     ensures counted { interruptions.new + R.interruptions source.old
         ≡ interruptions.old + R.interruptions source.new }
 {
@@ -105,11 +108,12 @@ pub(crate) fn read_bytes<R: Source>(
         × EndsSo ending (R.left source.new) (R.has_failed source.new) interruptions.new
         × (body.new.items ≡ body.old.items ++ run)
         × IsBytesRead size body.new.items ending result }
+    ensures rose { interruptions.old ≤ interruptions.new }
     ensures counted { interruptions.new + R.interruptions source.old
         ≡ interruptions.old + R.interruptions source.new }
 {
     'batches: while (body.len() as u64) < size {
-        if !make_room(body, most) {
+        if !make_room(body, most, FIRST_ROOM) {
             return Err(Stop::NoMemory);
         }
         let room = (body.capacity() - body.len()) as u64;
@@ -125,22 +129,6 @@ pub(crate) fn read_bytes<R: Source>(
 
 /// How much room a body has at first.
 const FIRST_ROOM: usize = 8192;
-
-/// Makes room for a byte at least, where the body may come to have `most` bytes: a full buffer doubles,
-/// but not past `most`. Answers whether there is room.
-fn make_room(body: &mut Vec<u8>, most: u64) -> bool
-    requires { vec_len body.old < most }
-    ensures items { body.new.items ≡ body.old.items }
-    ensures room { result ≡ true → vec_len body.new < vec_capacity body.new }
-    ensures bounded { vec_capacity body.new ≤ max (vec_capacity body.old) (min most (vec_len body.old + max 8192 (vec_len body.old))) }
-{
-    let len = body.len();
-    if len < body.capacity() {
-        return true;
-    }
-    let growth = (len.max(FIRST_ROOM) as u64).min(most - len as u64) as usize;
-    body.reserve_exact(growth).is_ok()
-}
 
 /// Bytes came, or why none did.
 #[derive(Clone, Copy)]
@@ -162,6 +150,7 @@ fn take_batch<R: Source>(
     requires room { vec_len into.old + most ≤ vec_capacity into.old }
     ensures bytes { (run : List ℕ) × Consumes (R.left source.old) (R.left source.new) run
         × (into.new.items ≡ into.old.items ++ run) × IsBatch result most run }
+    ensures rose { interruptions.old ≤ interruptions.new }
     ensures counted { interruptions.new + R.interruptions source.old
         ≡ interruptions.old + R.interruptions source.new }
     ensures ends { EndsSo (batch_ending result) (R.left source.new) (R.has_failed source.new) interruptions.new }

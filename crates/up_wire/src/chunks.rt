@@ -1,15 +1,17 @@
 //! Reading a chunked body.
-ghost use Rattle.std.specs.Prelude.{◌≡◌, ◌+◌, ◌<◌, List, ℕ};
+ghost use Rattle.std.specs.Prelude.{◌≤◌, ◌≡◌, ◌+◌, ◌<◌, List, ℕ};
 ghost use Rattle.std.specs.Io.KnownBytes.{Consumes};
+ghost use Rattle.httparse.specs.Grammar.{HasNoSection};
 ghost use Rattle.up_wire.specs.Message.{Ending};
 ghost use Rattle.up_wire.specs.Limits.{max_interruptions};
-ghost use Rattle.up_wire.specs.Steps.{EndsSo, IsBodyRead, IsLineRead, IsByteRead, IsCrlfRead, AreParsed, AreTrailersRead};
+ghost use Rattle.up_wire.specs.Steps.{EndsSo, IsBodyRead, IsLineRead, IsByteRead, IsCrlfRead, AreParsed, IsStopBehind, AreTrailersRead};
 
 use crate::body::{BodyRead, Stop, read_bytes};
 use crate::device::Source;
 use crate::framing::Framing;
 use crate::head::MAX_FIELDS;
 use crate::head_reader::MAX_HEAD;
+use crate::line::{Line, is_line_end, take_line};
 use crate::sequence::Sequence;
 use crate::step::{Step, take_step};
 use crate::wire_fault::WireFault;
@@ -32,20 +34,22 @@ pub(crate) fn read_chunks<R: Source>(
         × Consumes (R.left source.old) (R.left source.new) input
         × EndsSo ending (R.left source.new) (R.has_failed source.new) interruptions.new
         × IsBodyRead limit Framing.Chunked input ending result }
+    ensures rose { interruptions.old ≤ interruptions.new }
     ensures counted { interruptions.new + R.interruptions source.old
         ≡ interruptions.old + R.interruptions source.new }
 {
     let mut body = Vec::new(alloc);
+    let mut line = Vec::new(alloc);
     'chunks: loop {
-        let size = match read_line(alloc, source, interruptions) {
+        let size = match read_line(source, interruptions, &mut line) {
             Ok(size) => size,
             Err(stop) => return stop.into_body(body),
         };
         if size == 0 {
-            return match read_trailers(alloc, source, interruptions) {
-                Ok(()) => BodyRead::Whole(Sequence::from_vec(body)),
-                Err(stop) => stop.into_body(body),
-            };
+            if let Err(stop) = read_trailers(alloc, source, interruptions) {
+                return stop.into_body(body);
+            }
+            return BodyRead::Whole(Sequence::from_vec(body));
         }
         let done = body.len() as u64;
         if size > limit - done {
@@ -60,37 +64,33 @@ pub(crate) fn read_chunks<R: Source>(
     }
 }
 
-/// Reads a chunk line, and answers the size that it says.
-fn read_line<R: Source>(alloc: Global, source: &mut R, interruptions: &mut u32) -> Result<u64, Stop>
+/// Reads a chunk line into `text`, in place of what is there, and answers the size that it says.
+fn read_line<R: Source>(
+    source: &mut R,
+    interruptions: &mut u32,
+    text: &mut Vec<u8>,
+) -> Result<u64, Stop>
     requires { interruptions.old < max_interruptions }
     ensures answer { (input : List ℕ) × (ending : Ending)
         × Consumes (R.left source.old) (R.left source.new) input
         × EndsSo ending (R.left source.new) (R.has_failed source.new) interruptions.new
         × IsLineRead input ending result }
+    ensures rose { interruptions.old ≤ interruptions.new }
     ensures counted { interruptions.new + R.interruptions source.old
         ≡ interruptions.old + R.interruptions source.new }
 {
-    let mut text = Vec::new(alloc);
-    'bytes: while text.len() < MAX_LINE {
-        if text.reserve(1).is_err() {
-            return Err(Stop::NoMemory);
-        }
-        match take_step(source, interruptions) {
-            Step::Byte(byte) => {
-                text.push_reserved(byte);
-                if byte == b'\n' {
-                    match parse_chunk_size(&text) {
-                        Ok(Status::Complete((_, size))) => return Ok(size),
-                        Ok(Status::Partial) => return Err(Stop::Bad),
-                        Err(_) => return Err(Stop::Bad),
-                    }
-                }
-            }
-            Step::Ended => return Err(Stop::Ended),
-            Step::Failed => return Err(Stop::Failed),
-        }
+    text.clear();
+    match take_line(source, interruptions, text, MAX_LINE) {
+        Line::Whole => match parse_chunk_size(text) {
+            Ok(Status::Complete((_, size))) => Ok(size),
+            Ok(Status::Partial) => Err(Stop::Bad),
+            Err(_) => Err(Stop::Bad),
+        },
+        Line::Full => Err(Stop::Bad),
+        Line::Ended => Err(Stop::Ended),
+        Line::Failed => Err(Stop::Failed),
+        Line::NoMemory => Err(Stop::NoMemory),
     }
-    Err(Stop::Bad)
 }
 
 /// Reads the CRLF behind a chunk.
@@ -100,6 +100,7 @@ fn read_crlf<R: Source>(source: &mut R, interruptions: &mut u32) -> Result<(), S
         × Consumes (R.left source.old) (R.left source.new) input
         × EndsSo ending (R.left source.new) (R.has_failed source.new) interruptions.new
         × IsCrlfRead input ending result }
+    ensures rose { interruptions.old ≤ interruptions.new }
     ensures counted { interruptions.new + R.interruptions source.old
         ≡ interruptions.old + R.interruptions source.new }
 {
@@ -116,6 +117,7 @@ fn read_byte<R: Source>(source: &mut R, interruptions: &mut u32, wanted: u8) -> 
         × Consumes (R.left source.old) (R.left source.new) input
         × EndsSo ending (R.left source.new) (R.has_failed source.new) interruptions.new
         × IsByteRead wanted input ending result }
+    ensures rose { interruptions.old ≤ interruptions.new }
     ensures counted { interruptions.new + R.interruptions source.old
         ≡ interruptions.old + R.interruptions source.new }
 {
@@ -148,7 +150,20 @@ fn parse_trailers(text: &[u8]) -> Trailers
     }
 }
 
-/// Reads trailer fields and the empty line behind them, and drops them.
+/// Why trailers of which so many whole lines came broke off, or that these lines are none.
+fn stop_behind(lines: &[u8], stop: Stop) -> Stop
+    requires { HasNoSection lines.now }
+    ensures { IsStopBehind lines.now stop result }
+{
+    match parse_trailers(lines) {
+        Trailers::Whole => unreachable!(),
+        Trailers::Partial => stop,
+        Trailers::Bad => Stop::Bad,
+    }
+}
+
+/// Reads trailer fields and the empty line behind them, and drops them. They are parsed behind the first line and behind
+/// an empty line, which is where they can be whole.
 fn read_trailers<R: Source>(
     alloc: Global,
     source: &mut R,
@@ -159,18 +174,16 @@ fn read_trailers<R: Source>(
         × Consumes (R.left source.old) (R.left source.new) input
         × EndsSo ending (R.left source.new) (R.has_failed source.new) interruptions.new
         × AreTrailersRead input ending result }
+    ensures rose { interruptions.old ≤ interruptions.new }
     ensures counted { interruptions.new + R.interruptions source.old
         ≡ interruptions.old + R.interruptions source.new }
 {
     let mut text = Vec::new(alloc);
-    'bytes: while text.len() < MAX_HEAD {
-        if text.reserve(1).is_err() {
-            return Err(Stop::NoMemory);
-        }
-        match take_step(source, interruptions) {
-            Step::Byte(byte) => {
-                text.push_reserved(byte);
-                if byte == b'\n' {
+    'lines: loop {
+        let start = text.len();
+        match take_line(source, interruptions, &mut text, MAX_HEAD) {
+            Line::Whole => {
+                if start == 0 || is_line_end(&text[start..]) {
                     match parse_trailers(&text) {
                         Trailers::Whole => return Ok(()),
                         Trailers::Partial => {}
@@ -178,9 +191,10 @@ fn read_trailers<R: Source>(
                     }
                 }
             }
-            Step::Ended => return Err(Stop::Ended),
-            Step::Failed => return Err(Stop::Failed),
+            Line::Full => return Err(Stop::Bad),
+            Line::Ended => return Err(stop_behind(&text[..start], Stop::Ended)),
+            Line::Failed => return Err(stop_behind(&text[..start], Stop::Failed)),
+            Line::NoMemory => return Err(Stop::NoMemory),
         }
     }
-    Err(Stop::Bad)
 }

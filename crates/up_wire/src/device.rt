@@ -1,7 +1,7 @@
 //! Where bytes come from and go to.
 ghost use Rattle.std.specs.Prelude.{◌≡◌, ℕ, ◌+◌, ◌<◌, ◌≤◌, Bool, true, IsTrue, List, ◌++◌, Option, vec_len, vec_capacity};
 ghost use Rattle.std.specs.Io.KnownBytes.{Consumes, Appends, Keeps};
-ghost use Rattle.up_wire.specs.Device.{given, is_failed_read, interrupted_reads, EndsAt, IsRun, is_failed_run, interrupted_runs, RunEndsAt, taken, is_failed_write, interrupted_writes, TakesSome};
+ghost use Rattle.up_wire.specs.Device.{given, is_failed_read, interrupted_reads, EndsAt, IsRun, is_failed_run, interrupted_runs, RunEndsAt, IsInLine, taken, is_failed_write, interrupted_writes, TakesSome};
 
 /// What a source answers when it is asked for its next byte.
 #[derive(Clone, Copy, Debug, PartialEq, Eq)]
@@ -71,6 +71,21 @@ pub trait Source {
             NextByte::Failed => Run::Failed,
         }
     }
+
+    /// As `take_run`, but moves no byte behind a line feed.
+    fn take_in_line(&mut self, into: &mut Vec<u8>, most: usize) -> Run
+        requires some { 0 < most }
+        requires room { vec_len into.old + most ≤ vec_capacity into.old }
+        ensures bytes { (run : List ℕ) × Consumes (left self.old) (left self.new) run
+            × (into.new.items ≡ into.old.items ++ run) × IsRun result most run × IsInLine run }
+        ensures room { vec_capacity into.old ≤ vec_capacity into.new }
+        ensures end { RunEndsAt result (left self.new) }
+        ensures failed { has_failed self.new ≡ is_failed_run result }
+        ensures stays_failed { IsTrue (has_failed self.old) → IsTrue (has_failed self.new) }
+        ensures interrupted { interruptions self.new ≡ interruptions self.old + interrupted_runs result }
+    {
+        self.take_run(into, 1)
+    }
 }
 
 /// What a sink answers when it is given bytes.
@@ -107,10 +122,7 @@ pub trait Sink {
     /// nothing to do.
     fn flush(&mut self) -> WriteSome
         ensures bytes { Keeps (written self.old) (written self.new) }
-        ensures failed { IsTrue (is_failed_write result) → has_failed self.new ≡ true }
+        ensures failed { has_failed self.new ≡ is_failed_write result }
         ensures stays_failed { IsTrue (has_failed self.old) → IsTrue (has_failed self.new) }
-        ensures interrupted { interruptions self.new ≡ interruptions self.old + interrupted_writes result }
-    {
-        WriteSome::Took(0)
-    }
+        ensures interrupted { interruptions self.new ≡ interruptions self.old + interrupted_writes result };
 }

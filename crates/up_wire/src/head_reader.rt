@@ -1,5 +1,5 @@
 //! Reading a head.
-ghost use Rattle.std.specs.Prelude.{◌≡◌, ◌+◌, ◌<◌, ◌==◌, ◌||◌, List, ℕ, false};
+ghost use Rattle.std.specs.Prelude.{◌≤◌, ◌≡◌, ◌+◌, ◌<◌, List, ℕ, false};
 ghost use Rattle.std.specs.Io.KnownBytes.{Consumes};
 ghost use Rattle.httparse.specs.Grammar.{HasNoRequest};
 ghost use Rattle.up_wire.specs.Message.{Ending, is_crlfs};
@@ -8,7 +8,7 @@ ghost use Rattle.up_wire.specs.Steps.{EndsSo, IsStanding, IsHeadRead};
 
 use crate::device::Source;
 use crate::head::{Head, MAX_FIELDS, Parsed, parse};
-use crate::step::{Step, take_step};
+use crate::line::{Line, is_line_end, take_line};
 use crate::wire_fault::WireFault;
 use httparse::spans::{EMPTY_HEADER_SPAN, parse_request};
 use httparse::{Error, Status};
@@ -43,13 +43,6 @@ fn is_blank(mut text: &[u8]) -> bool
     text.is_empty()
 }
 
-/// Whether the byte is one of a line end.
-fn is_line_end(byte: u8) -> bool
-    ensures { result ≡ (byte == 13 || byte == 10) }
-{
-    byte == b'\r' || byte == b'\n'
-}
-
 /// The fault of bytes that are no head, or this one where they may become a head.
 fn fault_of(text: &[u8], waiting: WireFault) -> WireFault
     requires { HasNoRequest text.now }
@@ -64,7 +57,8 @@ fn fault_of(text: &[u8], waiting: WireFault) -> WireFault
     }
 }
 
-/// Reads a head, and no byte behind it. Its bytes are parsed where a line ends, once one that isn't empty has begun.
+/// Reads a head, and no byte behind it. Its bytes are parsed behind its first line, so that one that is no request line is
+/// answered at once, and behind an empty line, which is where it can be whole.
 pub(crate) fn read_head<R: Source>(
     alloc: Global,
     source: &mut R,
@@ -75,20 +69,18 @@ pub(crate) fn read_head<R: Source>(
         × Consumes (R.left source.old) (R.left source.new) input
         × EndsSo ending (R.left source.new) (R.has_failed source.new) interruptions.new
         × IsHeadRead input ending result }
+    ensures rose { interruptions.old ≤ interruptions.new }
     ensures counted { interruptions.new + R.interruptions source.old
         ≡ interruptions.old + R.interruptions source.new }
 {
     let mut text = Vec::new(alloc);
     let mut is_begun = false;
-    'bytes: while text.len() < MAX_HEAD {
-        if text.reserve(1).is_err() {
-            return HeadRead::refuse(WireFault::NoMemory);
-        }
-        match take_step(source, interruptions) {
-            Step::Byte(byte) => {
-                text.push_reserved(byte);
-                is_begun |= !is_line_end(byte);
-                if is_begun && byte == b'\n' {
+    'lines: loop {
+        let start = text.len();
+        match take_line(source, interruptions, &mut text, MAX_HEAD) {
+            Line::Whole => {
+                let is_empty = is_line_end(&text[start..]);
+                if is_begun == is_empty {
                     match parse(alloc, &text) {
                         Parsed::Whole(head) => return HeadRead::Whole(head),
                         Parsed::NoMemory(bare) => {
@@ -101,17 +93,18 @@ pub(crate) fn read_head<R: Source>(
                         Parsed::Invalid => return HeadRead::refuse(WireFault::BadHead),
                         Parsed::TooManyFields => return HeadRead::refuse(WireFault::HeadTooLarge),
                     }
+                    is_begun = true;
                 }
             }
-            Step::Ended => {
+            Line::Full => return HeadRead::refuse(fault_of(&text, WireFault::HeadTooLarge)),
+            Line::Ended => {
                 if is_blank(&text) {
                     return HeadRead::End;
                 }
                 return HeadRead::refuse(WireFault::BadHead);
             }
-            Step::Failed => return HeadRead::refuse(fault_of(&text, WireFault::ReadFailed)),
+            Line::Failed => return HeadRead::refuse(fault_of(&text, WireFault::ReadFailed)),
+            Line::NoMemory => return HeadRead::refuse(WireFault::NoMemory),
         }
     }
-    let fault = fault_of(&text, WireFault::HeadTooLarge);
-    HeadRead::refuse(fault)
 }

@@ -1,9 +1,10 @@
 //! A reader of std as a source.
-ghost use Rattle.std.specs.Prelude.{◌≡◌, ℕ, ◌<◌, ◌≤◌, ◌⊎◌, ◌+◌, false, not, List, [], ◌++◌, Some, IfOk, OnErr, length, vec_len, vec_capacity, if◌then◌else◌};
+ghost use Rattle.std.specs.Prelude.{◌≡◌, ℕ, ◌<◌, ◌≤◌, ◌⊎◌, ◌+◌, false, not, List, [], ◌++◌, Some, IfOk, OnErr, length, take, vec_len, vec_capacity, if◌then◌else◌};
 ghost use Rattle.std.specs.Io.KnownBytes.{Consumes, Keeps, IsAtEnd};
-ghost use Rattle.up_wire.specs.Device.{maybe_byte, IsNoneAtEnd};
+ghost use Rattle.up_wire.specs.Device.{maybe_byte, IsNoneAtEnd, IsInLine};
 
 use crate::device::{NextByte, Run, Source};
+use memchr::memchr;
 use std::io::{self, BufRead, ErrorKind};
 
 /// A reader of std as a source. Once the reader showed that it has no more, the source stays at its end.
@@ -98,6 +99,24 @@ impl<R: BufRead> Source for Input<R> {
             Err(_) => Run::Failed,
         }
     }
+
+    fn take_in_line(&mut self, into: &mut Vec<u8>, most: usize) -> Run {
+        if self.has_failed {
+            return Run::Failed;
+        }
+        if self.has_ended {
+            return Run::End;
+        }
+        match move_in_line(&mut self.reader, into, most) {
+            Ok(0) => {
+                self.has_ended = true;
+                Run::End
+            }
+            Ok(count) => Run::Moved(count),
+            Err(error) if self.is_interrupted(&error) => Run::Interrupted,
+            Err(_) => Run::Failed,
+        }
+    }
 }
 
 /// The next byte of the reader, or None at its end.
@@ -140,4 +159,41 @@ fn move_shown<R: BufRead>(reader: &mut R, into: &mut Vec<u8>, most: usize) -> io
     }
     reader.consume(count);
     Ok(count)
+}
+
+/// How many bytes stand up to the first line feed and with it, or in all.
+fn line_length(bytes: &[u8]) -> usize
+    ensures within { result ≤ length bytes.now }
+    ensures in_line { IsInLine (take result bytes.now) }
+    ensures some { result ≡ 0 → length bytes.now ≡ 0 }
+{
+    match memchr(b'\n', bytes) {
+        Some(at) => at + 1,
+        None => bytes.len(),
+    }
+}
+
+/// As `move_shown`, but moves no byte behind a line feed.
+fn move_in_line<R: BufRead>(reader: &mut R, into: &mut Vec<u8>, most: usize) -> io::Result<usize>
+    requires some { 0 < most }
+    requires room { vec_len into.old + most ≤ vec_capacity into.old }
+    ensures bytes { IfOk result (λ count. (run : List ℕ)
+        × Consumes (R.remaining reader.old) (R.remaining reader.new) run
+        × (into.new.items ≡ into.old.items ++ run) × (length run ≡ count) × (count ≤ most) × IsInLine run) }
+    ensures end { IfOk result (λ count. count ≡ 0 → IsAtEnd (R.remaining reader.old)) }
+    ensures err { OnErr result (Keeps (R.remaining reader.old) (R.remaining reader.new)) }
+    ensures unchanged { OnErr result (into.new.items ≡ into.old.items) }
+    ensures room { vec_capacity into.old ≤ vec_capacity into.new }
+{
+    let available = match reader.fill_buf() {
+        Ok(available) => available,
+        Err(error) => return Err(error),
+    };
+    let shown = &available[..available.len().min(most)];
+    let run = line_length(shown);
+    if into.extend_from_slice(&shown[..run]).is_err() {
+        unreachable!();
+    }
+    reader.consume(run);
+    Ok(run)
 }

@@ -11,10 +11,12 @@ mod head;
 mod head_reader;
 mod input;
 mod law;
+mod line;
 mod message;
 mod output;
 mod reader;
 mod response;
+mod room;
 mod sequence;
 mod step;
 #[cfg(test)]

@@ -1,5 +1,5 @@
 //! What is answered.
-ghost use Rattle.std.specs.Prelude.{◌≡◌, ◌+◌, ◌-◌, ◌<◌, ◌≤◌, ◌⊎◌, ◌++◌, ◌∷◌, [], true, false, flat_map, IfOk, OnErr};
+ghost use Rattle.std.specs.Prelude.{◌≡◌, ◌+◌, ◌-◌, ◌<◌, ◌≤◌, ◌⊎◌, ◌++◌, ◌∷◌, [], true, false, flat_map, IfOk, OnOk, OnErr};
 ghost use Rattle.up_wire.specs.Device.{GaveUp};
 ghost use Rattle.up_wire.specs.Limits.{max_interruptions};
 ghost use Rattle.up_wire.specs.Steps.{WritesIf};
@@ -64,6 +64,7 @@ impl Response {
 fn write_field<W: Sink>(sink: &mut W, field: &Field, interruptions: &mut u32) -> bool
     requires { interruptions.old < max_interruptions }
     ensures written { WritesIf (W.written sink.old) (W.written sink.new) (field_line field.now) result }
+    ensures rose { interruptions.old ≤ interruptions.new }
     ensures counted { interruptions.new + W.interruptions sink.old
         ≡ interruptions.old + W.interruptions sink.new }
     ensures patient { result ≡ true → interruptions.new < max_interruptions }
@@ -77,6 +78,7 @@ fn write_field<W: Sink>(sink: &mut W, field: &Field, interruptions: &mut u32) ->
 fn write_fields<W: Sink>(sink: &mut W, fields: &[Field], interruptions: &mut u32) -> bool
     requires { interruptions.old < max_interruptions }
     ensures written { WritesIf (W.written sink.old) (W.written sink.new) (flat_map field_line fields.now) result }
+    ensures rose { interruptions.old ≤ interruptions.new }
     ensures counted { interruptions.new + W.interruptions sink.old
         ≡ interruptions.old + W.interruptions sink.new }
     ensures patient { result ≡ true → interruptions.new < max_interruptions }
@@ -103,6 +105,7 @@ fn phrase(status: u16) -> &'static str
 fn write_start<W: Sink>(sink: &mut W, status: u16, interruptions: &mut u32) -> bool
     requires { interruptions.old < max_interruptions }
     ensures written { WritesIf (W.written sink.old) (W.written sink.new) (start_text status) result }
+    ensures rose { interruptions.old ≤ interruptions.new }
     ensures counted { interruptions.new + W.interruptions sink.old
         ≡ interruptions.old + W.interruptions sink.new }
     ensures patient { result ≡ true → interruptions.new < max_interruptions }
@@ -127,6 +130,7 @@ fn write_length<W: Sink>(
 ) -> bool
     requires { interruptions.old < max_interruptions }
     ensures written { WritesIf (W.written sink.old) (W.written sink.new) (length_line bare response.now) result }
+    ensures rose { interruptions.old ≤ interruptions.new }
     ensures counted { interruptions.new + W.interruptions sink.old
         ≡ interruptions.old + W.interruptions sink.new }
     ensures patient { result ≡ true → interruptions.new < max_interruptions }
@@ -153,6 +157,7 @@ fn write_end<W: Sink>(
 ) -> bool
     requires { interruptions.old < max_interruptions }
     ensures written { WritesIf (W.written sink.old) (W.written sink.new) (end_text bare close body.now) result }
+    ensures rose { interruptions.old ≤ interruptions.new }
     ensures counted { interruptions.new + W.interruptions sink.old
         ≡ interruptions.old + W.interruptions sink.new }
     ensures patient { result ≡ true → interruptions.new < max_interruptions }
@@ -172,6 +177,7 @@ pub fn write_response<W: Sink>(
     close: bool,
 ) -> Result<(), WriteFailed>
     ensures written { Writes (W.written sink.old) (W.written sink.new) (response_text response.now bare close) result }
+    ensures patient { OnOk result (W.interruptions sink.new - W.interruptions sink.old < max_interruptions) }
     ensures failed { OnErr result (GaveUp (W.has_failed sink.new) (W.interruptions sink.new - W.interruptions sink.old)) }
 {
     let mut interruptions = 0;
@@ -193,6 +199,7 @@ fn write_parts<W: Sink>(
 ) -> bool
     requires { interruptions.old < max_interruptions }
     ensures written { WritesIf (W.written sink.old) (W.written sink.new) (response_text response.now bare close) result }
+    ensures rose { interruptions.old ≤ interruptions.new }
     ensures counted { interruptions.new + W.interruptions sink.old
         ≡ interruptions.old + W.interruptions sink.new }
     ensures patient { result ≡ true → interruptions.new < max_interruptions }

@@ -1,5 +1,5 @@
 //! One byte of a source, where an interrupted read is tried again.
-ghost use Rattle.std.specs.Prelude.{◌≡◌, ◌+◌, ◌<◌};
+ghost use Rattle.std.specs.Prelude.{◌≤◌, ◌≡◌, ◌+◌, ◌<◌};
 ghost use Rattle.std.specs.Io.KnownBytes.{Consumes};
 ghost use Rattle.up_wire.specs.Limits.{max_interruptions};
 ghost use Rattle.up_wire.specs.Steps.{step_bytes, step_ending, EndsSo};
@@ -21,6 +21,7 @@ pub(crate) enum Step {
 pub(crate) fn take_step<R: Source>(source: &mut R, interruptions: &mut u32) -> Step
     requires { interruptions.old < max_interruptions }
     ensures bytes { Consumes (R.left source.old) (R.left source.new) (step_bytes result) }
+    ensures rose { interruptions.old ≤ interruptions.new }
     ensures counted { interruptions.new + R.interruptions source.old
         ≡ interruptions.old + R.interruptions source.new }
     ensures ends { EndsSo (step_ending result) (R.left source.new) (R.has_failed source.new) interruptions.new }

@@ -20,10 +20,12 @@ pub(crate) fn write_all<W: Sink>(sink: &mut W, bytes: &[u8], interruptions: &mut
     ensures written { (front : List ℕ) × IsFront front bytes.now
         × Appends (W.written sink.old) (W.written sink.new) front
         × (result ≡ true → front ≡ bytes.now) }
+    ensures rose { interruptions.old ≤ interruptions.new }
     ensures counted { interruptions.new + W.interruptions sink.old
         ≡ interruptions.old + W.interruptions sink.new }
     ensures patient { result ≡ true → interruptions.new < max_interruptions }
     ensures failed { result ≡ false → GaveUp (W.has_failed sink.new) interruptions.new }
+    ensures bounded { interruptions.new ≤ max_interruptions }
 {
     let mut rest = bytes;
     'pieces: while !rest.is_empty() {
@@ -45,10 +47,12 @@ pub(crate) fn write_all<W: Sink>(sink: &mut W, bytes: &[u8], interruptions: &mut
 pub(crate) fn write_each<W: Sink>(sink: &mut W, pieces: &[&[u8]], interruptions: &mut u32) -> bool
     requires { interruptions.old < max_interruptions }
     ensures written { WritesIf (W.written sink.old) (W.written sink.new) (joined pieces.now) result }
+    ensures rose { interruptions.old ≤ interruptions.new }
     ensures counted { interruptions.new + W.interruptions sink.old
         ≡ interruptions.old + W.interruptions sink.new }
     ensures patient { result ≡ true → interruptions.new < max_interruptions }
     ensures failed { result ≡ false → GaveUp (W.has_failed sink.new) interruptions.new }
+    ensures bounded { interruptions.new ≤ max_interruptions }
 {
     for piece in pieces {
         if !write_all(sink, piece, interruptions) {
@@ -62,10 +66,12 @@ pub(crate) fn write_each<W: Sink>(sink: &mut W, pieces: &[&[u8]], interruptions:
 pub(crate) fn send_on<W: Sink>(sink: &mut W, interruptions: &mut u32) -> bool
     requires { interruptions.old < max_interruptions }
     ensures kept { Keeps (W.written sink.old) (W.written sink.new) }
+    ensures rose { interruptions.old ≤ interruptions.new }
     ensures counted { interruptions.new + W.interruptions sink.old
         ≡ interruptions.old + W.interruptions sink.new }
     ensures patient { result ≡ true → interruptions.new < max_interruptions }
     ensures failed { result ≡ false → GaveUp (W.has_failed sink.new) interruptions.new }
+    ensures bounded { interruptions.new ≤ max_interruptions }
 {
     'tries: loop {
         match sink.flush() {
@@ -104,10 +110,12 @@ pub(crate) fn continue_if_asked<W: Sink>(
         × Appends (W.written sink.old) (W.written sink.new) front
         × (result ≡ true → front ≡ interim framing head.now.minor head.now.fields) }
     ensures due { result ≡ false → 0 < length (interim framing head.now.minor head.now.fields) }
+    ensures rose { interruptions.old ≤ interruptions.new }
     ensures counted { interruptions.new + W.interruptions sink.old
         ≡ interruptions.old + W.interruptions sink.new }
     ensures patient { result ≡ true → interruptions.new < max_interruptions }
     ensures failed { result ≡ false → GaveUp (W.has_failed sink.new) interruptions.new }
+    ensures bounded { interruptions.new ≤ max_interruptions }
 {
     if has_body(framing) && fields::asks_to_continue(head.minor, head.fields.as_slice()) {
         if !write_all(sink, b"HTTP/1.1 100 Continue\r\n\r\n", interruptions) {

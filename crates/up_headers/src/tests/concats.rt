@@ -48,7 +48,7 @@ fn reads_parts(rt: HostRuntime) {
         let text = format!(in rt.alloc(); "final;{list}").expect(&rt, "memory");
         let new = joined(&rt, rt.alloc(), text.as_str()).expect(&rt, "a creation");
         assert_eq!(rt; new.kind, Kind::Final);
-        assert_eq!(rt; new.length, 0);
+        assert_eq!(rt; new.length, Some(0));
         assert_eq!(rt; new.parts.len(), wanted.len(), "at {list}");
         for (id, number) in new.parts.as_slice().iter().zip(wanted) {
             assert_eq!(rt; *id, Id::new(*number), "at {list}");
@@ -126,7 +126,7 @@ fn reads_kinds(rt: HostRuntime) {
         let new = created(&rt, rt.alloc(), lines.expect(&rt, "memory").as_str());
         if let Ok(new) = &new {
             let length = if new.kind == Kind::Final { 0 } else { 5 };
-            assert_eq!(rt; new.length, length, "at {concat}");
+            assert_eq!(rt; new.length, Some(length), "at {concat}");
             let parts = if new.kind == Kind::Final { 1 } else { 0 };
             assert_eq!(rt; new.parts.len(), parts, "at {concat}");
         }

@@ -7,9 +7,9 @@ fn reads_lengths(rt: HostRuntime) {
     let bad = Err(HeaderFault::BadLength);
     let long = Err(HeaderFault::TooLong);
     for (lines, wanted) in [
-        ("Upload-Length: 0", Ok(0)),
-        ("uPLOAD-lENGTH: 10", Ok(10)),
-        ("Upload-Length: 000000000000000000000000000007", Ok(7)),
+        ("Upload-Length: 0", Ok(Some(0))),
+        ("uPLOAD-lENGTH: 10", Ok(Some(10))),
+        ("Upload-Length: 000000000000000000000000000007", Ok(Some(7))),
         ("Upload-Length: 11", long),
         ("Upload-Length: 18446744073709551616", long),
         ("Upload-Length: 999999999999999999999999999999", long),
@@ -21,7 +21,12 @@ fn reads_lengths(rt: HostRuntime) {
         ("Upload-Length: 5 5", bad),
         ("Upload-Length: 5x", bad),
         ("Upload-Length: 0x5", bad),
-        ("Upload-Defer-Length: 1", bad),
+        ("Upload-Defer-Length: 1", Ok(None)),
+        ("upload-dEFER-length: 1", Ok(None)),
+        ("Upload-Defer-Length: 2", bad),
+        ("Upload-Defer-Length: 01", bad),
+        ("Upload-Defer-Length:", bad),
+        ("Upload-Length:\nUpload-Defer-Length: 1", bad),
         ("Upload-Length: 5\nUpload-Defer-Length: 1", bad),
         ("Upload-Length: 5\nupload-DEFER-length:", bad),
     ] {

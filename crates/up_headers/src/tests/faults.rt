@@ -80,7 +80,7 @@ fn refuses_repeated_fields(rt: HostRuntime) {
         ("POST", "/files", "Upload-Offset", "create"),
         ("PATCH", UPLOAD, "content-type", "13 Repeated"),
         ("PATCH", UPLOAD, "Upload-Offset", "13 Repeated"),
-        ("PATCH", UPLOAD, "Upload-Length", "patch"),
+        ("PATCH", UPLOAD, "Upload-Length", "13 Repeated"),
         ("PATCH", UPLOAD, "Upload-Metadata", "patch"),
         ("DELETE", UPLOAD, "Upload-Offset", "delete"),
         ("HEAD", UPLOAD, "Upload-Offset", "head"),

@@ -55,6 +55,24 @@ fn reads_offsets(rt: HostRuntime) {
 }
 
 #[test]
+fn reads_declared_lengths(rt: HostRuntime) {
+    for (line, length) in [
+        ("Upload-Length: 0", Some(Ok(0))),
+        ("uPLOAD-lENGTH: 007", Some(Ok(7))),
+        ("Upload-Length: 18446744073709551615", Some(Ok(u64::MAX))),
+        ("Upload-Length: 18446744073709551616", Some(Ok(u64::MAX))),
+        ("Upload-Length: x", Some(Err(NotDigits))),
+        ("Upload-Length: +4", Some(Err(NotDigits))),
+        ("Upload-Length:", Some(Err(NotDigits))),
+        ("Upload-Offset: 4", None),
+        ("Upload-Defer-Length: 1", None),
+        ("", None),
+    ] {
+        assert_eq!(rt; patch(&rt, rt.alloc(), line).length, length, "at {line}");
+    }
+}
+
+#[test]
 fn takes_the_body(rt: HostRuntime) {
     let patch = patch(&rt, rt.alloc(), "");
     assert_eq!(rt; patch.bytes.as_slice(), b"abc".as_slice());

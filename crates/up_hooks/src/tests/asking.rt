@@ -28,10 +28,14 @@ fn verdict_of(refusal: Option<Refusal>) -> Result<Verdict, Fail> {
     Ok(Verdict::Refuse { status, reason })
 }
 
-/// The answer of all closures: one refuses so, or none does.
-fn asked_of(refusal: Option<Refusal>) -> Result<Asked, Fail> {
+/// The answer of all closures of a point: one refuses so, or none does.
+fn asked_of(point: Point, refusal: Option<Refusal>) -> Result<Asked, Fail> {
     let Some((status, text)) = refusal else {
-        return Ok(Asked::Allowed);
+        return Ok(if point == Point::Finish {
+            Asked::AllowedFinish
+        } else {
+            Asked::Allowed
+        });
     };
     let reason = Reason::new(text.as_bytes()).ok_or("this is no reason")?;
     Ok(Asked::Refused { status, reason })
@@ -58,7 +62,7 @@ fn ask_of(alloc: Global, point: Point, length: u64) -> Ask {
         target: None,
         kind: Kind::Plain,
         offset: 0,
-        length,
+        length: Some(length),
         pairs: Sequence::new(alloc),
     }
 }
@@ -87,7 +91,10 @@ fn hold(
         counters.push(calls)?;
     }
     let hooks = PreHooks::new(hooks);
-    assert_eq!(rt; hooks.ask(&ask_of(alloc, point, 5)), asked_of(wanted)?);
+    assert_eq!(rt;
+        hooks.ask(&ask_of(alloc, point, 5)),
+        asked_of(point, wanted)?
+    );
     for ((_, _, times), calls) in closures.iter().zip(&counters) {
         assert_eq!(rt; calls.load(Ordering::SeqCst), *times);
     }
@@ -143,6 +150,18 @@ fn allowed_where_none_refuses(rt: HostRuntime) -> Result<(), Fail> {
         (Point::Create, MISSING, 0),
     ];
     hold(&rt, rt.alloc(), &of_another_point, Point::Terminate, None)
+}
+
+#[test]
+fn closures_are_asked_whether_an_upload_may_be_complete(rt: HostRuntime) -> Result<(), Fail> {
+    hold(&rt, rt.alloc(), &[], Point::Finish, None)?;
+    let rows = [
+        (Point::Create, KEPT, 0),
+        (Point::Finish, None, 1),
+        (Point::Finish, MISSING, 1),
+        (Point::Finish, KEPT, 0),
+    ];
+    hold(&rt, rt.alloc(), &rows, Point::Finish, MISSING)
 }
 
 #[test]

@@ -14,7 +14,7 @@ fn event(number: u64, hook: Hook, offset: u64) -> Event {
         number,
         hook,
         offset,
-        length: 11,
+        length: Some(11),
     }
 }
 

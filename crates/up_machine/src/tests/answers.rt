@@ -34,7 +34,7 @@ fn hold_options(rt: &impl Abort, alloc: Global, max_size: u64) -> Result<(), Fai
     requires small { max_size ≤ 2 ^ 30 }
 {
     let wanted = format!(in alloc;
-        "204 Tus-Version: 1.0.0; Tus-Extension: creation,termination,concatenation; Tus-Max-Size: {max_size}; []"
+        "204 Tus-Version: 1.0.0; Tus-Extension: creation,creation-defer-length,termination,concatenation; Tus-Max-Size: {max_size}; []"
     )?;
     let mut both = Both::new(alloc, 1, max_size)?;
     both.hold(rt, alloc, &[(0, Short::Options, wanted.as_str())])
@@ -61,7 +61,7 @@ fn hold_view(rt: &impl Abort, book: &Book) -> Result<(), Fail> {
     let view = book.upload(Id::new(1)).ok_or("the upload is not there")?;
     assert_eq!(rt; view.kind, Kind::Plain);
     assert_eq!(rt; view.offset, 3);
-    assert_eq!(rt; view.length, 5);
+    assert_eq!(rt; view.length, Some(5));
     assert_eq!(rt; view.bytes, b"abc".as_slice());
     let metadata = view.metadata.ok_or("no metadata")?;
     assert_eq!(rt; metadata, b"name YWI=".as_slice());
@@ -99,7 +99,7 @@ fn closing_twice_is_as_closing_once(rt: HostRuntime) -> Result<(), Fail> {
 fn bytes_that_were_given_stay(rt: HostRuntime) -> Result<(), Fail> {
     let id = Id::new(1);
     let mut both = begun(&rt, rt.alloc())?;
-    let asked = Asked::Skipped;
+    let asked = Asked::AllowedFinish;
     both.step(&rt, rt.alloc(), id, patch(3, b"de"), &asked)?;
     let given = both.book.commit(rt.alloc(), Request::Get(id), id, &asked)?;
     both.hold(

@@ -37,7 +37,7 @@ fn with_uploads(rt: &impl Abort, alloc: Global) -> Result<Both, Fail> {
         (4, patch(0, b"ab")),
         (3, Short::Final(&[2, 1, 2], "final;/files/b")),
     ] {
-        let reply = both.step(rt, alloc, Id::new(number), short, &Asked::Skipped)?;
+        let reply = both.step(rt, alloc, Id::new(number), short, &Asked::AllowedFinish)?;
         assert!(rt; reply.change.is_some());
     }
     Ok(both)
@@ -61,6 +61,7 @@ fn hold_plans(
 #[test]
 fn closures_are_asked_of_creations_and_removals(rt: HostRuntime) -> Result<(), Fail> {
     let made = format!(in rt.alloc(); "Create None Plain 0/6 {PAIRS}")?;
+    let finished = format!(in rt.alloc(); "Finish Some(Id(4)) Plain 6/6 {PAIRS}")?;
     let removed = format!(in rt.alloc(); "Terminate Some(Id(4)) Plain 2/6 {PAIRS}")?;
     let mut both = with_uploads(&rt, rt.alloc())?;
     hold_plans(
@@ -69,12 +70,16 @@ fn closures_are_asked_of_creations_and_removals(rt: HostRuntime) -> Result<(), F
         &both,
         &[
             (6, Short::Create(6, METADATA), made.as_str()),
-            (4, Short::Create(0, ""), "Create None Plain 0/0 []"),
+            (
+                4,
+                Short::Create(0, ""),
+                "Create None Plain 0/0 [], Finish None Plain 0/0 []",
+            ),
             (6, Short::Partial(9), "Create None Partial 0/9 [part: ; ]"),
             (
                 6,
                 Short::Final(&[1, 2, 1], ""),
-                "Create None Final 10/10 [whole: ; ]",
+                "Create None Final 10/10 [whole: ; ], Finish None Final 10/10 [whole: ; ]",
             ),
             (4, Short::Delete, removed.as_str()),
             (
@@ -88,7 +93,7 @@ fn closures_are_asked_of_creations_and_removals(rt: HostRuntime) -> Result<(), F
                 "Terminate Some(Id(3)) Final 11/11 [whole: ; ]",
             ),
             (4, patch(2, b"cd"), "ready"),
-            (4, patch(2, b"cdef"), "ready"),
+            (4, patch(2, b"cdef"), finished.as_str()),
             (7, Short::Delete, NOT_FOUND),
             (6, Short::Final(&[1, 4, 7], ""), PART_UNKNOWN),
             (6, Short::Final(&[5, 4], ""), PART_NOT_PARTIAL),
@@ -225,7 +230,12 @@ fn a_closure_is_heard_in_its_place(rt: HostRuntime) -> Result<(), Fail> {
             (6, Short::Final(&[2, 2], ""), by_hook),
             (4, Short::Delete, by_hook),
             (7, Short::Delete, NOT_FOUND),
-            (5, patch(0, b"h"), "204 Upload-Offset: 1; []"),
+            (5, patch(0, b"h"), by_hook),
+            (
+                5,
+                patch(1, b"h"),
+                "409 Content-Type: text/plain; [25 WrongOffset\n]",
+            ),
             (
                 1,
                 Short::Get,

@@ -75,7 +75,7 @@ fn hold_events(rt: &impl Abort, book: &Book, hooks: &[(Hook, u64, u64)]) {
             number: place as u64 + 1,
             hook: *hook,
             offset: *offset,
-            length: *length,
+            length: Some(*length),
         };
         assert_eq!(rt; found.next(), Some(&wanted));
     }

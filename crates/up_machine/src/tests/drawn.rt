@@ -24,7 +24,8 @@ const STATUSES: [u16; 6] = [400, 403, 409, 413, 422, 429];
 const REASONS: [&str; 3] = ["not here", "not now, and not later", "no"];
 
 /// How what is answered to the requests begins, each at least once.
-const BEGINNINGS: [&str; 25] = [
+const BEGINNINGS: [&str; 29] = [
+    "200 Upload-Offset: 0; Upload-Defer-Length",
     "200 Upload-Offset",
     "200 Content-Type",
     "201",
@@ -35,15 +36,18 @@ const BEGINNINGS: [&str; 25] = [
     "400 Content-Type: text/plain; [27",
     "400 Content-Type: text/plain; [28",
     "400 Content-Type: text/plain; [29",
+    "400 Content-Type: text/plain; [36",
     "400 Content-Type: text/plain; [no",
     "403 Content-Type: text/plain; [22",
     "403 Content-Type: text/plain; [no",
     "404",
     "409 Content-Type: text/plain; [25",
     "409 Content-Type: text/plain; [33",
+    "409 Content-Type: text/plain; [35",
     "409 Content-Type: text/plain; [no",
     "413 Content-Type: text/plain; [26",
     "413 Content-Type: text/plain; [30",
+    "413 Content-Type: text/plain; [37",
     "413 Content-Type: text/plain; [no",
     "415",
     "422 Content-Type: text/plain; [no",
@@ -63,6 +67,13 @@ fn draw_patch(rng: &mut Pcg32, reached: u64) -> Short<'static> {
     };
     let first = rng.random_range(0..5usize);
     let count = rng.random_range(0..5usize);
+    if rng.random_range(0..8u32) == 0 {
+        let size = match rng.random_range(0..6u32) {
+            0 => Err(NotDigits),
+            _ => Ok(rng.random_range(0..11u64)),
+        };
+        return Short::Declare(reached, &LETTERS[first..first + count], size);
+    }
     let media = rng.random_range(0..8u32) > 0;
     Short::Patch(media, offset, &LETTERS[first..first + count])
 }
@@ -81,7 +92,8 @@ fn draw(rng: &mut Pcg32, plain: &Plain) -> (Id, Short<'static>) {
     let (reached, _) = plain.reached(Some(id));
     let short = match rng.random_range(0..32u32) {
         0 => Short::Options,
-        1..3 => {
+        1 => Short::Deferred,
+        2 => {
             let length = rng.random_range(0..7u8);
             Short::Create(length, METADATA[rng.random_range(0..3usize)])
         }
@@ -97,14 +109,15 @@ fn draw(rng: &mut Pcg32, plain: &Plain) -> (Id, Short<'static>) {
 
 /// What is said before a request is committed: mostly nothing, or that it may be.
 fn draw_asked(rng: &mut Pcg32) -> Result<Asked, Fail> {
-    Ok(match rng.random_range(0..8u32) {
+    Ok(match rng.random_range(0..12u32) {
         0 | 1 => {
             let status = STATUSES[rng.random_range(0..6usize)];
             let text = REASONS[rng.random_range(0..3usize)];
             let reason = Reason::new(text.as_bytes()).ok_or("no reason")?;
             Asked::Refused { status, reason }
         }
-        2..5 => Asked::Allowed,
+        2 => Asked::Allowed,
+        3..11 => Asked::AllowedFinish,
         _ => Asked::Skipped,
     })
 }
@@ -119,7 +132,7 @@ fn step(rt: &impl Abort, alloc: Global, rng: &mut Pcg32, both: &mut Both) -> Res
 /// Whether it made a final upload that has bytes.
 fn is_final_with_bytes(reply: &Reply) -> bool {
     match reply.change {
-        Some(Accepted::Created { length, kind, .. }) => kind == Kind::Final && length > 0,
+        Some(Accepted::Created { length, kind, .. }) => kind == Kind::Final && length > Some(0),
         _ => false,
     }
 }
@@ -135,7 +148,7 @@ fn is_behind_bytes(reply: &Reply) -> bool {
 /// What was met so far.
 #[derive(Drop)]
 struct Met {
-    beginnings: [bool; 25],
+    beginnings: [bool; 29],
     no_bytes: bool,
     final_with_bytes: bool,
 }
@@ -163,11 +176,12 @@ impl Met {
 fn decides_as_the_rules_say(rt: HostRuntime) -> Result<(), Fail> {
     let mut rng = Pcg32::seed_from_u64(1);
     let mut met = Met {
-        beginnings: [false; 25],
+        beginnings: [false; 29],
         no_bytes: false,
         final_with_bytes: false,
     };
-    for lanes in 1..=12 {
+    for book in 0..100u64 {
+        let lanes = 1 + book % 12;
         let mut both = Both::new(rt.alloc(), lanes, 8)?;
         for turn in 0..80u32 {
             if turn == 72 {

@@ -7,7 +7,7 @@ fn event(place: u64, hook: Hook, offset: u64, length: u64) -> Event {
         number: place,
         hook,
         offset,
-        length,
+        length: Some(length),
     }
 }
 
@@ -15,7 +15,7 @@ fn event(place: u64, hook: Hook, offset: u64, length: u64) -> Event {
 fn hold(rt: &impl Abort, alloc: Global, shorts: &[Short], events: &[Event]) -> Result<(), Fail> {
     let mut both = Both::new(alloc, 2, 1_048_576)?;
     for short in shorts {
-        both.step(rt, alloc, Id::new(1), *short, &Asked::Skipped)?;
+        both.step(rt, alloc, Id::new(1), *short, &Asked::AllowedFinish)?;
     }
     assert_eq!(rt; both.book.journal().lane_log(1), events);
     assert!(rt; both.book.journal().lane_log(0).is_empty());

@@ -6,7 +6,7 @@ use super::*;
 pub(crate) struct PlainUpload {
     pub(crate) id: Id,
     pub(crate) kind: Kind,
-    pub(crate) length: u64,
+    pub(crate) length: Option<u64>,
     pub(crate) bytes: Vec<u8>,
     pub(crate) metadata: Option<Vec<u8>>,
     /// The pairs of the metadata, in words.
@@ -75,7 +75,7 @@ fn push_field(words: &mut String, name: &str, text: &Option<Vec<u8>>) -> Result<
 fn refusing(asked: &Asked) -> Option<(u16, &[u8])> {
     match asked {
         Asked::Refused { status, reason } => Some((*status, reason.bytes())),
-        Asked::Skipped | Asked::Allowed => None,
+        Asked::Skipped | Asked::Allowed | Asked::AllowedFinish => None,
     }
 }
 
@@ -89,11 +89,34 @@ fn pairs_words(alloc: Global, new: &NewUpload) -> Result<String, AllocError> {
 /// A row of the table of refusals: number, name, status, the requests that it names, and whether it holds.
 type Row = (u32, &'static str, u16, &'static str, bool);
 
-/// What a PATCH says of its media type, its offset and how many bytes it has.
-fn sent(request: &Request) -> (bool, Option<u64>, u64) {
+/// What a PATCH says of its media type, its offset, its length and how many bytes it has.
+fn sent(request: &Request) -> (bool, Option<u64>, Option<Result<u64, NotDigits>>, u64) {
     match request {
-        Request::Patch(patch) => (patch.media, patch.offset, patch.bytes.len() as u64),
-        _ => (false, None, 0),
+        Request::Patch(patch) => (
+            patch.media,
+            patch.offset,
+            patch.length,
+            patch.bytes.len() as u64,
+        ),
+        _ => (false, None, None, 0),
+    }
+}
+
+/// The length that is declared where this one was sent, and this one is known.
+fn declared(sent: Option<Result<u64, NotDigits>>, known: Option<u64>) -> Option<u64> {
+    match (sent, known) {
+        (Some(Ok(length)), None) => Some(length),
+        _ => None,
+    }
+}
+
+/// Whether the length that was sent can't be that of an upload with so many bytes, where this one is known.
+fn is_bad(sent: Option<Result<u64, NotDigits>>, known: Option<u64>, offset: u64) -> bool {
+    match (sent, known) {
+        (None, _) => false,
+        (Some(Err(_)), _) => true,
+        (Some(Ok(length)), Some(known)) => length != known,
+        (Some(Ok(length)), None) => length < offset,
     }
 }
 
@@ -112,14 +135,14 @@ impl Plain {
         self.uploads.iter().find(|upload| upload.id == id)
     }
 
-    /// The offset and the length of an upload, 0 and 0 where there is none.
-    pub(crate) fn reached(&self, target: Option<Id>) -> (u64, u64) {
+    /// The offset and the length of an upload, 0 and none where there is none.
+    pub(crate) fn reached(&self, target: Option<Id>) -> (u64, Option<u64>) {
         for upload in &self.uploads {
             if Some(upload.id) == target {
                 return (upload.bytes.len() as u64, upload.length);
             }
         }
-        (0, 0)
+        (0, None)
     }
 
     fn is_final(&self, target: Option<Id>) -> bool {
@@ -138,21 +161,43 @@ impl Plain {
                 Some(upload) => is_other |= upload.kind != Kind::Partial,
                 None => is_unknown = true,
             }
-            is_unfinished |= offset != length;
+            is_unfinished |= length != Some(offset);
             sum = sum.saturating_add(offset);
         }
         (is_unknown, is_other, is_unfinished, sum > self.max_size)
     }
 
+    /// Whether the request, if nothing refuses it, gives an upload its last bytes, or a length that it has already.
+    fn completes(&self, request: &Request) -> bool {
+        match request {
+            Request::Create(new) => new.kind == Kind::Final || new.length == Some(0),
+            Request::Patch(patch) => {
+                let (offset, length) = self.reached(Some(patch.id));
+                let declared = declared(patch.length, length);
+                let count = patch.bytes.len() as u64;
+                (count > 0 || declared.is_some())
+                    && length.or(declared) == Some(offset.saturating_add(count))
+            }
+            _ => false,
+        }
+    }
+
     /// The table of refusals. At planning there is no new id yet, and nobody was asked.
-    fn table(&self, request: &Request, new: Option<Id>, asked: &Asked) -> [Row; 14] {
+    fn table(&self, request: &Request, new: Option<Id>, asked: &Asked) -> [Row; 17] {
         let (_, target) = name_and_target(request);
         let is_missing = !self.uploads.iter().any(|upload| Some(upload.id) == target);
         let is_final = self.is_final(target);
         let is_given = self.given.iter().any(|id| Some(*id) == new);
         let (offset, length) = self.reached(target);
-        let (media, sent_offset, count) = sent(request);
-        let is_above = offset.saturating_add(count) > length;
+        let (media, sent_offset, size, count) = sent(request);
+        let is_bad_size = is_bad(size, length, offset);
+        let declared = declared(size, length);
+        let is_long_size = declared.is_some_and(|size| size > self.max_size);
+        let most = length.or(declared).unwrap_or(self.max_size);
+        let is_above = offset.saturating_add(count) > most;
+        let is_unasked = new.is_some()
+            && (*asked == Asked::Skipped || *asked == Asked::Allowed)
+            && self.completes(request);
         let (is_unknown, is_other, is_unfinished, is_long) = self.part_faults(joined(request));
         let (hook_status, is_refused) = match refusing(asked) {
             Some((status, _)) => (status, true),
@@ -165,14 +210,23 @@ impl Plain {
             (23, "MediaType", 415, "Patch", !media),
             (24, "BadOffset", 400, "Patch", sent_offset.is_none()),
             (25, "WrongOffset", 409, "Patch", sent_offset != Some(offset)),
+            (36, "BadDeclared", 400, "Patch", is_bad_size),
+            (37, "DeclaredTooLong", 413, "Patch", is_long_size),
             (26, "TooMuch", 413, "Patch", is_above),
             (27, "PartUnknown", 400, "Create", is_unknown),
             (28, "PartNotPartial", 400, "Create", is_other),
             (29, "PartUnfinished", 400, "Create", is_unfinished),
             (30, "SumTooLong", 413, "Create", is_long),
-            (31, "ByHook", hook_status, "Create, Delete", is_refused),
+            (35, "NotAsked", 409, "Create, Patch", is_unasked),
+            (
+                31,
+                "ByHook",
+                hook_status,
+                "Create, Patch, Delete",
+                is_refused,
+            ),
             (32, "IdTaken", 500, "Create", is_given),
-            (33, "Unfinished", 409, "Get", offset != length),
+            (33, "Unfinished", 409, "Get", length != Some(offset)),
         ]
     }
 
@@ -207,6 +261,7 @@ impl Plain {
         match request {
             Request::Create(new) => self.ask_to_create(alloc, new),
             Request::Delete(id) => self.ask_to_remove(alloc, *id),
+            Request::Patch(patch) if self.completes(request) => self.ask_to_take(alloc, patch),
             Request::Patch(_) => Ok(String::from_str(alloc, "ready")?),
             _ => self.answer(alloc, request, Id::new(0)),
         }
@@ -216,12 +271,27 @@ impl Plain {
     fn ask_to_create(&self, alloc: Global, new: &NewUpload) -> Result<String, Fail> {
         let kind = new.kind;
         let count = self.joined_bytes(alloc, parts_of(new))?.len() as u64;
-        let length = match kind {
-            Kind::Final => count,
+        let size = match kind {
+            Kind::Final => Some(count),
             Kind::Plain | Kind::Partial => new.length,
         };
+        let length = length_words(alloc, size)?;
         let pairs = pairs_words(alloc, new)?;
-        Ok(format!(in alloc; "Create None {kind:?} {count}/{length} [{pairs}]")?)
+        let mut words = format!(in alloc; "Create None {kind:?} {count}/{length} [{pairs}]")?;
+        if size == Some(count) {
+            let more = format!(in alloc; ", Finish None {kind:?} {count}/{length} [{pairs}]")?;
+            words.push_str(&more)?;
+        }
+        Ok(words)
+    }
+
+    /// What closures are asked before an upload gets what makes it complete, in words.
+    fn ask_to_take(&self, alloc: Global, patch: &Patch) -> Result<String, Fail> {
+        let id = patch.id;
+        let upload = self.find(id).ok_or("no upload")?;
+        let (kind, pairs) = (upload.kind, upload.pairs.as_str());
+        let count = (upload.bytes.len() as u64).saturating_add(patch.bytes.len() as u64);
+        Ok(format!(in alloc; "Finish Some({id:?}) {kind:?} {count}/{count} [{pairs}]")?)
     }
 
     /// What closures are asked before an upload is removed, in words.
@@ -229,6 +299,7 @@ impl Plain {
         let upload = self.find(id).ok_or("no upload")?;
         let (kind, pairs) = (upload.kind, upload.pairs.as_str());
         let (offset, length) = self.reached(Some(id));
+        let length = length_words(alloc, length)?;
         Ok(format!(in alloc; "Terminate Some({id:?}) {kind:?} {offset}/{length} [{pairs}]")?)
     }
 
@@ -280,7 +351,7 @@ impl Plain {
         let kind = new.kind;
         let bytes = self.joined_bytes(alloc, parts_of(new))?;
         let length = match kind {
-            Kind::Final => bytes.len() as u64,
+            Kind::Final => Some(bytes.len() as u64),
             Kind::Plain | Kind::Partial => new.length,
         };
         self.uploads.push(PlainUpload {
@@ -298,18 +369,22 @@ impl Plain {
     }
 
     fn append(&mut self, patch: &Patch) -> Result<(), AllocError> {
+        let (id, count) = (patch.id, patch.bytes.len() as u64);
+        let (_, known) = self.reached(Some(id));
+        let declared = declared(patch.length, known);
         for upload in &mut self.uploads {
-            if upload.id == patch.id {
+            if upload.id == id {
                 upload.bytes.extend_from_slice(patch.bytes.as_slice())?;
+                upload.length = known.or(declared);
             }
         }
-        if patch.bytes.len() == 0 {
-            return Ok(());
+        match declared {
+            Some(length) => self
+                .accepted
+                .push(Accepted::Declared { id, length, count })?,
+            None if count > 0 => self.accepted.push(Accepted::Appended { id, count })?,
+            None => {}
         }
-        self.accepted.push(Accepted::Appended {
-            id: patch.id,
-            count: patch.bytes.len() as u64,
-        })?;
         Ok(())
     }
 
@@ -318,7 +393,7 @@ impl Plain {
         let max_size = self.max_size;
         match request {
             Request::Options => Ok(format!(in alloc;
-                "204 Tus-Version: 1.0.0; Tus-Extension: creation,termination,concatenation; Tus-Max-Size: {max_size}; []"
+                "204 Tus-Version: 1.0.0; Tus-Extension: creation,creation-defer-length,termination,concatenation; Tus-Max-Size: {max_size}; []"
             )?),
             Request::Create(_) => Ok(format!(in alloc; "201 Location: /files/{id}; []")?),
             Request::Head(id) => self.standing(alloc, *id),
@@ -334,9 +409,12 @@ impl Plain {
     fn standing(&self, alloc: Global, id: Id) -> Result<String, Fail> {
         let upload = self.find(id).ok_or("no upload")?;
         let (offset, length) = self.reached(Some(id));
-        let mut words = format!(in alloc;
-            "200 Upload-Offset: {offset}; Upload-Length: {length}; "
-        )?;
+        let mut words = match length {
+            Some(length) => format!(in alloc;
+                "200 Upload-Offset: {offset}; Upload-Length: {length}; "
+            )?,
+            None => format!(in alloc; "200 Upload-Offset: {offset}; Upload-Defer-Length: 1; ")?,
+        };
         push_field(&mut words, "Upload-Metadata", &upload.metadata)?;
         push_field(&mut words, "Upload-Concat", &upload.concat)?;
         words.push_str("[]")?;

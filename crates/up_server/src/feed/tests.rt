@@ -13,7 +13,7 @@ fn event(number: u64, hook: Hook, offset: u64) -> Event {
         number,
         hook,
         offset,
-        length: 9,
+        length: Some(9),
     }
 }
 

@@ -11,7 +11,7 @@ fn each_lane_has_a_recorder_of_its_own(rt: HostRuntime) -> Result<(), Fail> {
         number: 1,
         hook: Hook::Create,
         offset: 0,
-        length: 5,
+        length: Some(5),
     };
     let mut recorders = new_recorders(rt.alloc(), 2, |_: &Event| Outcome::Done)?;
     assert_eq!(rt; recorders.len(), 2);

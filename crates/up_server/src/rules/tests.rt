@@ -20,7 +20,7 @@ fn created(alloc: Global, kind: Kind, key: &[u8], value: &[u8]) -> Result<Ask, N
         target: None,
         kind,
         offset: 0,
-        length: 5,
+        length: Some(5),
         pairs,
     })
 }
@@ -32,7 +32,7 @@ fn bare(alloc: Global, kind: Kind, length: u64) -> Ask {
         target: None,
         kind,
         offset: 0,
-        length,
+        length: Some(length),
         pairs: Sequence::new(alloc),
     }
 }
@@ -95,6 +95,35 @@ fn a_length_is_held_to_the_limit(rt: HostRuntime) -> Result<(), Fail> {
     Ok(())
 }
 
+/// The question whether an upload may be complete with so many bytes.
+fn complete(alloc: Global, length: u64) -> Ask {
+    Ask {
+        point: Point::Finish,
+        target: Some(Id::new(1)),
+        kind: Kind::Plain,
+        offset: length,
+        length: Some(length),
+        pairs: Sequence::new(alloc),
+    }
+}
+
+#[test]
+fn an_unknown_length_is_allowed(rt: HostRuntime) -> Result<(), Fail> {
+    let mut ask = bare(rt.alloc(), Kind::Plain, 5);
+    ask.length = None;
+    assert_eq!(rt; at_most(&ask, 0), Verdict::Allow);
+    Ok(())
+}
+
+#[test]
+fn a_complete_upload_is_held_to_the_limit(rt: HostRuntime) -> Result<(), Fail> {
+    let too_long: Option<(u16, &[u8])> = Some((422, b"too long to finish"));
+    assert_eq!(rt; finishes_at_most(&complete(rt.alloc(), 3), 3), Verdict::Allow);
+    assert_eq!(rt; refusal(&finishes_at_most(&complete(rt.alloc(), 4), 3)), too_long);
+    assert_eq!(rt; finishes_at_most(&complete(rt.alloc(), 0), 0), Verdict::Allow);
+    Ok(())
+}
+
 #[test]
 fn an_upload_is_kept(rt: HostRuntime) -> Result<(), Fail> {
     let kept: Option<(u16, &[u8])> = Some((403, b"uploads are kept"));
@@ -103,7 +132,7 @@ fn an_upload_is_kept(rt: HostRuntime) -> Result<(), Fail> {
         target: Some(Id::new(1)),
         kind: Kind::Plain,
         offset: 3,
-        length: 5,
+        length: Some(5),
         pairs: Sequence::new(rt.alloc()),
     };
     assert_eq!(rt; refusal(&keeps(&ask)), kept);

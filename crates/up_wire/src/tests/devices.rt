@@ -111,4 +111,12 @@ impl Sink for Slot {
         self.waits = self.each;
         WriteSome::Took(1)
     }
+
+    fn flush(&mut self) -> WriteSome {
+        if self.has_failed {
+            WriteSome::Failed
+        } else {
+            WriteSome::Took(0)
+        }
+    }
 }

@@ -114,6 +114,8 @@ fn stops_where_the_continuation_is_not_written(rt: HostRuntime) -> Result<(), Fa
         };
         assert_eq!(rt; seen.words.as_str(), wanted);
         assert_eq!(rt; slot.taken.as_slice(), &CONTINUE[..room]);
+        let unread: &[u8] = if room < 25 { b"abc" } else { b"" };
+        assert_eq!(rt; tape.bytes, unread);
     }
     let bare = b"HEAD / HTTP/1.1\r\nContent-Length: 3\r\nExpect: 100-continue\r\n\r\nabc";
     let mut slot = Slot::new(rt.alloc());

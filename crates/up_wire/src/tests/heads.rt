@@ -80,6 +80,42 @@ fn limits_heads(rt: HostRuntime) -> Result<(), Fail> {
     Ok(())
 }
 
+#[test]
+fn answers_a_bad_first_line_at_once(rt: HostRuntime) -> Result<(), Fail> {
+    let rows: [&[u8]; 4] = [
+        b"POST\r\n",
+        b"POST / HTTP/2.0\n",
+        b"\n\r\nPOST / HTTP/1.1 \r\n",
+        b"\r\r\n",
+    ];
+    for line in rows {
+        let input = long(rt.alloc(), line, b"Host: a\r\n", 1, b"")?;
+        let mut tape = Tape::new(&input, false);
+        let seen = read(rt.alloc(), &mut tape, &mut Slot::new(rt.alloc()))?;
+        assert_eq!(rt; seen.words.as_str(), "1 BadHead");
+        assert_eq!(rt; tape.bytes, b"Host: a\r\n".as_slice());
+    }
+    Ok(())
+}
+
+#[test]
+fn ends_heads_at_empty_lines(rt: HostRuntime) -> Result<(), Fail> {
+    let rows: [(&[u8], &str); 5] = [
+        (b"GET / HTTP/1.1\r\n\nrest", "GET / [] rest [rest]"),
+        (b"GET / HTTP/1.1\n\r\nrest", "GET / [] rest [rest]"),
+        (b"GET / HTTP/1.1\r\na: b\n\nrest", "GET / [] rest [rest]"),
+        (
+            b"\n\r\nGET / HTTP/1.1\na:\n\r\n\r\n",
+            "GET / [] rest [\r\n]",
+        ),
+        (b"GET / HTTP/1.1\r\n\r\r\n", "1 BadHead"),
+    ];
+    for (input, wanted) in rows {
+        hold(&rt, rt.alloc(), input, false, wanted)?;
+    }
+    Ok(())
+}
+
 /// Fields, and what a POST of HTTP/1.1 with them and with `abc` behind its head is.
 const EXPECTATIONS: [(&[u8], &str); 13] = [
     (

@@ -72,6 +72,26 @@ fn reads_slices(rt: HostRuntime) -> Result<(), Fail> {
     Ok(())
 }
 
+fn take_in_line<R: Source>(alloc: Global, source: &mut R) -> Result<(Run, Vec<u8>), AllocError> {
+    let mut into = Vec::with_capacity(alloc, 8)?;
+    let run = source.take_in_line(&mut into, 3);
+    Ok((run, into))
+}
+
+#[test]
+fn reads_lines_of_slices(rt: HostRuntime) -> Result<(), Fail> {
+    let mut reader: &[u8] = b"ab\ncdef\n\ng";
+    let mut source = Input::new(&mut reader);
+    let wanted: [&[u8]; 5] = [b"ab\n", b"cde", b"f\n", b"\n", b"g"];
+    for line in wanted {
+        let (run, moved) = take_in_line(rt.alloc(), &mut source)?;
+        assert_eq!(rt; run, Run::Moved(line.len()));
+        assert_eq!(rt; moved.as_slice(), line);
+    }
+    assert_eq!(rt; take_in_line(rt.alloc(), &mut source)?.0, Run::End);
+    Ok(())
+}
+
 #[test]
 fn stays_at_the_end_of_a_reader(rt: HostRuntime) -> Result<(), Fail> {
     let x = NextByte::Byte(b'x');

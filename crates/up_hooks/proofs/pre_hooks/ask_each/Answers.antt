@@ -1,4 +1,4 @@
-use Rattle.std.proofs.Common.{rules, ◌+◌, take, drop, sym, arith, add-one}
+use Rattle.std.proofs.Common.{rules, inl, inr, ◌+◌, take, drop, sym, arith, add-one}
 use Rattle.std.proofs.Math.Seq.{split_at}
 use Rattle.std.proofs.lemmas.List.{take_all}
 use Rattle.std.proofs.lemmas.List.Elements.{All-more}
@@ -21,5 +21,11 @@ pub loop-hook-preserved : goal.loop-hook-preserved
 loop-hook-preserved g c = All-more (LetsPass c.args.ask.now) c.args.hooks.now c.loop-hook.hook-index c.hook-item.result (omega arith) c.loop-hook.invariant
     (rw (← c.hook-item.is) (elim c.if-is_of.branch [ then-is_of+in_default w ↦ (λ e. w.in_default.ensures.answer) | else-is_of w ↦ (λ e. absurd (search rules)) ]))
 
-pub returns-clause-closures : goal.returns-clause-closures
-returns-clause-closures g c = rw (sym (take_all c.loop-hook.hook-index c.args.hooks.now (omega arith))) c.loop-hook.invariant
+pub returns-in-Create : goal.returns-in-Create
+returns-in-Create g c = record {
+  closures = (elim c.in-Create.is [ inl e ↦ (λ f. absurd (cc)) | inr e ↦ (λ f. absurd (cc)) ], rw (sym (take_all c.loop-hook.hook-index c.args.hooks.now (omega arith))) c.loop-hook.invariant);
+  status = search rules;
+}
+
+pub returns-in-Finish-clause-closures : goal.returns-in-Finish-clause-closures
+returns-in-Finish-clause-closures g c = (c.in-Finish.is, rw (sym (take_all c.loop-hook.hook-index c.args.hooks.now (omega arith))) c.loop-hook.invariant)

@@ -28,7 +28,7 @@ const EIGHTY: &str =
 fn by_length(ask: &Ask) -> Verdict
     ensures { IsTrue (is_lawful result) }
 {
-    let (status, text) = match ask.length {
+    let (status, text) = match ask.length.unwrap_or(0) {
         1 => (400, "1"),
         2 => (403, "2"),
         3 => (409, "3"),

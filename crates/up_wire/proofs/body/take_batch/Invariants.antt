@@ -6,6 +6,7 @@ use Rattle.up_wire.proofs.body.take_batch.Given as goal
 abbrev pub invariant-tries : goal.invariant-tries
 invariant-tries g l = record {
   bytes : Consumes (g.R.Source.left l.fn.source) (g.R.Source.left l.source) [];
+  rose : l.fn.interruptions ≤ l.interruptions;
   counted : l.interruptions + g.R.Source.interruptions l.fn.source ≡ l.fn.interruptions + g.R.Source.interruptions l.source;
   patient : l.interruptions < max_interruptions;
   items : l.into.items ≡ l.fn.into.items;

@@ -13,6 +13,7 @@ chunks-init g c =
     let none = c.new-body.ensures.items in
     record {
       chunks = ([], Consumes-nil _, subst (λ b. AreChunks b []) (sym none) no_chunk);
+      rose = omega arith;
       counted = refl;
       patient = c.requires;
       within = omega (arith, ap length none);
@@ -32,11 +33,11 @@ returns-in-Err-clause-answer g c =
           (λ cut. in_line k.0 a.0 has cut refl) (λ bad. bad_line body k.0 a.0 has bad refl),
     )
 
-pub returns-in-Ok-read_trailers-clause-answer : goal.returns-in-Ok-read_trailers-clause-answer
-returns-in-Ok-read_trailers-clause-answer g c =
+pub returns-then-size-eq0-clause-answer : goal.returns-then-size-eq0-clause-answer
+returns-then-size-eq0-clause-answer g c =
     let k = c.chunks.invariant.chunks in
     let a = c.in-Ok.ensures.answer in
-    let t = c.in-Ok-read_trailers.ensures.answer in
+    let t = c.in_default.ensures.answer in
     let body = c.chunks.body.items in
     let size = sym a.4.3 ∙ c.if-size-eq0.true in
     let whole : IsChunked body ((k.0 ++ a.0) ++ t.0) = record {
@@ -121,7 +122,7 @@ returns-in-Err-read_crlf-clause-answer g c =
     let k = c.chunks.invariant.chunks in
     let a = c.in-Ok.ensures.answer in
     let body = c.chunks.body.items in
-    let b = c.in_default.ensures.answer in
+    let b = c.in_default-read_bytes.ensures.answer in
     let e = c.in-Err-read_crlf.ensures.answer in
     let bytes = c.read_bytes.new.body.items in
     let has : HasChunks c.args.limit body k.0 = record { are_chunks = k.2; within = c.chunks.invariant.within } in
@@ -147,7 +148,7 @@ chunks-preserved g c =
     let k = c.chunks.invariant.chunks in
     let a = c.in-Ok.ensures.answer in
     let body = c.chunks.body.items in
-    let b = c.in_default.ensures.answer in
+    let b = c.in_default-read_bytes.ensures.answer in
     let e = c.in_default-read_crlf.ensures.answer in
     let bytes = c.read_bytes.new.body.items in
     let whole : length b.0 ≡ chunk_size a.4.0 = omega (arith, b.5.0, ap length b.4, length-append body b.0, a.4.3) in
@@ -160,7 +161,8 @@ chunks-preserved g c =
         moved,
         chunks_are body bytes b.0 k.0 a.0 e.0 a.4.0 b.4 a.4.2 e.4.0 next,
       );
-      counted = omega (arith, c.chunks.invariant.counted, c.in-Ok.ensures.counted, c.in_default.ensures.counted, c.in_default-read_crlf.ensures.counted);
+      rose = omega (arith, c.chunks.invariant.rose, c.in-Ok.ensures.rose, c.in_default-read_bytes.ensures.rose, c.in_default-read_crlf.ensures.rose);
+      counted = omega (arith, c.chunks.invariant.counted, c.in-Ok.ensures.counted, c.in_default-read_bytes.ensures.counted, c.in_default-read_crlf.ensures.counted);
       patient = subst (λ ending. EndsSo ending (g.R.Source.left c.read_crlf.new.source) (g.R.Source.has_failed c.read_crlf.new.source) c.read_crlf.new.interruptions) e.4.1 e.3;
       within = omega (arith, b.5.0, a.4.3, c.if-size-limit.false, c.chunks.invariant.within);
     }

@@ -7,6 +7,7 @@ use Rattle.up_wire.proofs.chunks.read_chunks.Given as goal
 abbrev pub invariant-chunks : goal.invariant-chunks
 invariant-chunks g l = record {
   chunks : (text : List ℕ) × Consumes (g.R.Source.left l.fn.source) (g.R.Source.left l.source) text × AreChunks l.body.items text;
+  rose : l.fn.interruptions ≤ l.interruptions;
   counted : l.interruptions + g.R.Source.interruptions l.fn.source ≡ l.fn.interruptions + g.R.Source.interruptions l.source;
   patient : l.interruptions < max_interruptions;
   within : length l.body.items ≤ l.limit;

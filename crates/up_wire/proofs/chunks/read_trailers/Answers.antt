@@ -1,82 +1,87 @@
-use Rattle.std.proofs.Common.{◌≡◌, ◌≤◌, [], ◌∷◌, ◌++◌, length, refl, sym, ap, subst, arith}
-use Rattle.std.proofs.lemmas.List.{length-append}
+use Rattle.std.proofs.Common.{◌≡◌, ◌<◌, ◌≤◌, ◌++◌, length, take, sym, ap, ◌∙◌, subst, arith, inr}
 use Rattle.std.specs.Io.KnownBytes.{Consumes}
-use Rattle.std.proofs.KnownBytes.{Consumes-nil, Consumes-trans}
+use Rattle.std.proofs.KnownBytes.{Consumes-trans}
 use Rattle.httparse.specs.Grammar.{HasNoSection}
-use Rattle.up_wire.specs.Message.{open_yet}
-use Rattle.up_wire.specs.Chunks.{EndInLine}
 use Rattle.up_wire.specs.Limits.{max_head}
-use Rattle.up_wire.proofs.ChunkedTexts.{no_section_at_first, no_section_yet, in_line_at_first, in_line_yet, in_line_again, trailers_alone, refused}
-use Rattle.up_wire.specs.Steps.{AreParsed}
+use Rattle.up_wire.specs.declared.body.Stop.TheVariants as Stop
 use Rattle.up_wire.specs.declared.chunks.Trailers.TheVariants as Trailers
+use Rattle.up_wire.specs.Steps.{AreParsed, EndsSo, IsStopBehind, is_line_end}
+use Rattle.up_wire.proofs.ChunkedTexts.{trailers_alone}
+use Rattle.up_wire.proofs.EmptyLines.{section_at_line, part_no_section, line_no_section, trailers_stop}
+use Rattle.up_wire.proofs.Lines.{rest_of, front_of}
 use Rattle.up_wire.proofs.chunks.read_trailers.Goals as goal
 
-pub returns-in-Whole-clause-answer : goal.returns-in-Whole-clause-answer
-returns-in-Whole-clause-answer g c =
-    let text = c.bytes.text.items in
-    let byte = c.in-Byte.byte in
-    let ends : c.deref.result.now ≡ text ++ byte ∷ [] = cc in
-    let found = subst (λ t. AreParsed t Trailers.Whole) ends c.in-Whole.ensures in
-    let short : length (text ++ byte ∷ []) ≤ max_head = omega (arith, length-append text (byte ∷ [])) in (
-      text ++ byte ∷ [],
-      open_yet,
-      Consumes-trans _ _ _ _ _ c.bytes.invariant.bytes c.in-Byte.ensures.bytes,
-      c.in-Byte.ensures.ends,
-      (trailers_alone text byte found.0 found.1 found.2 c.bytes.invariant.no_section found.3 short found.4, refl),
-    )
+pub returns-in-Whole-parse_trailers-clause-answer : goal.returns-in-Whole-parse_trailers-clause-answer
+returns-in-Whole-parse_trailers-clause-answer g c =
+    let old = c.lines.invariant in
+    let a = c.in-Whole.ensures.answer in
+    let text = c.lines.text.items in
+    let found = subst (λ t. AreParsed t Trailers.Whole) (c.deref-then-start-eq0.ensures.value ∙ a.4) c.in-Whole-parse_trailers.ensures in
+    let whole = section_at_line text a.0 found.0 found.1 found.2 old.no_section a.5.0 found.3 in
+    let short : length (text ++ a.0) ≤ max_head = omega (arith, ap length a.4, c.in-Whole.ensures.within) in
+    (text ++ a.0, a.1, Consumes-trans _ _ _ _ _ old.bytes a.2, a.3, (trailers_alone (text ++ a.0) found.0 found.1 found.2 found.3 whole short found.4, a.5.1))
 
-pub returns-in-Bad-clause-answer : goal.returns-in-Bad-clause-answer
-returns-in-Bad-clause-answer g c =
-    let text = c.bytes.text.items in
-    let byte = c.in-Byte.byte in
-    let ends : c.deref.result.now ≡ text ++ byte ∷ [] = cc in
-    let bad = subst (λ t. AreParsed t Trailers.Bad) ends c.in-Bad.ensures in
-    let short : length (text ++ byte ∷ []) ≤ max_head = omega (arith, length-append text (byte ∷ [])) in (
-      text ++ byte ∷ [],
-      open_yet,
-      Consumes-trans _ _ _ _ _ c.bytes.invariant.bytes c.in-Byte.ensures.bytes,
-      c.in-Byte.ensures.ends,
-      ((short, refused (text ++ byte ∷ []) bad), refl),
-    )
-
-pub bytes-preserved : goal.bytes-preserved
-bytes-preserved g c =
-    let text = c.bytes.text.items in
-    let byte = c.in-Byte.byte in
-    let same : c.push_reserved.new.self.items ≡ text ++ byte ∷ [] = cc in
+pub lines-preserved-in-Whole : goal.lines-preserved-in-Whole
+lines-preserved-in-Whole g c =
+    let old = c.lines.invariant in
+    let a = c.in-Whole.ensures.answer in
+    let found = subst (λ t. AreParsed t Trailers.Partial) c.deref-then-start-eq0.ensures.value c.in-Partial.ensures in
     record {
-      bytes = subst (Consumes _ _) (sym same) (Consumes-trans _ _ _ _ _ c.bytes.invariant.bytes c.in-Byte.ensures.bytes);
-      counted = omega arith;
-      patient = c.in-Byte.ensures.ends;
-      short = omega (arith, length-append text (byte ∷ []), ap length same);
-      no_section = subst HasNoSection (sym same) (no_section_yet text byte c.bytes.invariant.no_section c.if-byte-eq10.false);
-      in_line = subst EndInLine (sym same) (in_line_yet text byte c.bytes.invariant.in_line c.if-byte-eq10.false);
-    }
-
-pub bytes-init : goal.bytes-init
-bytes-init g c =
-    let none = c.new-text.ensures.items in
-    record {
-      bytes = subst (Consumes _ _) (sym none) (Consumes-nil _);
-      counted = refl;
-      patient = c.requires;
-      short = omega (arith, ap length none);
-      no_section = subst HasNoSection (sym none) no_section_at_first;
-      in_line = subst EndInLine (sym none) in_line_at_first;
-    }
-
-pub bytes-preserved-in-Partial : goal.bytes-preserved-in-Partial
-bytes-preserved-in-Partial g c =
-    let text = c.bytes.text.items in
-    let byte = c.in-Byte.byte in
-    let same : c.push_reserved.new.self.items ≡ text ++ byte ∷ [] = cc in
-    let ends : c.deref.result.now ≡ c.push_reserved.new.self.items = cc in
-    let found = subst (λ t. AreParsed t Trailers.Partial) ends c.in-Partial.ensures in
-    record {
-      bytes = subst (Consumes _ _) (sym same) (Consumes-trans _ _ _ _ _ c.bytes.invariant.bytes c.in-Byte.ensures.bytes);
-      counted = omega arith;
-      patient = c.in-Byte.ensures.ends;
-      short = omega (arith, length-append text (byte ∷ []), ap length same);
+      bytes = subst (Consumes _ _) (sym a.4) (Consumes-trans _ _ _ _ _ old.bytes a.2);
+      rose = omega (arith, old.rose, c.in-Whole.ensures.rose);
+      counted = omega (arith, old.counted, c.in-Whole.ensures.counted);
+      patient = subst (λ e. EndsSo e (g.R.Source.left c.take_line.new.source) (g.R.Source.has_failed c.take_line.new.source) c.take_line.new.interruptions) a.5.1 a.3;
+      short = omega (arith, c.in-Whole.ensures.within);
       no_section = found.0;
-      in_line = in_line_again c.push_reserved.new.self.items found.1;
     }
+
+pub lines-preserved : goal.lines-preserved
+lines-preserved g c =
+    let old = c.lines.invariant in
+    let a = c.in-Whole.ensures.answer in
+    let text = c.lines.text.items in
+    let line : c.is_line_end.result ≡ is_line_end a.0 =
+    c.is_line_end.ensures ∙ ap is_line_end (rest_of text a.0 c.deref.result.now c.len-start.result (c.deref.ensures.value ∙ a.4) (omega (arith, c.len-start.ensures))) in
+    record {
+      bytes = subst (Consumes _ _) (sym a.4) (Consumes-trans _ _ _ _ _ old.bytes a.2);
+      rose = omega (arith, old.rose, c.in-Whole.ensures.rose);
+      counted = omega (arith, old.counted, c.in-Whole.ensures.counted);
+      patient = subst (λ e. EndsSo e (g.R.Source.left c.take_line.new.source) (g.R.Source.has_failed c.take_line.new.source) c.take_line.new.interruptions) a.5.1 a.3;
+      short = omega (arith, c.in-Whole.ensures.within);
+      no_section = subst HasNoSection (sym a.4) (line_no_section text a.0 old.no_section a.5.0 (sym line ∙ c.if-is_line_end.false));
+    }
+
+pub returns-in-Full-clause-answer : goal.returns-in-Full-clause-answer
+returns-in-Full-clause-answer g c =
+    let old = c.lines.invariant in
+    let a = c.in-Full.ensures.answer in
+    let text = c.lines.text.items in
+    let full : length (text ++ a.0) ≡ max_head = omega (arith, ap length a.4, a.5.1) in
+    (text ++ a.0, a.1, Consumes-trans _ _ _ _ _ old.bytes a.2, a.3, (omega (arith, full), inr (inr (full, part_no_section text a.0 old.no_section a.5.0))))
+
+pub returns-in-Ended-clause-answer : goal.returns-in-Ended-clause-answer
+returns-in-Ended-clause-answer g c =
+    let old = c.lines.invariant in
+    let a = c.in-Ended.ensures.answer in
+    let text = c.lines.text.items in
+    let lines : take c.len-start.result c.deref-in-Ended.result.now ≡ text = front_of text a.0 c.deref-in-Ended.result.now c.len-start.result (c.deref-in-Ended.ensures.value ∙ a.4) (omega (arith, c.len-start.ensures)) in
+    let stop = subst (λ t. IsStopBehind t Stop.Ended c.stop_behind.result) lines c.stop_behind.ensures in
+    let short : length (text ++ a.0) < max_head = omega (arith, ap length a.4, a.5.1) in
+    (text ++ a.0, a.1, Consumes-trans _ _ _ _ _ old.bytes a.2, a.3, trailers_stop text a.0 a.1 Stop.Ended c.stop_behind.result stop old.no_section a.5.0 short (λ cut. (cut, a.5.2)))
+
+pub returns-in-Failed-clause-answer : goal.returns-in-Failed-clause-answer
+returns-in-Failed-clause-answer g c =
+    let old = c.lines.invariant in
+    let a = c.in-Failed.ensures.answer in
+    let text = c.lines.text.items in
+    let lines : take c.len-start.result c.deref-in-Failed.result.now ≡ text = front_of text a.0 c.deref-in-Failed.result.now c.len-start.result (c.deref-in-Failed.ensures.value ∙ a.4) (omega (arith, c.len-start.ensures)) in
+    let stop = subst (λ t. IsStopBehind t Stop.Failed c.stop_behind-in-Failed.result) lines c.stop_behind-in-Failed.ensures in
+    let short : length (text ++ a.0) < max_head = omega (arith, ap length a.4, a.5.1) in
+    (text ++ a.0, a.1, Consumes-trans _ _ _ _ _ old.bytes a.2, a.3, trailers_stop text a.0 a.1 Stop.Failed c.stop_behind-in-Failed.result stop old.no_section a.5.0 short (λ cut. (cut, a.5.2)))
+
+pub returns-in-NoMemory-clause-answer : goal.returns-in-NoMemory-clause-answer
+returns-in-NoMemory-clause-answer g c =
+    let old = c.lines.invariant in
+    let a = c.in-NoMemory.ensures.answer in
+    let text = c.lines.text.items in
+    (text ++ a.0, a.1, Consumes-trans _ _ _ _ _ old.bytes a.2, a.3, a.5.1)

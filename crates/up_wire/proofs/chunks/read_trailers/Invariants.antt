@@ -1,20 +1,18 @@
 use Rattle.std.proofs.Common.{◌≡◌, ◌+◌, ◌-◌, ◌<◌, ◌≤◌, length, vec_len}
 use Rattle.std.specs.Io.KnownBytes.{Consumes}
 use Rattle.httparse.specs.Grammar.{HasNoSection}
-use Rattle.up_wire.specs.Chunks.{EndInLine}
-use Rattle.up_wire.specs.Limits.{max_head}
-use Rattle.up_wire.specs.Limits.{max_interruptions}
+use Rattle.up_wire.specs.Limits.{max_head, max_interruptions}
 use Rattle.up_wire.proofs.chunks.read_trailers.Given as goal
 
-abbrev pub invariant-bytes : goal.invariant-bytes
-invariant-bytes g l = record {
+abbrev pub invariant-lines : goal.invariant-lines
+invariant-lines g l = record {
   bytes : Consumes (g.R.Source.left l.fn.source) (g.R.Source.left l.source) l.text.items;
+  rose : l.fn.interruptions ≤ l.interruptions;
   counted : l.interruptions + g.R.Source.interruptions l.fn.source ≡ l.fn.interruptions + g.R.Source.interruptions l.source;
   patient : l.interruptions < max_interruptions;
   short : length l.text.items ≤ max_head;
   no_section : HasNoSection l.text.items;
-  in_line : EndInLine l.text.items;
 }
 
-abbrev pub decreases-bytes : goal.decreases-bytes
-decreases-bytes g l = max_head - vec_len l.text
+abbrev pub decreases-lines : goal.decreases-lines
+decreases-lines g l = max_head - vec_len l.text

@@ -1,19 +1,19 @@
-use Rattle.std.proofs.Common.{◌≡◌, ◌<◌, ◌≤◌, ℕ, List, [], ◌∷◌, ◌++◌, length, All, false, refl, sym, ap, subst, arith, append-nil, inl, inr}
-use Rattle.std.proofs.lemmas.List.{length-append}
+use Rattle.std.proofs.Common.{◌≡◌, ◌<◌, ◌≤◌, ℕ, List, [], ◌++◌, length, All, false, refl, sym, ap, ◌∙◌, subst, arith, inl, inr}
 use Rattle.std.specs.Io.KnownBytes.{Consumes}
 use Rattle.std.proofs.KnownBytes.{Consumes-nil, Consumes-trans}
-use Rattle.httparse.specs.Grammar.{HasNoRequest}
-use Rattle.up_wire.specs.Message.{open_yet, ended, failed, IsBlank}
+use Rattle.httparse.specs.Grammar.{HasNoRequest, NeverHasRequest}
+use Rattle.up_wire.specs.Message.{open_yet, failed, IsBlank}
 use Rattle.up_wire.specs.Limits.{max_head}
-use Rattle.up_wire.specs.Steps.{IsParsed, IsStanding, IsHeadRead}
+use Rattle.up_wire.specs.Steps.{IsParsed, IsStanding, IsHeadRead, is_line_end, EndsSo}
 use Rattle.up_wire.specs.declared.wire_fault.WireFault.{WireFault}
 use Rattle.up_wire.specs.declared.wire_fault.WireFault.TheVariants.{ReadFailed, HeadTooLarge}
 use Rattle.up_wire.specs.declared.head.Parsed.TheVariants as Parsed
 use Rattle.up_wire.specs.declared.head_reader.HeadRead.TheVariants as HeadRead
-use Rattle.up_wire.proofs.Heads.{no_head_at_first, no_head_yet, head_is_whole, head_alone}
+use Rattle.up_wire.proofs.Heads.{no_head_at_first}
 use Rattle.std.proofs.lemmas.List.Elements.{All-nil}
-use Rattle.up_wire.proofs.BlankLines.{IsEnd, ends_have_none, blank_more}
-use Rattle.up_wire.proofs.head_reader.read_head.Goals.{else-is_begun-via-then-is_begun+else-byte-eq10, else-is_begun-via-else-is_begun}
+use Rattle.up_wire.proofs.BlankLines.{IsEnd}
+use Rattle.up_wire.proofs.EmptyLines.{whole_head, part_no_head, line_waits, not_same}
+use Rattle.up_wire.proofs.Lines.{rest_of}
 use Rattle.up_wire.proofs.head_reader.read_head.Goals as goal
 
 -- a read failed over bytes that are no head
@@ -30,11 +30,12 @@ standing_full text fault (inl (is, may)) none full = subst (λ f. IsHeadRead tex
 standing_full text fault (inr (inl (is, never))) none full = subst (λ f. IsHeadRead text open_yet (HeadRead.Fault f false)) (sym is) (inl (omega arith, never), refl)
 standing_full text fault (inr (inr (is, exceeds))) none full = subst (λ f. IsHeadRead text open_yet (HeadRead.Fault f false)) (sym is) (inl (omega arith, exceeds), refl)
 
-pub bytes-init : goal.bytes-init
-bytes-init g c =
+pub lines-init : goal.lines-init
+lines-init g c =
     let none = c.new-text.ensures.items in
     record {
       bytes = subst (Consumes _ _) (sym none) (Consumes-nil _);
+      rose = omega arith;
       counted = refl;
       patient = c.requires;
       short = omega (arith, ap length none);
@@ -42,102 +43,139 @@ bytes-init g c =
       blank = λ not. subst (All IsEnd) (sym none) (All-nil IsEnd);
     }
 
-pub returns-in-Whole-clause-answer : goal.returns-in-Whole-clause-answer
-returns-in-Whole-clause-answer g c =
-    let text = c.bytes.text.items in
-    let byte = c.in-Byte.byte in
-    let same : c.deref.result.now ≡ text ++ byte ∷ [] = cc in
-    let parsed = subst (λ t. IsParsed t (Parsed.Whole c.in-Whole.head)) same c.in-Whole.ensures in
-    let none = c.bytes.invariant.no_head in
-    let short : length (text ++ byte ∷ []) ≤ max_head = omega (arith, length-append text (byte ∷ []), ap length same) in
-    let alone = head_alone (text ++ byte ∷ []) parsed.0 parsed.1 parsed.2 (head_is_whole text byte parsed.0 parsed.1 none parsed.2) short parsed.3 in
-    (text ++ byte ∷ [], open_yet, Consumes-trans _ _ _ _ _ c.bytes.invariant.bytes c.in-Byte.ensures.bytes, c.in-Byte.ensures.ends, (parsed.0, alone, parsed.4, refl))
+pub returns-in-Whole-parse-clause-answer : goal.returns-in-Whole-parse-clause-answer
+returns-in-Whole-parse-clause-answer g c =
+    let old = c.lines.invariant in
+    let a = c.in-Whole.ensures.answer in
+    let text = c.lines.text.items in
+    let same = c.deref-then-is_begun-is_empty.ensures.value ∙ a.4 in
+    let parsed = subst (λ t. IsParsed t (Parsed.Whole c.in-Whole-parse.head)) same c.in-Whole-parse.ensures in
+    let short : length (text ++ a.0) ≤ max_head = omega (arith, ap length a.4, c.in-Whole.ensures.within) in
+    let alone = whole_head text a.0 parsed.0 parsed.1 old.no_head a.5.0 short parsed.2 parsed.3 in
+    (text ++ a.0, a.1, Consumes-trans _ _ _ _ _ old.bytes a.2, a.3, (parsed.0, alone, parsed.4, a.5.1))
 
-pub returns-in-NoMemory-clause-answer : goal.returns-in-NoMemory-clause-answer
-returns-in-NoMemory-clause-answer g c =
-    let text = c.bytes.text.items in
-    let byte = c.in-Byte.byte in
-    let same : c.deref.result.now ≡ text ++ byte ∷ [] = cc in
-    let parsed = subst (λ t. IsParsed t (Parsed.NoMemory c.in-NoMemory.bare)) same c.in-NoMemory.ensures in
-    let none = c.bytes.invariant.no_head in
-    let short : length (text ++ byte ∷ []) ≤ max_head = omega (arith, length-append text (byte ∷ [])) in
-    let alone = head_alone (text ++ byte ∷ []) parsed.0 parsed.1 parsed.2 (head_is_whole text byte parsed.0 parsed.1 none parsed.2) short parsed.3 in
-    (text ++ byte ∷ [], open_yet, Consumes-trans _ _ _ _ _ c.bytes.invariant.bytes c.in-Byte.ensures.bytes, c.in-Byte.ensures.ends, inr (parsed.0, [], alone, parsed.4))
+pub returns-in-NoMemory-parse-clause-answer : goal.returns-in-NoMemory-parse-clause-answer
+returns-in-NoMemory-parse-clause-answer g c =
+    let old = c.lines.invariant in
+    let a = c.in-Whole.ensures.answer in
+    let text = c.lines.text.items in
+    let same = c.deref-then-is_begun-is_empty.ensures.value ∙ a.4 in
+    let parsed = subst (λ t. IsParsed t (Parsed.NoMemory c.in-NoMemory-parse.bare)) same c.in-NoMemory-parse.ensures in
+    let short : length (text ++ a.0) ≤ max_head = omega (arith, ap length a.4, c.in-Whole.ensures.within) in
+    let alone = whole_head text a.0 parsed.0 parsed.1 old.no_head a.5.0 short parsed.2 parsed.3 in
+    (text ++ a.0, a.1, Consumes-trans _ _ _ _ _ old.bytes a.2, a.3, inr (parsed.0, [], alone, parsed.4))
+
+pub returns-in-Invalid-clause-answer : goal.returns-in-Invalid-clause-answer
+returns-in-Invalid-clause-answer g c =
+    let old = c.lines.invariant in
+    let a = c.in-Whole.ensures.answer in
+    let text = c.lines.text.items in
+    let same = c.deref-then-is_begun-is_empty.ensures.value ∙ a.4 in
+    let never = subst NeverHasRequest same c.in-Invalid.ensures in
+    let short : length (text ++ a.0) ≤ max_head = omega (arith, ap length a.4, c.in-Whole.ensures.within) in
+    (text ++ a.0, a.1, Consumes-trans _ _ _ _ _ old.bytes a.2, a.3, subst (IsHeadRead (text ++ a.0) a.1) (sym c.refuse.ensures) (inl (short, never), refl))
 
 pub returns-in-TooManyFields-clause-answer : goal.returns-in-TooManyFields-clause-answer
 returns-in-TooManyFields-clause-answer g c =
-    let text = c.bytes.text.items in
-    let byte = c.in-Byte.byte in
-    let same : c.deref.result.now ≡ text ++ byte ∷ [] = cc in
+    let old = c.lines.invariant in
+    let a = c.in-Whole.ensures.answer in
+    let text = c.lines.text.items in
+    let same = c.deref-then-is_begun-is_empty.ensures.value ∙ a.4 in
     let parsed = subst (λ t. IsParsed t Parsed.TooManyFields) same c.in-TooManyFields.ensures in
-    let short : length (text ++ byte ∷ []) ≤ max_head = omega (arith, length-append text (byte ∷ [])) in (
-      text ++ byte ∷ [],
-      open_yet,
-      Consumes-trans _ _ _ _ _ c.bytes.invariant.bytes c.in-Byte.ensures.bytes,
-      c.in-Byte.ensures.ends,
-      subst (IsHeadRead (text ++ byte ∷ []) open_yet) (sym c.refuse-in-TooManyFields.ensures) (inl (short, parsed), refl),
+    let short : length (text ++ a.0) ≤ max_head = omega (arith, ap length a.4, c.in-Whole.ensures.within) in (
+      text ++ a.0,
+      a.1,
+      Consumes-trans _ _ _ _ _ old.bytes a.2,
+      a.3,
+      subst (IsHeadRead (text ++ a.0) a.1) (sym c.refuse-in-TooManyFields.ensures) (inl (short, parsed), refl),
     )
 
-pub bytes-preserved : goal.bytes-preserved
-bytes-preserved g c =
-    let text = c.bytes.text.items in
-    let byte = c.in-Byte.byte in
-    let same : c.push_reserved.new.self.items ≡ text ++ byte ∷ [] = cc in
-    let blank = blank_more text byte c.bytes.is_begun c.is_line_end.result c.bytes.invariant.blank c.is_line_end.ensures in
-    let none : HasNoRequest (text ++ byte ∷ []) = elim c.else-is_begun.branch [
-      | else-is_begun-via-then-is_begun+else-byte-eq10 w ↦ no_head_yet text byte c.bytes.invariant.no_head w.if-byte-eq10.false
-      | else-is_begun-via-else-is_begun w ↦ ends_have_none (text ++ byte ∷ []) (blank w.if-is_begun.false)
-    ] in
+pub lines-preserved : goal.lines-preserved
+lines-preserved g c =
+    let old = c.lines.invariant in
+    let a = c.in-Whole.ensures.answer in
+    let text = c.lines.text.items in
+    let line : c.is_line_end-is_empty.result ≡ is_line_end a.0 =
+    c.is_line_end-is_empty.ensures ∙ ap is_line_end (rest_of text a.0 c.deref.result.now c.len-start.result (c.deref.ensures.value ∙ a.4) (omega (arith, c.len-start.ensures))) in
+    let waits = line_waits text a.0 c.lines.is_begun c.is_line_end-is_empty.result line (not_same c.lines.is_begun c.is_line_end-is_empty.result c.if-is_begun-is_empty.false) old.no_head old.blank a.5.0 in
     record {
-      bytes = subst (Consumes _ _) (sym same) (Consumes-trans _ _ _ _ _ c.bytes.invariant.bytes c.in-Byte.ensures.bytes);
-      counted = omega arith;
-      patient = c.in-Byte.ensures.ends;
-      short = omega (arith, length-append text (byte ∷ []), ap length same);
-      no_head = subst HasNoRequest (sym same) none;
-      blank = λ not. subst (All IsEnd) (sym same) (blank not);
+      bytes = subst (Consumes _ _) (sym a.4) (Consumes-trans _ _ _ _ _ old.bytes a.2);
+      rose = omega (arith, old.rose, c.in-Whole.ensures.rose);
+      counted = omega (arith, old.counted, c.in-Whole.ensures.counted);
+      patient = subst (λ e. EndsSo e (g.R.Source.left c.take_line.new.source) (g.R.Source.has_failed c.take_line.new.source) c.take_line.new.interruptions) a.5.1 a.3;
+      short = omega (arith, c.in-Whole.ensures.within);
+      no_head = subst HasNoRequest (sym a.4) waits.0;
+      blank = λ not. subst (All IsEnd) (sym a.4) (waits.1 not);
     }
+
+pub fault_of-requires : goal.fault_of-requires
+fault_of-requires g c =
+    let a = c.in-Full.ensures.answer in
+    subst HasNoRequest (sym (c.deref-in-Full.ensures.value ∙ a.4)) (part_no_head c.lines.text.items a.0 c.lines.invariant.no_head a.5.0)
+
+pub returns-in-Full-clause-answer : goal.returns-in-Full-clause-answer
+returns-in-Full-clause-answer g c =
+    let old = c.lines.invariant in
+    let a = c.in-Full.ensures.answer in
+    let text = c.lines.text.items in
+    let standing = subst (λ t. IsStanding t HeadTooLarge c.fault_of.result) (c.deref-in-Full.ensures.value ∙ a.4) c.fault_of.ensures in
+    let full : length (text ++ a.0) ≡ max_head = omega (arith, ap length a.4, a.5.1) in (
+      text ++ a.0,
+      open_yet,
+      Consumes-trans _ _ _ _ _ old.bytes a.2,
+      subst (λ e. EndsSo e (g.R.Source.left c.take_line.new.source) (g.R.Source.has_failed c.take_line.new.source) c.take_line.new.interruptions) a.5.2 a.3,
+      subst (IsHeadRead (text ++ a.0) open_yet) (sym c.refuse-in-Full.ensures) (standing_full (text ++ a.0) c.fault_of.result standing (part_no_head text a.0 old.no_head a.5.0) full),
+    )
 
 pub returns-then-is_blank-clause-answer : goal.returns-then-is_blank-clause-answer
 returns-then-is_blank-clause-answer g c =
-    let text = c.bytes.text.items in
-    let same : c.deref-in-Ended.result.now ≡ text = cc in
-    let blank : IsBlank text = subst IsBlank same (cc (c.if-is_blank.ensures)) in
-    let moved = subst (Consumes _ _) (append-nil text) (Consumes-trans _ _ _ text [] c.bytes.invariant.bytes c.in-Ended.ensures.bytes) in
-    (text, ended, moved, c.in-Ended.ensures.ends, ((omega arith, blank), refl))
+    let old = c.lines.invariant in
+    let a = c.in-Ended.ensures.answer in
+    let text = c.lines.text.items in
+    let blank : IsBlank (text ++ a.0) = subst IsBlank (c.deref-in-Ended.ensures.value ∙ a.4) (cc (c.if-is_blank.ensures)) in
+    (text ++ a.0, a.1, Consumes-trans _ _ _ _ _ old.bytes a.2, a.3, ((omega (arith, ap length a.4, a.5.1), blank), a.5.2))
 
 pub returns-in-Ended-clause-answer : goal.returns-in-Ended-clause-answer
 returns-in-Ended-clause-answer g c =
-    let text = c.bytes.text.items in
-    let same : c.deref-in-Ended.result.now ≡ text = cc in
-    let moved = subst (Consumes _ _) (append-nil text) (Consumes-trans _ _ _ text [] c.bytes.invariant.bytes c.in-Ended.ensures.bytes) in (
-      text,
-      ended,
-      moved,
-      c.in-Ended.ensures.ends,
-      subst (IsHeadRead text ended) (sym c.refuse-in-Ended.ensures)
-          (inr (refl, c.bytes.invariant.no_head, omega arith, λ blank. cc (blank, c.if-is_blank.ensures)), refl),
+    let old = c.lines.invariant in
+    let a = c.in-Ended.ensures.answer in
+    let text = c.lines.text.items in
+    let same = c.deref-in-Ended.ensures.value ∙ a.4 in (
+      text ++ a.0,
+      a.1,
+      Consumes-trans _ _ _ _ _ old.bytes a.2,
+      a.3,
+      subst (IsHeadRead (text ++ a.0) a.1) (sym c.refuse-in-Ended.ensures)
+          (inr (a.5.2, part_no_head text a.0 old.no_head a.5.0, omega (arith, ap length a.4, a.5.1), λ blank. cc (blank, c.if-is_blank.ensures, same)), refl),
     )
+
+pub fault_of-requires-in-Failed : goal.fault_of-requires-in-Failed
+fault_of-requires-in-Failed g c =
+    let a = c.in-Failed.ensures.answer in
+    subst HasNoRequest (sym (c.deref-in-Failed.ensures.value ∙ a.4)) (part_no_head c.lines.text.items a.0 c.lines.invariant.no_head a.5.0)
 
 pub returns-in-Failed-clause-answer : goal.returns-in-Failed-clause-answer
 returns-in-Failed-clause-answer g c =
-    let text = c.bytes.text.items in
-    let same : c.deref-in-Failed.result.now ≡ text = cc in
-    let moved = subst (Consumes _ _) (append-nil text) (Consumes-trans _ _ _ text [] c.bytes.invariant.bytes c.in-Failed.ensures.bytes) in
-    let standing = subst (λ t. IsStanding t ReadFailed c.fault_of.result) same c.fault_of.ensures in (
-      text,
+    let old = c.lines.invariant in
+    let a = c.in-Failed.ensures.answer in
+    let text = c.lines.text.items in
+    let standing = subst (λ t. IsStanding t ReadFailed c.fault_of-in-Failed.result) (c.deref-in-Failed.ensures.value ∙ a.4) c.fault_of-in-Failed.ensures in
+    let short : length (text ++ a.0) < max_head = omega (arith, ap length a.4, a.5.1) in (
+      text ++ a.0,
       failed,
-      moved,
-      c.in-Failed.ensures.ends,
-      subst (IsHeadRead text failed) (sym c.refuse-in-Failed.ensures) (standing_failed text c.fault_of.result standing c.bytes.invariant.no_head (omega arith)),
+      Consumes-trans _ _ _ _ _ old.bytes a.2,
+      subst (λ e. EndsSo e (g.R.Source.left c.take_line.new.source) (g.R.Source.has_failed c.take_line.new.source) c.take_line.new.interruptions) a.5.2 a.3,
+      subst (IsHeadRead (text ++ a.0) failed) (sym c.refuse-in-Failed.ensures) (standing_failed (text ++ a.0) c.fault_of-in-Failed.result standing (part_no_head text a.0 old.no_head a.5.0) short),
     )
 
-pub returns-clause-answer : goal.returns-clause-answer
-returns-clause-answer g c =
-    let text = c.bytes.text.items in
-    let standing = subst (λ t. IsStanding t HeadTooLarge c.fault_of-fault.result) c.deref-2.ensures.value c.fault_of-fault.ensures in (
-      text,
-      open_yet,
-      c.bytes.invariant.bytes,
-      c.bytes.invariant.patient,
-      subst (IsHeadRead text open_yet) (sym c.refuse-2.ensures) (standing_full text c.fault_of-fault.result standing c.bytes.invariant.no_head (omega arith)),
+pub returns-in-NoMemory-clause-answer : goal.returns-in-NoMemory-clause-answer
+returns-in-NoMemory-clause-answer g c =
+    let old = c.lines.invariant in
+    let a = c.in-NoMemory.ensures.answer in
+    let text = c.lines.text.items in (
+      text ++ a.0,
+      a.1,
+      Consumes-trans _ _ _ _ _ old.bytes a.2,
+      a.3,
+      subst (IsHeadRead (text ++ a.0) a.1) (sym c.refuse-in-NoMemory.ensures) (inl (part_no_head text a.0 old.no_head a.5.0, refl)),
     )

@@ -1,8 +1,9 @@
-use Rattle.std.proofs.Common.{[], ◌++◌, Ok, Err, refl, sym, ap, subst, append-nil, arith, inl, inr}
+use Rattle.std.proofs.Common.{[], ◌++◌, Ok, Err, refl, sym, ap, subst, append-nil, arith, inl}
 use Rattle.std.proofs.KnownBytes.{Appends-nil, Consumes-trans}
 use Rattle.up_wire.specs.Message.{open_yet, fields_of, IsBody, IsCutBody}
 use Rattle.up_wire.specs.Reading.{interim_after}
-use Rattle.up_wire.proofs.Answering.{shows_of, head_fault, framing_error, framing_fault, fault_behind, framing_is, bare_is, due_is, parts_are, head_more, gave_up, head_written, error_written, body_written}
+use Rattle.up_wire.specs.Device.{device}
+use Rattle.up_wire.proofs.Answering.{shows_of, head_fault, framing_error, framing_fault, fault_behind, framing_is, bare_is, due_is, parts_are, head_more, patient_of, patient_write, still_open, broke, no_write, head_written, error_written, body_written}
 use Rattle.up_wire.proofs.reader.read_message.Goals as goal
 
 pub returns-in-Fault : goal.returns-in-Fault
@@ -16,10 +17,11 @@ returns-in-Fault g c =
       line = [];
       took = a.2;
       wrote = Appends-nil _;
-      shows = shows_of a.1 _ _ _ a.3 (omega arith);
+      shows = shows_of a.1 _ _ _ _ a.3 (omega arith) (λ often. omega (arith, counted, often));
+      is_patient = patient_of a.1 _ _ _ _ _ a.3 (omega arith);
       is_answer = both.0;
       is_interim = both.1;
-      is_unwritten = λ failed. absurd (head_written a.0 a.1 c.in-Fault.fault c.in-Fault.bare a.4 failed);
+      is_unwritten = λ failed. absurd (no_write c.in-Fault.fault c.in-Fault.bare (head_written a.0 a.1 c.in-Fault.fault c.in-Fault.bare a.4) failed);
     }
 
 pub returns-in-Err : goal.returns-in-Err
@@ -44,9 +46,10 @@ returns-in-Err g c =
       took = a.2;
       wrote = Appends-nil _;
       shows = tt;
+      is_patient = inl (omega (arith, still_open a.1 _ _ _ a.4.3 a.3, c.in-Whole.ensures.counted));
       is_answer = both.0;
       is_interim = both.1;
-      is_unwritten = λ failed. absurd (error_written fault (framing_error limit head.minor (fields_of head) fault framed) failed);
+      is_unwritten = λ failed. absurd (no_write fault c.is_bare-bare.result (error_written fault (framing_error limit head.minor (fields_of head) fault framed)) failed);
     }
 
 pub returns-then-not-continue_if_asked : goal.returns-then-not-continue_if_asked
@@ -65,10 +68,15 @@ returns-then-not-continue_if_asked g c =
       took = a.2;
       wrote = written.2;
       shows = tt;
-      is_answer = inr (head, [], a.4.1, bare_is h head c.is_bare-bare.result has c.is_bare-bare.ensures);
+      is_patient = patient_write open_yet c.is_bare-bare.result _ _ c.continue_if_asked.ensures.bounded (omega (arith, c.in-Whole.ensures.counted, c.continue_if_asked.ensures.counted));
+      is_answer = (head, a.4.1, bare_is h head c.is_bare-bare.result has c.is_bare-bare.ensures);
       is_interim = (_, (head, [], a.4.1, due_is limit h head c.in-Ok.framing _ has framed refl), c.continue_if_asked.ensures.due c.if-not-continue_if_asked.true, written.1);
-      is_unwritten = λ failed. gave_up (g.W.Sink.has_failed c.continue_if_asked.new.sink) c.continue_if_asked.new.interruptions _
-          (c.continue_if_asked.ensures.failed c.if-not-continue_if_asked.true) (omega (arith, c.in-Whole.ensures.counted, c.continue_if_asked.ensures.counted));
+      is_unwritten = λ failed. broke
+          (device (g.W.Sink.written c.args.sink.now) (g.W.Sink.has_failed c.args.sink.now) (g.W.Sink.interruptions c.args.sink.now))
+          (device (g.W.Sink.written c.continue_if_asked.new.sink) (g.W.Sink.has_failed c.continue_if_asked.new.sink) (g.W.Sink.interruptions c.continue_if_asked.new.sink))
+          _ _ (c.continue_if_asked.ensures.failed c.if-not-continue_if_asked.true) c.continue_if_asked.ensures.bounded
+          (omega (arith, c.in-Whole.ensures.counted, c.continue_if_asked.ensures.counted))
+          (λ often. omega (arith, often, still_open a.1 _ _ _ a.4.3 a.3, c.continue_if_asked.ensures.counted));
     }
 
 pub returns-in-Whole-read_body : goal.returns-in-Whole-read_body
@@ -91,7 +99,8 @@ returns-in-Whole-read_body g c =
       line = written.0;
       took = Consumes-trans _ _ _ _ _ a.2 b.2;
       wrote = written.2;
-      shows = shows_of b.1 _ _ _ b.3 (omega arith);
+      shows = shows_of b.1 _ _ _ _ b.3 (omega arith) (λ often. omega (arith, often, counted, c.in-Whole.ensures.counted, c.continue_if_asked.ensures.patient c.if-not-continue_if_asked.false));
+      is_patient = patient_of b.1 _ _ _ _ _ b.3 (omega arith);
       is_answer = record {
         head = head;
         behind = b.0;
@@ -104,7 +113,7 @@ returns-in-Whole-read_body g c =
         parts = parts_are h head m.result has m.ensures.method m.ensures.target m.ensures.fields m.ensures.bare m.ensures.close;
       };
       is_interim = (head, b.0, whole, due_is limit h head c.in-Ok.framing written.0 has framed all);
-      is_unwritten = tt;
+      is_unwritten = λ failed. absurd (cc (failed.1));
     }
 
 pub returns-in-Cut : goal.returns-in-Cut
@@ -127,7 +136,8 @@ returns-in-Cut g c =
       line = written.0;
       took = Consumes-trans _ _ _ _ _ a.2 b.2;
       wrote = written.2;
-      shows = shows_of b.1 _ _ _ b.3 (omega arith);
+      shows = shows_of b.1 _ _ _ _ b.3 (omega arith) (λ often. omega (arith, often, counted, c.in-Whole.ensures.counted, c.continue_if_asked.ensures.patient c.if-not-continue_if_asked.false));
+      is_patient = patient_of b.1 _ _ _ _ _ b.3 (omega arith);
       is_answer = (
         record {
           head = head;
@@ -141,7 +151,7 @@ returns-in-Cut g c =
         b.4.1,
       );
       is_interim = (head, b.0, whole, due_is limit h head c.in-Ok.framing written.0 has framed all);
-      is_unwritten = tt;
+      is_unwritten = λ failed. absurd (cc (failed.1));
     }
 
 pub returns-in-Fault-read_body : goal.returns-in-Fault-read_body
@@ -166,8 +176,9 @@ returns-in-Fault-read_body g c =
       line = written.0;
       took = Consumes-trans _ _ _ _ _ a.2 b.2;
       wrote = written.2;
-      shows = shows_of b.1 _ _ _ b.3 (omega arith);
+      shows = shows_of b.1 _ _ _ _ b.3 (omega arith) (λ often. omega (arith, often, counted, c.in-Whole.ensures.counted, c.continue_if_asked.ensures.patient c.if-not-continue_if_asked.false));
+      is_patient = patient_of b.1 _ _ _ _ _ b.3 (omega arith);
       is_answer = both.0;
       is_interim = both.1;
-      is_unwritten = λ failed. absurd (body_written limit c.in-Ok.framing b.0 c.in-Fault-read_body.fault b.4 failed);
+      is_unwritten = λ failed. absurd (no_write c.in-Fault-read_body.fault c.is_bare-bare.result (body_written limit c.in-Ok.framing b.0 c.in-Fault-read_body.fault b.4) failed);
     }

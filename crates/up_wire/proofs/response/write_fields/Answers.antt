@@ -13,6 +13,7 @@ loop-field-preserved g c =
     let next = writes_as _ _ (field_line c.field-item.result) (field_line (get_or c.args.fields.now c.loop-field.field-index c.field-item.result)) c.write_field.result (ap field_line c.field-item.is) c.write_field.ensures.written in
     record {
       written = each_next field_line _ _ _ c.args.fields.now c.loop-field.field-index c.field-item.result c.write_field.result c.loop-field-test.true c.loop-field.invariant.written next c.if-not-write_field.false;
+      rose = omega arith;
       counted = omega arith;
       patient = c.write_field.ensures.patient c.if-not-write_field.false;
     }

@@ -1,4 +1,4 @@
-use Rattle.std.proofs.Common.{◌≡◌, ◌+◌, ◌<◌, take, true}
+use Rattle.std.proofs.Common.{◌≤◌, ◌≡◌, ◌+◌, ◌<◌, take, true}
 use Rattle.std.specs.List.{flat_map}
 use Rattle.up_wire.specs.Limits.{max_interruptions}
 use Rattle.up_wire.specs.Steps.{WritesIf}
@@ -8,6 +8,7 @@ use Rattle.up_wire.proofs.response.write_fields.Given as goal
 abbrev pub invariant-loop-field : goal.invariant-loop-field
 invariant-loop-field g l = record {
   written : WritesIf (g.W.Sink.written l.fn.sink) (g.W.Sink.written l.sink) (flat_map field_line (take l.field-index l.fields)) true;
+  rose : l.fn.interruptions ≤ l.interruptions;
   counted : l.interruptions + g.W.Sink.interruptions l.fn.sink ≡ l.fn.interruptions + g.W.Sink.interruptions l.sink;
   patient : l.interruptions < max_interruptions;
 }

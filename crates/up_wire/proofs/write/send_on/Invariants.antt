@@ -1,4 +1,4 @@
-use Rattle.std.proofs.Common.{◌≡◌, ◌+◌, ◌-◌, ◌<◌}
+use Rattle.std.proofs.Common.{◌≤◌, ◌≡◌, ◌+◌, ◌-◌, ◌<◌}
 use Rattle.std.specs.Io.KnownBytes.{Keeps}
 use Rattle.up_wire.specs.Limits.{max_interruptions}
 use Rattle.up_wire.proofs.write.send_on.Given as goal
@@ -6,6 +6,7 @@ use Rattle.up_wire.proofs.write.send_on.Given as goal
 abbrev pub invariant-tries : goal.invariant-tries
 invariant-tries g l = record {
   kept : Keeps (g.W.Sink.written l.fn.sink) (g.W.Sink.written l.sink);
+  rose : l.fn.interruptions ≤ l.interruptions;
   counted : l.interruptions + g.W.Sink.interruptions l.fn.sink ≡ l.fn.interruptions + g.W.Sink.interruptions l.sink;
   patient : l.interruptions < max_interruptions;
 }

@@ -9,6 +9,7 @@ returns-then-not-write_all-clause-written g c =
 pub loop-piece-preserved : goal.loop-piece-preserved
 loop-piece-preserved g c = record {
   written = each_next (λ piece. piece.now) _ _ _ c.args.pieces.now c.loop-piece.piece-index _ c.write_all.result c.loop-piece-test.true c.loop-piece.invariant.written c.write_all.ensures.written c.if-not-write_all.false;
+  rose = omega arith;
   counted = omega arith;
   patient = c.write_all.ensures.patient c.if-not-write_all.false;
 }

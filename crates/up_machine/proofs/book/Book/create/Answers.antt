@@ -1,11 +1,11 @@
-use Rattle.std.proofs.Common.{◌≡◌, ◌≤◌, ◌^◌, true, false, cond, ◌++◌, ◌∷◌, [], length, refl, sym, ap, ◌∙◌, subst}
+use Rattle.std.proofs.Common.{◌≡◌, ◌≤◌, ◌^◌, true, false, ◌&&◌, is_none, unwrap_or, cond, ◌++◌, ◌∷◌, [], length, refl, sym, ap, ◌∙◌, subst}
 use Rattle.up_events.specs.declared.event.Accepted.TheVariants.{Created}
-use Rattle.up_events.specs.History.{is_final_kind, is_known}
+use Rattle.up_events.specs.History.{is_final_kind, is_known, most_of}
 use Rattle.up_machine.specs.Content.{Content, IsWithinLength, made_of}
 use Rattle.up_machine.specs.State.{Contents, State, first_bytes, joined}
 use Rattle.up_machine.specs.Fits.{Fits}
 use Rattle.up_machine.proofs.FitsLemmas.{fits_created, sound_after}
-use Rattle.up_machine.proofs.DecisionLemmas.{create_passed, made_bytes, made_small, made_within, refused_by}
+use Rattle.up_machine.proofs.DecisionLemmas.{create_passed, made_bytes, made_sized, made_small, made_within, refused_by}
 use Rattle.up_machine.proofs.book.Book.create.Goals as goal
 
 pub new-upload-requires : goal.new-upload-requires
@@ -21,12 +21,13 @@ invariant_of-self-2 c =
     let passed = create_passed c.args.self.now new c.args.id c.args.asked.now c.in_ok-check_new.field-0 tt c.in_ok-check_new.ensures in
     let known : is_known a.journal.accepted c.args.id ≡ false = ap (λ (t : State). is_known t.journal.accepted c.args.id) c.self.view_is ∙ passed.0 in
     let sum = subst (λ (t : State). is_final_kind new.kind ≡ true → length (joined t.content new.parts) ≤ t.max_size) (sym c.self.view_is) passed.1 in
-    let small : x.length ≤ 2 ^ 30 = subst (λ (y : Content). y.length ≤ 2 ^ 30) (sym made) (made_small a.uploads a.max_size new c.requires.bounded c.self.invariant.small sum) in
-    let bytes : length x.bytes ≡ cond (is_final_kind x.kind) x.length 0 = subst (λ (y : Content). length y.bytes ≡ cond (is_final_kind y.kind) y.length 0) (sym made) (made_bytes a.uploads new) in
+    let small : most_of x.length ≤ 2 ^ 30 = subst (λ (y : Content). most_of y.length ≤ 2 ^ 30) (sym made) (made_small a.uploads a.max_size new c.requires.bounded c.self.invariant.small sum) in
+    let sized : (is_final_kind x.kind && is_none x.length) ≡ false = subst (λ (y : Content). (is_final_kind y.kind && is_none y.length) ≡ false) (sym made) (made_sized a.uploads new) in
+    let bytes : length x.bytes ≡ cond (is_final_kind x.kind) (unwrap_or x.length 0) 0 = subst (λ (y : Content). length y.bytes ≡ cond (is_final_kind y.kind) (unwrap_or y.length 0) 0) (sym made) (made_bytes a.uploads new) in
     let fits = fits_created a.uploads a.journal.accepted c.args.id x c.self.invariant.legal c.self.invariant.fits known bytes in
     let is : Created c.args.id c.length-length.result c.kind-kind.result ≡ Created c.args.id x.length x.kind = rw (c.length-length.ensures, c.kind-kind.ensures) refl in
     let noted = c.in_ok-create.ensures.noted in
-    sound_after s (Created c.args.id x.length x.kind) c.create.new.self c.create.new.journal c.self.invariant (known, small) (rw is at noted)
+    sound_after s (Created c.args.id x.length x.kind) c.create.new.self c.create.new.journal c.self.invariant (known, small, sized) (rw is at noted)
     (subst (λ (m : Contents). Fits m (a.journal.accepted ++ Created c.args.id x.length x.kind ∷ [])) (sym c.in_ok-create.ensures.ok) fits)
 
 pub returns-in_err-check_new-clause-answer : goal.returns-in_err-check_new-clause-answer

@@ -1,0 +1,39 @@
+-- What it means that a request makes an upload complete: its change tells of a post-finish.
+use Rattle.std.specs.Prelude.{◌≡◌, ℕ, Bool, true, false, List, Option, Some, None, Ok}
+use Rattle.std.specs.List.{list_any}
+use Rattle.up_events.specs.History.{Step, steps_of}
+use Rattle.up_events.specs.Log.{is_finish}
+use Rattle.up_events.specs.declared.event.Accepted.{Accepted}
+use Rattle.up_headers.specs.declared.request.Request.{Request}
+use Rattle.up_machine.specs.Decision.{completes, decide}
+use Rattle.up_machine.specs.Fits.{IsSoundBook}
+use Rattle.up_machine.specs.State.{State}
+use Rattle.up_machine.specs.declared.plan.Asked.{Asked}
+use Rattle.up_machine.specs.declared.plan.Asked.TheVariants.{AllowedFinish}
+use Rattle.up_machine.specs.declared.plan.Done.{Done}
+
+-- whether there is a post-finish among these events
+abbrev pub has_finish : List Step → Bool
+has_finish steps = list_any (λ step. is_finish step.0) steps
+
+-- whether a change that comes after these tells of a post-finish
+abbrev pub tells_finish : List Accepted → Option Accepted → Bool
+tells_finish before None = false
+tells_finish before (Some change) = has_finish (steps_of before change)
+
+-- a request that is carried out tells of a post-finish just where it makes an upload complete
+abbrev pub CompletingTellsFinish : Type 0
+CompletingTellsFinish =
+    (s : State) (request : Request) (id : ℕ) (asked : Asked) (done : Done)
+    → IsSoundBook s
+    → decide s request id asked ≡ Ok done
+    → tells_finish s.journal.accepted done.change ≡ completes s request
+
+-- and then the closures were asked whether it may be complete, and none refused
+abbrev pub FinishIsAllowed : Type 0
+FinishIsAllowed =
+    (s : State) (request : Request) (id : ℕ) (asked : Asked) (done : Done)
+    → IsSoundBook s
+    → decide s request id asked ≡ Ok done
+    → tells_finish s.journal.accepted done.change ≡ true
+    → asked ≡ AllowedFinish

@@ -1,0 +1,21 @@
+use Rattle.std.proofs.Common.{◌≡◌, ◌∙◌, None, refl, sym, subst}
+use Rattle.up_wire.specs.Device.{device}
+use Rattle.up_wire.specs.declared.message.Taken.TheVariants as Taken
+use Rattle.up_server.specs.Turn.{IsFaultSent, unanswered}
+use Rattle.up_server.proofs.conversation.take_turn.Goals as goal
+
+pub returns-in-None-clause-turn : goal.returns-in-None-clause-turn
+returns-in-None-clause-turn g c =
+    let sink = device (g.W.Sink.written c.read_message.new.sink) (g.W.Sink.has_failed c.read_message.new.sink) (g.W.Sink.interruptions c.read_message.new.sink) in
+    let after = device (g.W.Sink.written c.send.new.sink) (g.W.Sink.has_failed c.send.new.sink) (g.W.Sink.interruptions c.send.new.sink) in
+    let none : unanswered c.in-Fault.fault ≡ None = sym c.unanswered.ensures ∙ c.in-None.is in
+    record {
+      taken = Taken.Fault c.in-Fault.fault c.in-Fault.bare;
+      sink = sink;
+      is_reading = c.in-Fault.ensures;
+      is_served = (
+        refl,
+        subst (λ how. IsFaultSent how c.in-Fault.fault c.in-Fault.bare sink after c.send.result) (sym none)
+            (c.reply_to_wire_fault-response.result, c.reply_to_wire_fault-response.ensures, c.send.ensures),
+      );
+    }

@@ -1,0 +1,89 @@
+//! One line of a source.
+ghost use Rattle.std.specs.Prelude.{◌≡◌, ◌+◌, ◌<◌, ◌≤◌, ◌++◌, Bool, List, ℕ, vec_len, vec_capacity, length, max, true};
+ghost use Rattle.std.specs.Io.KnownBytes.{Consumes};
+ghost use Rattle.up_wire.specs.Message.{Ending};
+ghost use Rattle.up_wire.specs.Limits.{max_interruptions};
+ghost use Rattle.up_wire.specs.Steps.{EndsSo, EndsInFeed, is_line_end, IsLineTaken};
+
+use crate::device::{Run, Source};
+use crate::room::make_room;
+use crate::step::MAX_INTERRUPTIONS;
+
+/// What came of a line.
+#[derive(Clone, Copy)]
+pub(crate) enum Line {
+    /// All of it.
+    Whole,
+    /// So many bytes that the text is full, and no line feed.
+    Full,
+    Ended,
+    Failed,
+    NoMemory,
+}
+
+/// How much room a line has at first.
+const FIRST_ROOM: usize = 512;
+
+/// Whether the bytes end in a line feed.
+fn ends_in_feed(text: &[u8]) -> bool
+    ensures { EndsInFeed text.now result }
+{
+    match text {
+        [.., last] => *last == b'\n',
+        [] => false,
+    }
+}
+
+/// Whether the line is a line end alone: CRLF, or a line feed.
+pub(crate) fn is_line_end(line: &[u8]) -> bool
+    ensures { result ≡ is_line_end line.now }
+{
+    match line {
+        [b'\n'] => true,
+        [b'\r', b'\n'] => true,
+        _ => false,
+    }
+}
+
+/// Moves the rest of a line to the end of `text`, its line feed too. The text may come to have `most` bytes.
+pub(crate) fn take_line<R: Source>(
+    source: &mut R,
+    interruptions: &mut u32,
+    text: &mut Vec<u8>,
+    most: usize,
+) -> Line
+    requires patient { interruptions.old < max_interruptions }
+    requires within { vec_len text.old ≤ most }
+    ensures answer { (line : List ℕ) × (ending : Ending)
+        × Consumes (R.left source.old) (R.left source.new) line
+        × EndsSo ending (R.left source.new) (R.has_failed source.new) interruptions.new
+        × (text.new.items ≡ text.old.items ++ line)
+        × IsLineTaken most text.new.items line ending result }
+    ensures rose { interruptions.old ≤ interruptions.new }
+    ensures counted { interruptions.new + R.interruptions source.old
+        ≡ interruptions.old + R.interruptions source.new }
+    ensures within { vec_len text.new ≤ most }
+{
+    'runs: while text.len() < most {
+        if !make_room(text, most as u64, FIRST_ROOM) {
+            return Line::NoMemory;
+        }
+        let room = (text.capacity() - text.len()).min(most - text.len());
+        match source.take_in_line(text, room) {
+            Run::Moved(_) => {
+                if ends_in_feed(text) {
+                    return Line::Whole;
+                }
+            }
+            Run::End => return Line::Ended,
+            Run::Failed => return Line::Failed,
+            Run::Interrupted => {
+                *interruptions += 1;
+                if *interruptions == MAX_INTERRUPTIONS {
+                    return Line::Failed;
+                }
+            }
+        }
+    }
+    Line::Full
+}
