@@ -20,7 +20,7 @@ use Rattle.up_events.specs.Lists.{gather, EachFollows, first_given}
 use Rattle.up_events.specs.History.{id_of, kind_of, length_of, is_final, offset_of, is_known, is_terminated, CanFollow, IsLegal, Step, steps_at, steps_of, events_of}
 use Rattle.up_events.specs.Log.{numbered, log_of}
 use Rattle.up_events.specs.Records.{ArePlaces, AreEmpty}
-use Rattle.up_events.specs.Reached.{reached, bytes_of}
+use Rattle.up_events.specs.Reached.{reached, bytes_added}
 use Rattle.up_events.specs.Kept.{IsKept, track_of}
 use Rattle.up_events.proofs.HistoryLemmas.{append_nil, EachFollows-snoc, log_of-snoc, kind_of-other, length_of-other, offset_of-other, events_of-other}
 use Rattle.up_events.proofs.Sound.{IsSound, sound, alive_known, kind_of-created, kind_of-appended, kind_of-declared, kind_of-terminated, offset_of-plain, track_of-unknown, steps_of-reached, track_of-reached}
@@ -44,7 +44,7 @@ few_events changes u s =
       | false ↦ λ e. omega (arith, s.few, offset_of-plain changes u e, s.within, s.small)
     ] refl
 
-pub bytes_fit : (changes : List Accepted) (c : Accepted) → IsSound changes (id_of c) → CanFollow changes c → offset_of changes (id_of c) + bytes_of c < 2 ^ 64
+pub bytes_fit : (changes : List Accepted) (c : Accepted) → IsSound changes (id_of c) → CanFollow changes c → offset_of changes (id_of c) + bytes_added c < 2 ^ 64
 bytes_fit changes (Created u n kind) s can = omega (arith, s.within, s.small)
 bytes_fit changes (Appended u n) s can = omega (arith, can.2, s.small)
 bytes_fit changes (Declared u n k) s can = omega (arith, can.2, can.3)
@@ -206,9 +206,6 @@ get-push P [] new old here zero x e = subst P (let h : new ≡ x = cc in h) here
 get-push P [] new old here (suc k) x e = absurd (cc)
 get-push P (y ∷ ys) new old here zero x e = old zero x e
 get-push P (y ∷ ys) new old here (suc k) x e = get-push P ys new (λ k x e. old (suc k) x e) here k x e
-
-pub AreEmpty-push : (n : ℕ) (logs : List (Vec Event Global)) (new : Vec Event Global) → AreEmpty n logs → new.items ≡ [] → AreEmpty (n + 1) (logs ++ new ∷ [])
-AreEmpty-push n logs new are none = record { rows = length-append logs (new ∷ []) ∙ omega (arith, are.rows); empty = get-push (λ v. v.items ≡ []) logs new are.empty none }
 
 pub kept_new : (lanes : ℕ) (accepted : Vec Accepted Global) (logs : Vec (Vec Event Global) Global) (tracks : BTreeMap ℕ Track) → 0 < lanes → lanes ≤ 16 → accepted.items ≡ [] → AreEmpty lanes logs.items → tracks.entries ≡ [] → IsKept (record { lanes = lanes; accepted = accepted; logs = logs; tracks = tracks })
 unfolding log_of gather kind_of first_given EachFollows

@@ -6,3 +6,4 @@ pub mod LawLemmas
 pub mod DeliveryLemmas
 pub mod Sound
 pub mod ExampleLemmas
+pub mod FrontLemmas

@@ -79,10 +79,6 @@ own_is lanes u changes = from_back (OwnIs lanes u) (own_more lanes u) [] changes
 pub log_steps : (lanes u : ℕ) (changes : List Accepted) → map step_of (filter (is_of u) (log_of lanes changes (u % lanes))) ≡ events_of changes u
 log_steps lanes u changes = ap (map step_of) (own_is lanes u changes) ∙ steps-numbered u 0 (events_of changes u)
 
--- they are numbered 1, 2, 3 and so on
-pub log_numbers : (lanes u : ℕ) (changes : List Accepted) → CountsFrom 0 (filter (is_of u) (log_of lanes changes (u % lanes)))
-log_numbers lanes u changes = subst (CountsFrom 0) (sym (own_is lanes u changes)) (counts-numbered u 0 (events_of changes u))
-
 -- ---- an upload has no event in another lane's log
 
 away_more : (lanes u k : ℕ) → eqb (u % lanes) k ≡ false → (before : List Accepted) (c : Accepted) → filter (is_of u) (log_of lanes before k) ≡ [] → filter (is_of u) (log_of lanes (before ++ c ∷ []) k) ≡ []

@@ -2,6 +2,7 @@
 use Rattle.std.specs.Prelude.{◌≡◌, ℕ, ◌+◌, ◌≤◌, ◌^◌, Bool, true, false, ◌&&◌, not, Option, Some, None, is_some, is_none, unwrap_or, List, [], ◌∷◌, ◌++◌, sum_by, if◌then◌else◌, ◌==◌}
 use Rattle.std.specs.List.{list_any}
 use Rattle.up_events.specs.Lists.{gather, EachFollows, first_given}
+use Rattle.up_events.specs.declared.limits.TheConstants.{MOST_BYTES}
 use Rattle.up_events.specs.declared.event.Accepted.{Accepted}
 use Rattle.up_events.specs.declared.event.Accepted.TheVariants.{Created, Appended, Declared, Terminated}
 use Rattle.up_events.specs.declared.event.Hook.{Hook}
@@ -85,7 +86,7 @@ is_alive changes u = is_known changes u && not (is_terminated changes u)
 
 -- the most bytes that an upload of this length may have: 2^30 while it isn't known
 abbrev pub most_of : Option ℕ → ℕ
-most_of length = unwrap_or length (2 ^ 30)
+most_of length = unwrap_or length MOST_BYTES
 
 -- an upload that is there, and isn't final
 abbrev pub IsOpen : List Accepted → ℕ → Type 0
@@ -96,9 +97,9 @@ IsOpen before u = (is_alive before u ≡ true) × (is_final (kind_of before u) �
 -- final, up to its length; the length of such an upload while it isn't known, of at most 2^30 bytes,
 -- with bytes up to it, perhaps none; or the end of an upload that is there
 abbrev pub CanFollow : List Accepted → Accepted → Type 0
-CanFollow before (Created id length kind) = (is_known before id ≡ false) × (most_of length ≤ 2 ^ 30) × ((is_final_kind kind && is_none length) ≡ false)
+CanFollow before (Created id length kind) = (is_known before id ≡ false) × (most_of length ≤ MOST_BYTES) × ((is_final_kind kind && is_none length) ≡ false)
 CanFollow before (Appended id count) = IsOpen before id × (1 ≤ count) × (offset_of before id + count ≤ most_of (length_of before id))
-CanFollow before (Declared id length count) = IsOpen before id × (length_of before id ≡ None) × (offset_of before id + count ≤ length) × (length ≤ 2 ^ 30)
+CanFollow before (Declared id length count) = IsOpen before id × (length_of before id ≡ None) × (offset_of before id + count ≤ length) × (length ≤ MOST_BYTES)
 CanFollow before (Terminated id) = is_alive before id ≡ true
 
 -- each change could follow those before it

@@ -5,6 +5,7 @@ use Rattle.std.specs.BTreeMap.{get}
 use Rattle.std.specs.declared.alloc.Global.{Global}
 use Rattle.up_events.specs.History.{is_known, offset_of, length_of, events_of, IsLegal}
 use Rattle.up_events.specs.Log.{log_of}
+use Rattle.up_events.specs.declared.limits.TheConstants.{MOST_LANES}
 use Rattle.up_events.specs.declared.event.Event.{Event}
 use Rattle.up_events.specs.declared.event.Accepted.{Accepted}
 use Rattle.up_events.specs.declared.track.Track.{Track}
@@ -18,7 +19,7 @@ track_of changes u = record { events = length (events_of changes u); offset = of
 -- changes define
 pub record IsKept (a : Inside) : Type 0 where
   pub some_lane : 0 < a.lanes
-  pub few_lanes : a.lanes ≤ 16
+  pub few_lanes : a.lanes ≤ MOST_LANES
   pub legal : IsLegal a.accepted.items
   pub rows : length a.logs.items ≡ a.lanes
   pub logs : (k : ℕ) (log : Vec Event Global) → slice_get a.logs.items k ≡ Some log → log.items ≡ log_of a.lanes a.accepted.items k

@@ -12,10 +12,14 @@ abbrev pub numbered : ℕ → ℕ → List Step → List Event
 numbered u n [] = []
 numbered u n (s ∷ steps) = record { id = u; number = n + 1; hook = s.0; offset = s.1; length = s.2 } ∷ numbered u (n + 1) steps
 
--- for each change of an upload of the lane its events, each with the place that it has among that upload's
+-- what a change adds to the log of a lane: the events of an upload of that lane, each with the place that it has among that upload's
+abbrev pub added_to : ℕ → ℕ → List Accepted → Accepted → List Event
+added_to lanes k before c =
+    if id_of c % lanes == k then numbered (id_of c) (length (events_of before (id_of c))) (steps_of before c) else []
+
+-- the log of a lane: what each change adds to it, in order
 unfoldable pub log_of : ℕ → List Accepted → ℕ → List Event
-log_of lanes changes k =
-    gather (λ before c. if id_of c % lanes == k then numbered (id_of c) (length (events_of before (id_of c))) (steps_of before c) else []) [] changes
+log_of lanes changes k = gather (added_to lanes k) [] changes
 
 -- an event without id and number
 abbrev pub step_of : Event → Step
@@ -56,3 +60,11 @@ LogsAreLawful = (lanes k : ℕ) (changes : List Accepted) → IsLegal changes �
 -- the events of an upload in the log of its lane, without ids and numbers, are that upload's events
 abbrev pub LogsTellEvents : Type 0
 LogsTellEvents = (lanes u : ℕ) (changes : List Accepted) → IsLegal changes → map step_of (filter (is_of u) (log_of lanes changes (u % lanes))) ≡ events_of changes u
+
+-- one more change adds to the log of its lane at the end, and nothing to another
+abbrev pub LogsGrowAtTheirEnd : Type 0
+LogsGrowAtTheirEnd = (lanes k : ℕ) (changes : List Accepted) (c : Accepted) → log_of lanes (changes ++ c ∷ []) k ≡ log_of lanes changes k ++ added_to lanes k changes c
+
+-- the front of a lawful list is lawful
+abbrev pub FrontsAreLawful : Type 0
+FrontsAreLawful = (front back : List Event) → IsLawful (front ++ back) → IsLawful front

@@ -15,11 +15,11 @@ reached t (Declared id length count) = record { events = t.events; offset = t.of
 reached t (Terminated id) = t
 
 -- the bytes that the change adds
-abbrev pub bytes_of : Accepted → ℕ
-bytes_of (Created id length kind) = 0
-bytes_of (Appended id count) = count
-bytes_of (Declared id length count) = count
-bytes_of (Terminated id) = 0
+abbrev pub bytes_added : Accepted → ℕ
+bytes_added (Created id length kind) = 0
+bytes_added (Appended id count) = count
+bytes_added (Declared id length count) = count
+bytes_added (Terminated id) = 0
 
 -- the hook of the event that tells of the change itself: none where only a length was declared
 abbrev pub hook_of : Accepted → Option Hook

@@ -1,4 +1,4 @@
-// What a request changed, and what is told of it.
+//! What a request changed, and what is told of it.
 ghost use Rattle.std.specs.Prelude.{◌≡◌, codes};
 
 use crate::id::Id;

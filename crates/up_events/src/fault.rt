@@ -1,4 +1,4 @@
-// Want of memory.
+//! Want of memory.
 ghost use Rattle.std.specs.Prelude.{Some, codes};
 
 use std::alloc::{AllocError, AllocFailed};

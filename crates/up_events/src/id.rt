@@ -1,4 +1,4 @@
-// The id of an upload: a number, and a text of 32 digits.
+//! The id of an upload: a number, and a text of 32 digits.
 ghost use Rattle.std.specs.Prelude.{◌≡◌, ◌≢◌, ◌%◌, ◌<◌, ℕ, Some};
 ghost use Rattle.std.specs.Option.{IfSome, IfNone};
 ghost use Rattle.up_events.specs.IdText.{text_of, hex_digit};

@@ -1,10 +1,11 @@
-// The journal: the accepted changes, and a log of events for each lane.
+//! The journal: the accepted changes, and a log of events for each lane.
 ghost use Rattle.std.specs.Prelude.{◌≡◌, ◌<◌, ◌≤◌, OnOk, OnErr, IfOk, []};
 ghost use Rattle.up_events.specs.Records.{AreEmpty};
 
 use crate::event::{Accepted, Event};
 use crate::fault::NoMemory;
 use crate::id::Id;
+use crate::limits::MOST_LANES;
 use crate::track::{Track, write};
 use std::alloc::Global;
 use std::collections::BTreeMap;
@@ -17,7 +18,8 @@ pub struct Added {
     pub lane: u64,
     /// How many events the log had before.
     pub first: u64,
-    /// How many events the change gave.
+    /// How many events the change gave: none where a length was declared without bytes, and is still to
+    /// be reached.
     pub count: u64,
 }
 
@@ -25,8 +27,9 @@ pub struct Added {
 ///
 /// A creation gives post-create, at offset 0 or, where the upload is a final one, at its length. An
 /// append gives post-receive at the offset that it reaches, and so does the declaration of a length
-/// where bytes come with it. Where the offset is the length, post-finish follows. A termination gives post-terminate. Each upload numbers its own events 1, 2,
-/// 3 and so on, and they all go to the lane of its id, whose log has them in the order of the changes.
+/// where bytes come with it. Where the offset is the length, post-finish follows. A termination gives
+/// post-terminate. Each upload numbers its own events 1, 2, 3 and so on, and they all go to the lane of
+/// its id, whose log has them in the order of the changes.
 #[derive(Debug, Drop)]
 pub struct Journal {
     lanes: u64,
@@ -61,10 +64,10 @@ impl Journal {
     ghost use Rattle.up_events.specs.Records.{lane_log, noted, ArePlaces};
     ghost use Rattle.up_events.specs.History.{is_known, CanFollow, IsLegal};
 
-    /// A journal of no change, for 1 to 16 lanes. `NoMemory` where memory for the logs was refused.
+    /// A journal of no change, for 1 to `MOST_LANES` lanes. `NoMemory` where memory for the logs was refused.
     pub fn new(alloc: Global, lanes: u64) -> Result<Journal, NoMemory>
         requires some_lane { 0 < lanes }
-        requires few_lanes { lanes ≤ 16 }
+        requires few_lanes { lanes ≤ MOST_LANES }
         ensures { IfOk result (λ journal. journal ≡ record { lanes = lanes; accepted = [] }) }
     {
         Ok(Journal {
@@ -79,6 +82,7 @@ impl Journal {
     pub fn accepted(&self) -> &[Accepted]
         ensures value { result.now ≡ self.now.accepted }
         ensures legal { IsLegal self.now.accepted }
+        ensures some_lane { 0 < self.now.lanes }
     {
         self.accepted.as_slice()
     }

@@ -1,5 +1,5 @@
-// What the definitions promise of each other.
-ghost use Rattle.up_events.specs.Log.{LogsAreLawful, LogsTellEvents};
+//! What the definitions promise of each other.
+ghost use Rattle.up_events.specs.Log.{FrontsAreLawful, LogsAreLawful, LogsGrowAtTheirEnd, LogsTellEvents};
 ghost use Rattle.up_events.specs.Delivery.{NumberedIsDelivered};
 
 /// For every legal list of changes the log of a lane is lawful: each upload's events are numbered
@@ -15,4 +15,15 @@ pub fn logs_are_lawful()
 /// in order.
 pub fn numbered_events_are_delivered()
     ensures { NumberedIsDelivered }
+{}
+
+/// One more change puts its events behind the log of the lane of its upload, and leaves every other log
+/// as it was.
+pub fn logs_grow_at_their_end()
+    ensures { LogsGrowAtTheirEnd }
+{}
+
+/// What stands at the front of a lawful list of events is lawful.
+pub fn fronts_are_lawful()
+    ensures { FrontsAreLawful }
 {}

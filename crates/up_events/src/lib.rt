@@ -7,6 +7,7 @@ mod fault;
 mod id;
 mod journal;
 mod law;
+mod limits;
 #[cfg(test)]
 mod tests;
 mod track;
@@ -15,4 +16,7 @@ pub use event::{Accepted, Event, Hook, Kind};
 pub use fault::NoMemory;
 pub use id::Id;
 pub use journal::{Added, Journal};
-pub use law::{logs_are_lawful, numbered_events_are_delivered};
+pub use law::{
+    fronts_are_lawful, logs_are_lawful, logs_grow_at_their_end, numbered_events_are_delivered,
+};
+pub use limits::{MOST_BYTES, MOST_LANES};

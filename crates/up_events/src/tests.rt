@@ -1,4 +1,4 @@
-// Values written by hand from the rules, and the journal beside a plain reading of the definitions.
+//! Values written by hand from the rules, and the journal beside a plain reading of the definitions.
 ghost use Rattle.std.specs.Prelude.{◌≡◌, ◌<◌, ◌≤◌, Some, None};
 ghost use Rattle.up_events.specs.Lists.{EachFollows};
 ghost use Rattle.up_events.specs.History.{CanFollow, IsLegal};

@@ -1,10 +1,10 @@
-// How far an upload has come, and the step that writes a change down.
-ghost use Rattle.std.specs.Prelude.{◌≡◌, ◌<◌, ◌≤◌, OnOk, OnErr, IfOk, ◌+◌, ◌^◌, ◌++◌, ◌∷◌, [], Some, length, vec_len, vec_capacity};
+//! How far an upload has come, and the step that writes a change down.
+ghost use Rattle.std.specs.Prelude.{◌≡◌, ◌<◌, ◌≤◌, OnOk, OnErr, IfOk, ◌+◌, ◌^◌, ◌++◌, ◌∷◌, [], Some, length};
 ghost use Rattle.std.specs.Ordering.{nat_cmp};
 ghost use Rattle.std.specs.BTreeMap.{Updates, IsUnchanged};
 ghost use Rattle.up_events.specs.History.{id_of, steps_at};
 ghost use Rattle.up_events.specs.Log.{numbered};
-ghost use Rattle.up_events.specs.Reached.{reached, hook_of, bytes_of, completes};
+ghost use Rattle.up_events.specs.Reached.{reached, hook_of, bytes_added, completes};
 
 use crate::event::{Accepted, Event, Hook, Kind};
 use crate::fault::NoMemory;
@@ -32,7 +32,7 @@ impl Track {
 
     /// With the offset and the length that the change gives. The events are those before it.
     pub fn reached(self, change: &Accepted) -> Track
-        requires { self.offset + bytes_of change.now < 2 ^ 64 }
+        requires { self.offset + bytes_added change.now < 2 ^ 64 }
         ensures { result ≡ reached self change.now }
     {
         match *change {
@@ -84,16 +84,6 @@ fn is_completing(change: &Accepted, track: Track) -> bool
     }
 }
 
-/// Pushes into room that is there.
-fn push_within<T>(values: &mut Vec<T>, value: T)
-    requires { vec_len values.old < vec_capacity values.old }
-    ensures items { values.new.items ≡ values.old.items ++ value ∷ [] }
-    ensures len { vec_len values.new ≡ vec_len values.old + 1 }
-    ensures room { vec_capacity values.old ≤ vec_capacity values.new }
-{
-    values.push(value).unwrap()
-}
-
 /// Writes a change into the list, its events into the log of its lane, and into the table how far
 /// its upload has come. `track` has the offset and the length with the change, and the events
 /// before it. Gives the number of its events. `NoMemory` where memory was refused; the list, the
@@ -134,30 +124,24 @@ pub fn write(
         },
     )?;
     // From here on nothing grows.
-    push_within(accepted, change);
+    accepted.push_reserved(change);
     if let Some(hook) = own {
-        push_within(
-            log,
-            Event {
-                id,
-                number: events + 1,
-                hook,
-                offset,
-                length,
-            },
-        );
+        log.push_reserved(Event {
+            id,
+            number: events + 1,
+            hook,
+            offset,
+            length,
+        });
     }
     if completing {
-        push_within(
-            log,
-            Event {
-                id,
-                number: events + count,
-                hook: Hook::Finish,
-                offset,
-                length,
-            },
-        );
+        log.push_reserved(Event {
+            id,
+            number: events + count,
+            hook: Hook::Finish,
+            offset,
+            length,
+        });
     }
     Ok(count)
 }

@@ -4,6 +4,7 @@ use Rattle.std.specs.Fn.{FnReturnsAt}
 use Rattle.std.specs.Borrow.{Bor}
 use denote.Param.Members.{Mut}
 use Rattle.up_machine.specs.declared.ask.Ask.{Ask}
+use Rattle.up_machine.specs.declared.ask.Point.{Point}
 use Rattle.up_machine.specs.declared.ask.Point.TheVariants.{Finish}
 use Rattle.up_machine.specs.declared.ask.Verdict.{Verdict}
 use Rattle.up_machine.specs.declared.ask.Verdict.TheVariants.{Allow, Refuse}
@@ -13,13 +14,25 @@ use Rattle.up_hooks.specs.declared.pre_hook.PreHook.{PreHook}
 use Rattle.up_hooks.specs.declared.pre_hooks.PreHooks.{PreHooks}
 
 module _ {X : Type 0} {F : X → Type 0} {g : Mut ((i : X) × F i) (Bor Ask × Unit {0}) Verdict} where
+  -- the point at which the closure is asked
+  abbrev pub point_of : PreHook X F g → Point
+  point_of hook = hook.point
+
+  -- the closure itself
+  abbrev pub judge_of : PreHook X F g → (i : X) × F i
+  judge_of hook = (hook.judge.vtable, hook.judge.value)
+
+  -- the closures, in the order in which they are asked
+  abbrev pub listed : PreHooks X F g → List (PreHook X F g)
+  listed hooks = hooks.hooks.items
+
   -- the closure may answer so
   abbrev pub Answers : PreHook X F g → Ask → Verdict → Type 0
-  Answers hook ask verdict = FnReturnsAt g (hook.judge.vtable, hook.judge.value) ask verdict
+  Answers hook ask verdict = FnReturnsAt g (judge_of hook) ask verdict
 
   -- the closure is for another point, or it allows
   abbrev pub LetsPass : Ask → PreHook X F g → Type 0
-  LetsPass ask hook = hook.point ≡ ask.point → Answers hook ask Allow
+  LetsPass ask hook = point_of hook ≡ ask.point → Answers hook ask Allow
 
   -- each closure of the point allows, which is said in its own word at pre-finish, or the first of them that doesn't has answered so;
   -- nobody was skipped
@@ -31,8 +44,8 @@ module _ {X : Type 0} {F : X → Type 0} {g : Mut ((i : X) × F i) (Bor Ask × U
       (before : List (PreHook X F g)) × (hook : PreHook X F g) × (after : List (PreHook X F g))
       × (hooks ≡ before ++ hook ∷ after)
       × All (LetsPass ask) before
-      × (hook.point ≡ ask.point)
+      × (point_of hook ≡ ask.point)
       × Answers hook ask (Refuse status reason)
 
   abbrev pub ClosuresGive : PreHooks X F g → Ask → Asked → Type 0
-  ClosuresGive hooks ask asked = HooksGive hooks.hooks.items ask asked
+  ClosuresGive hooks ask asked = HooksGive (listed hooks) ask asked

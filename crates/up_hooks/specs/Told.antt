@@ -16,6 +16,10 @@ events_told pairs = map (λ pair. pair.0) pairs
 abbrev pub told_by : {F : Type 0} → Recorder F → List (Event × Outcome)
 told_by recorder = recorder.pairs.items
 
+-- the closure of a recorder
+abbrev pub closure_of : {F : Type 0} → Recorder F → F
+closure_of recorder = recorder.answer
+
 -- a code of a failure is 1 to 99
 abbrev pub has_code : Outcome → Bool
 has_code Done = true

@@ -27,7 +27,7 @@ pub trait PostHook: Send {
     /// Whether room is made for one more.
     ghost has_room: { Self → Bool };
 
-    /// What it may answer to an event.
+    /// What it may answer to an event. It stays the one that it was: no call makes it answer what it couldn't before.
     ghost may_answer: { Self → Event → Outcome → Type 0 };
 
     /// Makes room for one more event, before that event is taken from its queue: so want of memory loses none. `NoMemory` where a
@@ -36,6 +36,7 @@ pub trait PostHook: Send {
         requires { is_sound self.old }
         ensures sound { is_sound self.new }
         ensures same { handed self.new ≡ handed self.old }
+        ensures alike { (event : Event) (outcome : Outcome) → may_answer self.new event outcome → may_answer self.old event outcome }
         ensures room { OnOk result (has_room self.new ≡ true) };
 
     /// Hands over an event, for which `ready` has made room. Takes no memory.
@@ -44,5 +45,6 @@ pub trait PostHook: Send {
         requires room { has_room self.old ≡ true }
         ensures sound { is_sound self.new }
         ensures added { handed self.new ≡ handed self.old ++ event.now ∷ [] }
+        ensures alike { (event : Event) (outcome : Outcome) → may_answer self.new event outcome → may_answer self.old event outcome }
         ensures answer { may_answer self.old event.now result };
 }

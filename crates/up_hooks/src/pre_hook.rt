@@ -30,22 +30,22 @@ fn call(judge: &Judge, ask: &Ask) -> Verdict
 }
 
 impl PreHook {
-    ghost use Rattle.up_hooks.specs.Gives.{Answers};
+    ghost use Rattle.up_hooks.specs.Gives.{Answers, judge_of, point_of};
 
     /// The closure, which is to be asked at this point and at no other. It must keep what `Judge` says; a clause at the closure
     /// shows that: `ensures { IsTrue (is_lawful result) }`. Takes no memory.
     pub fn new(point: Point, judge: Judge) -> Self
         requires callable { Judge.IsAlwaysCallable judge }
         requires lawful { (ask : _) (verdict : _) → Judge.post judge ask verdict → IsTrue (is_lawful verdict) }
-        ensures point { result.point ≡ point }
-        ensures judge { result.judge ≡ judge }
+        ensures point { point_of result ≡ point }
+        ensures judge { judge_of result ≡ (judge.vtable, judge.value) }
     {
         PreHook { point, judge }
     }
 
     /// Whether the closure is asked at this point.
     pub(crate) fn is_of(&self, point: Point) -> bool
-        ensures { IsTrue result ↔ (self.now.point ≡ point) }
+        ensures { IsTrue result ↔ (point_of self.now ≡ point) }
     {
         self.point == point
     }

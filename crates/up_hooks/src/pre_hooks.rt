@@ -32,11 +32,11 @@ fn ask_each(hooks: &[PreHook], ask: &Ask) -> Asked
 
 impl PreHooks {
     ghost use Rattle.std.specs.Prelude.{◌≡◌};
-    ghost use Rattle.up_hooks.specs.Gives.{ClosuresGive};
+    ghost use Rattle.up_hooks.specs.Gives.{ClosuresGive, listed};
 
     /// These closures. Takes no memory.
     pub fn new(hooks: Vec<PreHook>) -> Self
-        ensures { result.hooks ≡ hooks }
+        ensures { listed result ≡ hooks.items }
     {
         PreHooks { hooks }
     }

@@ -16,7 +16,7 @@ pub struct Recorder<F> {
 impl<F: Fn(&Event) -> Outcome + Send> PostHook for Recorder<F> {
     ghost use Rattle.std.specs.Fn.{FnReturnsAt};
     ghost use Rattle.std.specs.Prelude.{nat_lt, vec_len, vec_capacity};
-    ghost use Rattle.up_hooks.specs.Told.{AreAnswers, GivesCodes, events_told};
+    ghost use Rattle.up_hooks.specs.Told.{AreAnswers, GivesCodes, closure_of, events_told, told_by};
 
     ghost is_sound = { λ r. F.IsAlwaysCallable r.answer × GivesCodes F.Fn r.answer × AreAnswers F.Fn r.answer r.pairs.items };
 
@@ -27,8 +27,8 @@ impl<F: Fn(&Event) -> Outcome + Send> PostHook for Recorder<F> {
     ghost may_answer = { λ r event outcome. FnReturnsAt F.Fn r.answer event outcome };
 
     fn ready(&mut self) -> Result<(), NoMemory>
-        ensures closure { self.new.answer ≡ self.old.answer }
-        ensures same { self.new.pairs.items ≡ self.old.pairs.items }
+        ensures closure { closure_of self.new ≡ closure_of self.old }
+        ensures same { told_by self.new ≡ told_by self.old }
         ensures room { OnOk result (⟦<Recorder<F> as PostHook>⟧.has_room self.new ≡ true) }
     {
         Ok(self.pairs.reserve(1)?)
@@ -37,9 +37,9 @@ impl<F: Fn(&Event) -> Outcome + Send> PostHook for Recorder<F> {
     fn hand(&mut self, event: &Event) -> Outcome
         requires sound { ⟦<Recorder<F> as PostHook>⟧.is_sound self.old }
         requires room { ⟦<Recorder<F> as PostHook>⟧.has_room self.old ≡ true }
-        ensures closure { self.new.answer ≡ self.old.answer }
-        ensures answer { FnReturnsAt F.Fn self.old.answer event.now result }
-        ensures added { self.new.pairs.items ≡ self.old.pairs.items ++ (event.now, result) ∷ [] }
+        ensures closure { closure_of self.new ≡ closure_of self.old }
+        ensures answer { FnReturnsAt F.Fn (closure_of self.old) event.now result }
+        ensures added { told_by self.new ≡ told_by self.old ++ (event.now, result) ∷ [] }
     {
         let outcome = (self.answer)(event);
         self.pairs.push_reserved((*event, outcome));
@@ -48,7 +48,7 @@ impl<F: Fn(&Event) -> Outcome + Send> PostHook for Recorder<F> {
 }
 
 impl<F: Fn(&Event) -> Outcome + Send> Recorder<F> {
-    ghost use Rattle.up_hooks.specs.Told.{GivesCodes};
+    ghost use Rattle.up_hooks.specs.Told.{GivesCodes, closure_of};
 
     /// A recorder that was handed nothing. Takes no memory.
     ///
@@ -59,7 +59,7 @@ impl<F: Fn(&Event) -> Outcome + Send> Recorder<F> {
     pub fn new(alloc: Global, answer: F) -> Self
         requires callable { F.IsAlwaysCallable answer }
         requires codes { GivesCodes F.Fn answer }
-        ensures answer { result.answer ≡ answer }
+        ensures answer { closure_of result ≡ answer }
         ensures sound { ⟦<Recorder<F> as PostHook>⟧.is_sound result }
         ensures handed { ⟦<Recorder<F> as PostHook>⟧.handed result ≡ [] }
     {

@@ -123,14 +123,6 @@ create_passed s new id asked r m e =
     let opened = row_passed s.closed refusal.Closed (create_rows s.content s.max_size new) planned.0 in
     ((none_holds taken both.1).0, parts_passed s.content s.max_size new opened.1)
 
--- a removal that nothing refuses is of an upload that is there
-pub delete_passed : (s : State) (u : ℕ) (r m : Unit {0}) → Ok r ≡ unless (first_that_holds (planned_rows s (request.Delete u))) m → (x : Content) × (map.get s.content u ≡ Some x)
-delete_passed s u r m e =
-    let all = unless_ok (first_that_holds (planned_rows s (request.Delete u))) r m e in
-    let opened = row_passed s.closed refusal.Closed (rows_at (map.get s.content u) (λ x. [])) all in
-    let there = at_passed (map.get s.content u) (λ x. []) opened.1 in
-    (there.0, there.1)
-
 -- ---- new uploads
 
 -- a new upload has all of its bytes where it is final, and none where it isn't

@@ -26,11 +26,11 @@ found_at_commit s (request.Patch p) id asked r e = found_before (planned_rows s 
 found_at_commit s (request.Delete u) id asked r e = found_before (planned_rows s (request.Delete u)) (asked_rows false asked) r e
 found_at_commit s (request.Get u) id asked r e = e
 
-refused_by : {T : Type 0} (o : Option Refusal) (x : T) (r : Refusal) → unless o x ≡ Err r → o ≡ Some r
-refused_by None x r e = absurd (cc)
-refused_by (Some found) x r e = let h : found ≡ r = cc in ap Some h
+refusal_of : {T : Type 0} (o : Option Refusal) (x : T) (r : Refusal) → unless o x ≡ Err r → o ≡ Some r
+refusal_of None x r e = absurd (cc)
+refusal_of (Some found) x r e = let h : found ≡ r = cc in ap Some h
 
 pub refusals_kept : RefusalsAreKept
 refusals_kept s asks id asked r e =
     let done : Done = record { response = response_to s asks id; change = change_of s asks id } in
-    ap (λ o. unless o done) (found_at_commit s asks id asked r (refused_by (first_that_holds (planned_rows s asks)) (plan_of s asks) r e))
+    ap (λ o. unless o done) (found_at_commit s asks id asked r (refusal_of (first_that_holds (planned_rows s asks)) (plan_of s asks) r e))

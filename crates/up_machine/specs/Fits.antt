@@ -1,8 +1,9 @@
 -- The content and the accepted changes tell of the same uploads.
-use Rattle.std.specs.Prelude.{◌≡◌, ◌≤◌, ◌^◌, ℕ, List, Some, is_some, length}
+use Rattle.std.specs.Prelude.{◌≡◌, ◌≤◌, ℕ, List, Some, is_some, length}
 use Rattle.std.specs.FinMap as map
 use Rattle.up_events.specs.History.{is_alive, kind_of, length_of, offset_of, IsLegal}
 use Rattle.up_events.specs.declared.event.Accepted.{Accepted}
+use Rattle.up_events.specs.declared.limits.TheConstants.{MOST_BYTES}
 use Rattle.up_machine.specs.Content.{Content}
 use Rattle.up_machine.specs.State.{Contents, State}
 
@@ -15,4 +16,4 @@ pub record Fits (content : Contents) (accepted : List Accepted) : Type 0 where
 pub record IsSoundBook (s : State) : Type 0 where
   pub legal : IsLegal s.journal.accepted
   pub fits : Fits s.content s.journal.accepted
-  pub small : s.max_size ≤ 2 ^ 30
+  pub small : s.max_size ≤ MOST_BYTES

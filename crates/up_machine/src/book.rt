@@ -1,5 +1,5 @@
 //! The book: the uploads and the journal, and what is decided on requests.
-ghost use Rattle.std.specs.Prelude.{◌≡◌, ◌≤◌, ◌<◌, ◌^◌, true, length, IfOk, IsErr, OnErr};
+ghost use Rattle.std.specs.Prelude.{◌≡◌, ◌≤◌, ◌<◌, true, false, length, Ok, Some, IfErr, IfOk, IsErr, IsSome, OnErr};
 ghost use Rattle.std.specs.FinMap as map;
 
 use crate::ask::{Ask, Point, first_size};
@@ -12,7 +12,7 @@ use crate::view::View;
 use crate::{answer, parts};
 use std::alloc::Global;
 use std::marker::Model;
-use up_events::{Accepted, Id, Journal, NoMemory};
+use up_events::{Accepted, Id, Journal, MOST_BYTES, MOST_LANES, NoMemory};
 use up_headers::{NewUpload, Patch, Request};
 use up_wire::Response;
 
@@ -48,13 +48,15 @@ impl Book {
     ghost use Rattle.up_headers.specs.declared.request.Request.TheVariants as request;
     ghost use Rattle.up_machine.specs.State.{empty_state, after, first_bytes};
     ghost use Rattle.up_machine.specs.Decision.{Answers, answer_to, decide, decide_plan, is_asked, is_refusal, planned_rows, rows_of, unless};
+    ghost use Rattle.up_machine.specs.Fits.{IsSoundBook};
     ghost use Rattle.up_machine.specs.Views.{Shows};
+    ghost use Rattle.up_machine.specs.declared.plan.Plan.TheVariants.{Ready as is_ready};
 
     /// A book with no upload, with a log for each lane, and with this most size of an upload, in bytes.
     pub fn new(alloc: Global, lanes: u64, max_size: u64) -> Result<Book, NoMemory>
         requires some_lane { 0 < lanes }
-        requires few_lanes { lanes ≤ 16 }
-        requires small { max_size ≤ 2 ^ 30 }
+        requires few_lanes { lanes ≤ MOST_LANES }
+        requires small { max_size ≤ MOST_BYTES }
         ensures { IfOk result (λ book. book ≡ empty_state lanes max_size) }
     {
         Ok(Book {
@@ -72,9 +74,17 @@ impl Book {
         self.closed = true;
     }
 
+    /// Whether the book takes no change any more.
+    pub fn is_closed(&self) -> bool
+        ensures { result ≡ self.now.closed }
+    {
+        self.closed
+    }
+
     /// The journal of the changes.
     pub fn journal(&self) -> &Journal
-        ensures { result.now ≡ self.now.journal }
+        ensures journal { result.now ≡ self.now.journal }
+        ensures sound { IsSoundBook self.now }
     {
         &self.journal
     }
@@ -120,20 +130,20 @@ impl Book {
     }
 
     /// What refuses a creation at planning, or else how many bytes the upload begins with.
-    fn check_create(&self, new: &NewUpload) -> Result<u64, Refusal>
+    fn check_creation(&self, new: &NewUpload) -> Result<u64, Refusal>
         ensures { result ≡ unless (first_that_holds (planned_rows self.now (request.Create new.now))) (length (first_bytes self.now.content new.now)) }
     {
         if self.closed {
             return Err(Refusal::Closed);
         }
-        parts::check_new(&self.uploads, self.max_size, new)
+        parts::check_first_bytes(&self.uploads, self.max_size, new)
     }
 
     /// What refuses a creation.
-    fn check_new(&self, new: &NewUpload, id: Id, asked: &Asked) -> Result<(), Refusal>
+    fn check_create(&self, new: &NewUpload, id: Id, asked: &Asked) -> Result<(), Refusal>
         ensures { result ≡ unless (first_that_holds (rows_of self.now (request.Create new.now) id asked.now)) tt }
     {
-        let offset = self.check_create(new)?;
+        let offset = self.check_creation(new)?;
         check_asked(first_size(new, offset) == Some(offset), asked)?;
         if self.journal.knows(id) {
             return Err(Refusal::IdTaken);
@@ -149,19 +159,19 @@ impl Book {
         id: Id,
         asked: &Asked,
     ) -> Result<Done, Refusal>
-        requires bounded { IsWithin (2 ^ 30) new.length }
+        requires bounded { IsWithin MOST_BYTES new.length }
         ensures answer { Answers result (decide self.old (request.Create new) id asked.now) }
         ensures ok { IfOk result (λ done. self.new ≡ after self.old (request.Create new) id done.change) }
         ensures err { OnErr result (self.new ≡ self.old) }
     {
-        self.check_new(&new, id, asked)?;
+        self.check_create(&new, id, asked)?;
         let response = answer::to_create(alloc, id)?;
         let bytes = parts::first_bytes(alloc, &self.uploads, &new)?;
         let upload = Upload::new(new, bytes);
         let length = upload.length();
         let kind = upload.kind();
         let change = Accepted::Created { id, length, kind };
-        self.uploads.create(&mut self.journal, change, id, upload)?;
+        self.uploads.insert(&mut self.journal, change, id, upload)?;
         let change = Some(Accepted::Created { id, length, kind });
         Ok(Done { response, change })
     }
@@ -186,24 +196,22 @@ impl Book {
         Ok(Done { response, change })
     }
 
-    /// What refuses a removal at planning.
-    fn check_delete(&self, id: Id) -> Result<(), Refusal>
-        ensures { result ≡ unless (first_that_holds (planned_rows self.now (request.Delete id))) tt }
+    /// What refuses a removal at planning, or else the upload.
+    fn check_delete(&self, id: Id) -> Result<&Upload, Refusal>
+        ensures ok { IfOk result (λ upload. (self.now.closed ≡ false) × (map.get self.now.content id ≡ Some upload.now)) }
+        ensures err { IfErr result (λ refused. first_that_holds (planned_rows self.now (request.Delete id)) ≡ Some refused) }
     {
         if self.closed {
             return Err(Refusal::Closed);
         }
-        match self.uploads.get(id) {
-            Some(_) => Ok(()),
-            None => Err(Refusal::NotFound),
-        }
+        self.uploads.get(id).ok_or(Refusal::NotFound)
     }
 
     /// What closures are asked before an upload is made.
     fn plan_create(&self, alloc: Global, new: &NewUpload) -> Result<Plan, Refusal>
         ensures { Answers result (decide_plan self.now (request.Create new.now)) }
     {
-        let offset = self.check_create(new)?;
+        let offset = self.check_creation(new)?;
         let made = Ask::to_create(alloc, Point::Create, new, offset)?;
         if first_size(new, offset) != Some(offset) {
             return Ok(Plan::Ask(made));
@@ -214,7 +222,8 @@ impl Book {
 
     /// What closures are asked before bytes are taken.
     fn plan_patch(&self, alloc: Global, patch: &Patch) -> Result<Plan, Refusal>
-        ensures { Answers result (decide_plan self.now (request.Patch patch.now)) }
+        ensures answer { Answers result (decide_plan self.now (request.Patch patch.now)) }
+        ensures ready { decide_plan self.now (request.Patch patch.now) ≡ Ok is_ready → result ≡ Ok is_ready }
     {
         if self.closed {
             return Err(Refusal::Closed);
@@ -233,12 +242,7 @@ impl Book {
     fn plan_delete(&self, alloc: Global, id: Id) -> Result<Plan, Refusal>
         ensures { Answers result (decide_plan self.now (request.Delete id)) }
     {
-        if self.closed {
-            return Err(Refusal::Closed);
-        }
-        let Some(upload) = self.uploads.get(id) else {
-            return Err(Refusal::NotFound);
-        };
+        let upload = self.check_delete(id)?;
         Ok(Plan::Ask(Ask::to_remove(alloc, id, upload)?))
     }
 
@@ -258,9 +262,11 @@ impl Book {
     }
 
     /// What would come of a request: the response to one that changes nothing, what closures are asked before one that makes,
-    /// completes or removes an upload, that other bytes can be committed, or the refusal. `NoMemory` comes only to a request that nothing else refuses.
+    /// completes or removes an upload, that other bytes can be committed, or the refusal. `NoMemory` comes only to a request that
+    /// nothing else refuses, and not to other bytes.
     pub fn plan(&self, alloc: Global, request: &Request) -> Result<Plan, Refusal>
-        ensures { Answers result (decide_plan self.now request.now) }
+        ensures answer { Answers result (decide_plan self.now request.now) }
+        ensures ready { decide_plan self.now request.now ≡ Ok is_ready → result ≡ Ok is_ready }
     {
         match request {
             Request::Options => Ok(Plan::Answer(self.options(alloc)?)),
@@ -273,8 +279,9 @@ impl Book {
     }
 
     /// Decides on a request, and carries it out where nothing refuses it. The id is for a new upload, the others bring their
-    /// own. A request that is refused changes nothing; `NoMemory` comes only to one that nothing else refuses. A creation, bytes or a
-    /// removal that a closure refuses are refused, if not for another reason, and changes nothing.
+    /// own. A request that is refused changes nothing; `NoMemory` comes only to one that nothing else refuses. Nothing changes once
+    /// the book is closed. Where a closure refuses a creation, bytes or a removal, it is refused, if not for another reason, and
+    /// changes nothing.
     pub fn commit(
         &mut self,
         alloc: Global,
@@ -282,10 +289,11 @@ impl Book {
         id: Id,
         asked: &Asked,
     ) -> Result<Done, Refusal>
-        requires bounded { FitsWithin (2 ^ 30) request }
+        requires bounded { FitsWithin MOST_BYTES request }
         ensures answer { Answers result (decide self.old request id asked.now) }
         ensures ok { IfOk result (λ done. self.new ≡ after self.old request id done.change) }
         ensures err { OnErr result (self.new ≡ self.old) }
+        ensures open { IfOk result (λ done. IsSome done.change → self.old.closed ≡ false) }
         ensures closure_refuses { is_asked request ≡ true → is_refusal asked.now ≡ true → IsErr result × (self.new ≡ self.old) }
     {
         match request {

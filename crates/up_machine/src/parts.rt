@@ -1,5 +1,6 @@
 //! The parts of a final upload (tus 1.0.0, Concatenation).
-ghost use Rattle.std.specs.Prelude.{◌≡◌, length, is_none, nat_lt, not, None, Some, if◌then◌else◌, IfOk};
+ghost use Rattle.std.specs.Prelude.{◌≡◌, false, length, is_none, nat_lt, not, None, Some, if◌then◌else◌, IfOk, vec_capacity};
+ghost use Rattle.up_events.specs.History.{is_final_kind};
 ghost use Rattle.std.specs.FinMap as map;
 ghost use Rattle.std.specs.List.{list_any};
 ghost use Rattle.up_headers.specs.Rows.{first_that_holds};
@@ -100,7 +101,7 @@ fn check_parts(uploads: &Uploads, max_size: u64, parts: &[Id]) -> Result<u64, Re
 }
 
 /// What refuses a new upload because of its parts, or else how many bytes it begins with.
-pub fn check_new(uploads: &Uploads, max_size: u64, new: &NewUpload) -> Result<u64, Refusal>
+pub fn check_first_bytes(uploads: &Uploads, max_size: u64, new: &NewUpload) -> Result<u64, Refusal>
     ensures { result ≡ unless (first_that_holds (create_rows uploads.now max_size new.now)) (length (first_bytes uploads.now new.now)) }
 {
     if new.kind == Kind::Final {
@@ -122,9 +123,11 @@ fn join(alloc: Global, uploads: &Uploads, parts: &[Id]) -> Result<Vec<u8>, NoMem
     Ok(bytes)
 }
 
-/// The bytes that a new upload begins with: those of its parts, if it is a final one, else none.
+/// The bytes that a new upload begins with: those of its parts, if it is a final one, else none. The length that is announced
+/// takes no room.
 pub fn first_bytes(alloc: Global, uploads: &Uploads, new: &NewUpload) -> Result<Vec<u8>, NoMemory>
-    ensures { IfOk result (λ bytes. bytes.items ≡ first_bytes uploads.now new.now) }
+    ensures bytes { IfOk result (λ bytes. bytes.items ≡ first_bytes uploads.now new.now) }
+    ensures room { IfOk result (λ bytes. is_final_kind new.now.kind ≡ false → vec_capacity bytes ≡ 0) }
 {
     if new.kind == Kind::Final {
         join(alloc, uploads, new.parts.as_slice())

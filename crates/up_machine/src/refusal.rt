@@ -1,5 +1,5 @@
 //! Why a request isn't carried out, and what is answered then.
-ghost use Rattle.std.specs.Prelude.{◌≡◌, IfOk};
+ghost use Rattle.std.specs.Prelude.{◌≡◌, IfOk, IsOk};
 ghost use Rattle.up_machine.specs.Refusals.{response_of};
 ghost use Rattle.up_machine.specs.declared.refusal.Refusal.TheVariants.{NoMemory as out_of_memory};
 
@@ -81,7 +81,8 @@ impl From<NoMemory> for Refusal {
 /// What is answered to a request that is refused: its status, and a line with the number and the name of the refusal. To
 /// `ByHook` it is the closure's status, and a line with its reason; to `NoMemory` an empty 503, which takes no memory.
 pub fn response_of(alloc: Global, refusal: &Refusal) -> Result<Response, NoMemory>
-    ensures { IfOk result (λ made. made ≡ response_of refusal.now) }
+    ensures response { IfOk result (λ made. made ≡ response_of refusal.now) }
+    ensures no_memory { refusal.now ≡ out_of_memory → IsOk result }
 {
     let (status, text) = match refusal {
         Refusal::Closed => (503, "20 Closed\n"),

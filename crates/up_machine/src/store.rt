@@ -56,7 +56,8 @@ impl Store {
     }
 }
 
-/// Makes room for so many bytes more: twice the room that there was, if the length allows that.
+/// Makes room for so many bytes more: twice the room that there was, if the length allows that, and so no more than twice what
+/// there then is.
 pub fn grow(bytes: &mut Vec<u8>, count: usize, length: u64) -> Result<(), AllocError>
     requires { vec_len bytes.old + count ≤ length }
     ensures items { bytes.new.items ≡ bytes.old.items }
@@ -64,6 +65,7 @@ pub fn grow(bytes: &mut Vec<u8>, count: usize, length: u64) -> Result<(), AllocE
     ensures enough { OnOk result (vec_len bytes.new + count ≤ vec_capacity bytes.new) }
     ensures doubled { vec_capacity bytes.old < vec_len bytes.old + count → OnOk result (min (2 * vec_capacity bytes.old) length ≤ vec_capacity bytes.new) }
     ensures within { vec_capacity bytes.new ≤ max (vec_capacity bytes.old) length }
+    ensures bounded { vec_capacity bytes.new ≤ max (vec_capacity bytes.old) (2 * (vec_len bytes.old + count)) }
 {
     let needed = bytes.len() + count;
     if needed <= bytes.capacity() {

@@ -8,12 +8,9 @@ use bytes::Bytes;
 use std::alloc::{AllocError, Global};
 use std::marker::Model;
 use std::mem;
-use up_events::{Accepted, Journal, Kind, NoMemory};
+use up_events::{Accepted, Journal, Kind, MOST_BYTES, NoMemory};
 use up_headers::{NewUpload, Pairs};
 use up_wire::Sequence;
-
-/// The most bytes of an upload whose length isn't known.
-const MOST_BYTES: u64 = 1 << 30;
 
 /// An upload: what its client said of it, and the bytes that have come so far, never more than its length says, where that is known.
 #[derive(Drop)]

@@ -34,7 +34,7 @@ impl Model for Uploads {
 }
 
 /// Notes the change, and puts a new upload in.
-fn create(
+fn insert_noted(
     entries: &mut BTreeMap<Id, Upload>,
     journal: &mut Journal,
     change: Accepted,
@@ -100,7 +100,7 @@ impl Uploads {
     }
 
     /// Notes the change, and puts a new upload in. Where memory is wanting, nothing is changed.
-    pub fn create(
+    pub fn insert(
         &mut self,
         journal: &mut Journal,
         change: Accepted,
@@ -114,7 +114,7 @@ impl Uploads {
         ensures err { OnErr result (self.new ≡ self.old) }
         ensures not_noted { OnErr result (journal.new ≡ journal.old) }
     {
-        create(&mut self.entries, journal, change, id, upload)
+        insert_noted(&mut self.entries, journal, change, id, upload)
     }
 
     /// Takes an upload out, with its bytes. Takes no memory.

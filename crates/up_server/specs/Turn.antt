@@ -8,6 +8,7 @@ use Rattle.up_headers.specs.declared.request.Request.{Request}
 use Rattle.up_headers.specs.declared.request.Request.TheVariants as request
 use Rattle.up_server.specs.Course.{Course, Gives, IsAnsweredTo}
 use Rattle.up_server.specs.Replies.{IsReply, reply_to_header_fault, reply_to_wire_fault}
+use Rattle.up_server.specs.declared.conversation.TheConstants.{MOST_MESSAGES}
 use Rattle.up_server.specs.declared.conversation.Ended.{Ended}
 use Rattle.up_server.specs.declared.conversation.Ended.TheVariants.{Closed, Cut, ReadFailed, WriteFailed}
 use Rattle.up_wire.specs.Device.{Device, GaveUp}
@@ -104,11 +105,11 @@ pub record TakesTurn (gives : Gives) (max_size : ℕ) (is_last : Bool) (old new 
 unfoldable pub Passes : Gives → ℕ → ℕ → Stand → Stand → Type 0
 Passes gives max_size zero old new = old ≡ new
 Passes gives max_size (suc turns) old new =
-    (mid : Stand) × Passes gives max_size turns old mid × TakesTurn gives max_size (turns + 1 == 10000) mid new None
+    (mid : Stand) × Passes gives max_size turns old mid × TakesTurn gives max_size (turns + 1 == MOST_MESSAGES) mid new None
 
 -- turn after turn, until one ends the conversation: the 10,000th does at the latest
 pub record Converses (gives : Gives) (max_size : ℕ) (old new : Stand) (ended : Ended) : Type 0 where
   pub turns : ℕ
   pub last : Stand
   pub passes : Passes gives max_size turns old last
-  pub ends : TakesTurn gives max_size (turns + 1 == 10000) last new (Some ended)
+  pub ends : TakesTurn gives max_size (turns + 1 == MOST_MESSAGES) last new (Some ended)

@@ -2,11 +2,12 @@
 ghost use Rattle.std.specs.Prelude.{◌≡◌, ◌≤◌, IfOk, option_map, string_bytes};
 ghost use Rattle.clap.specs.Words.{first_value, found_of};
 
-use crate::settings::{MOST_CAPACITY, MOST_LANES, MOST_SIZE, Settings, Words};
+use crate::settings::{MOST_CAPACITY, Settings, Words};
 use clap::builder::ValueParser;
 use clap::error::ErrorKind;
 use clap::{Arg, ArgAction, ArgMatches, Command, Error};
 use std::alloc::{AllocError, Global};
+use up_events::{MOST_BYTES, MOST_LANES};
 
 /// Why the command line asks for nothing.
 #[derive(Debug, Drop, thiserror::Error)]
@@ -63,7 +64,7 @@ fn with_size<'a>(alloc: Global, command: Command<'a>) -> Result<Command<'a>, All
     let max_size = number(
         alloc,
         "max-size",
-        MOST_SIZE,
+        MOST_BYTES,
         "1048576",
         "The most bytes of an upload, from 1 to 1073741824",
     );
@@ -135,7 +136,7 @@ fn words_of(alloc: Global, replay: &ArgMatches<'_>) -> Result<Words, AllocError>
         settings: Settings {
             lanes: value_of(replay, "lanes", MOST_LANES),
             capacity: value_of(replay, "capacity", MOST_CAPACITY),
-            max_size: value_of(replay, "max-size", MOST_SIZE),
+            max_size: value_of(replay, "max-size", MOST_BYTES),
         },
         require_key: text_of(alloc, replay, "require-key")?,
         max_length: replay.get_one::<u64>("max-length"),

@@ -8,6 +8,7 @@ ghost use Rattle.up_server.specs.Turn.{IsTurn, IsCutTurn, Converses, GoesOn, Sen
 use crate::dispatcher::Dispatcher;
 use crate::reply::{reply_to_header_fault, reply_to_wire_fault};
 use std::alloc::Global;
+use up_events::MOST_BYTES;
 use up_headers::{Request, request_of};
 use up_hooks::{PostHook, PreHooks};
 use up_wire::{
@@ -16,7 +17,7 @@ use up_wire::{
 };
 
 /// The most messages of a conversation.
-const MOST_MESSAGES: u64 = 10_000;
+pub const MOST_MESSAGES: u64 = 10_000;
 
 /// How a conversation ended.
 #[derive(Clone, Copy, Debug, PartialEq, Eq)]
@@ -40,7 +41,7 @@ fn answer_to<H: PostHook + Drop>(
     message: Message,
     max_size: u64,
 ) -> Response
-    requires small { max_size ≤ 2 ^ 30 }
+    requires small { max_size ≤ MOST_BYTES }
     requires room { dispatcher.old.last_id + 1 < 2 ^ 64 }
     ensures turn { IsTurn (ClosuresGive hooks.now) message max_size dispatcher.old dispatcher.new result }
     ensures goes_on { GoesOn 1 dispatcher.old dispatcher.new }
@@ -59,7 +60,7 @@ fn carry_out_cut<H: PostHook + Drop>(
     message: Message,
     max_size: u64,
 )
-    requires small { max_size ≤ 2 ^ 30 }
+    requires small { max_size ≤ MOST_BYTES }
     requires room { dispatcher.old.last_id + 1 < 2 ^ 64 }
     ensures turn { IsCutTurn (ClosuresGive hooks.now) message max_size dispatcher.old dispatcher.new }
     ensures goes_on { GoesOn 1 dispatcher.old dispatcher.new }
@@ -113,7 +114,7 @@ fn take_turn<H: PostHook + Drop, R: Source, W: Sink>(
     sink: &mut W,
     is_last: bool,
 ) -> Option<Ended>
-    requires small { max_size ≤ 2 ^ 30 }
+    requires small { max_size ≤ MOST_BYTES }
     requires room { dispatcher.old.last_id + 1 < 2 ^ 64 }
     ensures turn { TakesTurn (ClosuresGive hooks.now) max_size is_last
         (record {
@@ -162,8 +163,8 @@ pub fn converse<H: PostHook + Drop, R: Source, W: Sink>(
     source: &mut R,
     sink: &mut W,
 ) -> Ended
-    requires small { max_size ≤ 2 ^ 30 }
-    requires room { dispatcher.old.last_id + 10000 < 2 ^ 64 }
+    requires small { max_size ≤ MOST_BYTES }
+    requires room { dispatcher.old.last_id + MOST_MESSAGES < 2 ^ 64 }
     ensures turns { Converses (ClosuresGive hooks.now) max_size
         (record {
           course = dispatcher.old;
@@ -176,7 +177,7 @@ pub fn converse<H: PostHook + Drop, R: Source, W: Sink>(
           sink = device (W.written sink.new) (W.has_failed sink.new) (W.interruptions sink.new);
         })
         result }
-    ensures goes_on { GoesOn 10000 dispatcher.old dispatcher.new }
+    ensures goes_on { GoesOn MOST_MESSAGES dispatcher.old dispatcher.new }
 {
     for turn in 0..MOST_MESSAGES {
         let is_last = turn + 1 == MOST_MESSAGES;

@@ -9,7 +9,7 @@ use crate::feed::{Feed, LaneReport};
 use crate::reply::reply_to_refusal;
 use std::alloc::Global;
 use std::marker::Model;
-use up_events::{Accepted, Id, NoMemory};
+use up_events::{Accepted, Id, MOST_BYTES, MOST_LANES, NoMemory};
 use up_headers::Request;
 use up_hooks::{PostHook, PreHooks};
 use up_machine::{Asked, Book, Done, Plan, Refusal};
@@ -101,7 +101,7 @@ fn carry_out(
     request: Request,
     id: Id,
 ) -> Result<Done, Refusal>
-    requires bounded { FitsWithin (2 ^ 30) request }
+    requires bounded { FitsWithin MOST_BYTES request }
     ensures decided { IsCommitted (ClosuresGive hooks.now) book.old request id result ⊎ (result ≡ Err Refusal.NoMemory) }
     ensures ok { IfOk result (λ done. book.new ≡ after book.old request id done.change) }
     ensures err { OnErr result (book.new ≡ book.old) }
@@ -129,8 +129,8 @@ impl<H: PostHook + Drop> Dispatcher<H> {
         max_size: u64,
     ) -> Result<Self, NoMemory>
         requires some_lane { 0 < lanes }
-        requires few_lanes { lanes ≤ 16 }
-        requires small { max_size ≤ 2 ^ 30 }
+        requires few_lanes { lanes ≤ MOST_LANES }
+        requires small { max_size ≤ MOST_BYTES }
         requires one_for_each { length hooks.items ≡ lanes }
         requires new { All (λ hook. H.is_sound hook × (H.handed hook ≡ [])) hooks.items }
         ensures { IfOk result (λ dispatcher. dispatcher ≡ record { book = empty_state lanes max_size; last_id = 0 }) }
@@ -156,7 +156,7 @@ impl<H: PostHook + Drop> Dispatcher<H> {
     /// creation takes the next id, whatever becomes of it. Where memory is wanting, an empty 503 is answered, and the book
     /// is as it was.
     pub fn answer(&mut self, alloc: Global, hooks: &PreHooks, request: Request) -> Response
-        requires bounded { FitsWithin (2 ^ 30) request }
+        requires bounded { FitsWithin MOST_BYTES request }
         requires room { self.old.last_id + 1 < 2 ^ 64 }
         ensures { IsAnsweredTo (ClosuresGive hooks.now) self.old self.new request result }
     {

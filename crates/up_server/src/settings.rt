@@ -1,14 +1,10 @@
 //! What a run of the server is given.
-ghost use Rattle.std.specs.Prelude.{◌≤◌, ◌^◌};
-
-/// The most lanes that a server has.
-pub const MOST_LANES: u64 = 16;
+ghost use Rattle.std.specs.Prelude.{◌≤◌};
+ghost use Rattle.up_events.specs.declared.limits.TheConstants.{MOST_BYTES, MOST_LANES};
+ghost use Rattle.up_server.specs.declared.settings.TheConstants.{MOST_CAPACITY};
 
 /// The most items that the queue of a lane holds.
 pub const MOST_CAPACITY: u64 = 4096;
-
-/// The largest upload that can be allowed, in bytes.
-pub const MOST_SIZE: u64 = 1 << 30;
 
 /// The size of a server.
 #[derive(Clone, Copy, Debug, PartialEq, Eq)]
@@ -19,9 +15,9 @@ pub struct Settings {
     pub capacity: u64,
     /// The most bytes of an upload and of a message's body, from 1 to 2^30.
     pub max_size: u64,
-    ghost lanes_within: { (1 ≤ lanes) × (lanes ≤ 16) },
-    ghost capacity_within: { (1 ≤ capacity) × (capacity ≤ 4096) },
-    ghost max_size_within: { (1 ≤ max_size) × (max_size ≤ 2 ^ 30) },
+    ghost lanes_within: { (1 ≤ lanes) × (lanes ≤ MOST_LANES) },
+    ghost capacity_within: { (1 ≤ capacity) × (capacity ≤ MOST_CAPACITY) },
+    ghost max_size_within: { (1 ≤ max_size) × (max_size ≤ MOST_BYTES) },
 }
 
 impl Default for Settings {

@@ -118,9 +118,18 @@ fn an_unknown_length_is_allowed(rt: HostRuntime) -> Result<(), Fail> {
 #[test]
 fn a_complete_upload_is_held_to_the_limit(rt: HostRuntime) -> Result<(), Fail> {
     let too_long: Option<(u16, &[u8])> = Some((422, b"too long to finish"));
-    assert_eq!(rt; finishes_at_most(&complete(rt.alloc(), 3), 3), Verdict::Allow);
-    assert_eq!(rt; refusal(&finishes_at_most(&complete(rt.alloc(), 4), 3)), too_long);
-    assert_eq!(rt; finishes_at_most(&complete(rt.alloc(), 0), 0), Verdict::Allow);
+    assert_eq!(rt;
+        finishes_at_most(&complete(rt.alloc(), 3), 3),
+        Verdict::Allow
+    );
+    assert_eq!(rt;
+        refusal(&finishes_at_most(&complete(rt.alloc(), 4), 3)),
+        too_long
+    );
+    assert_eq!(rt;
+        finishes_at_most(&complete(rt.alloc(), 0), 0),
+        Verdict::Allow
+    );
     Ok(())
 }
 

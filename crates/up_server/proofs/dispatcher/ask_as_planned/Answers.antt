@@ -8,5 +8,5 @@ pub returns-else-is_refusal : goal.returns-else-is_refusal
 returns-else-is_refusal g c =
     let gives = ClosuresGive c.args.hooks.now in
     let asked : AreAskedInTurn gives c.in-AskBoth.first c.in-AskBoth.second c.ask-else-is_refusal.result =
-        inr (c.ask-asked.result, c.ask-asked.ensures.closures, sym c.is_refusal.ensures ∙ c.if-is_refusal.false, c.ask-else-is_refusal.ensures.closures) in
+    inr (c.ask-asked.result, c.ask-asked.ensures.closures, sym c.is_refusal.ensures ∙ c.if-is_refusal.false, c.ask-else-is_refusal.ensures.closures) in
     subst (λ (p : Plan). IsAsked gives (Ok p) c.ask-else-is_refusal.result) (sym c.in-AskBoth.is) asked

@@ -56,5 +56,5 @@ returns-clause-lanes g c =
 
 pub returns-clause-delivered : goal.returns-clause-delivered
 returns-clause-delivered g c =
-    let same = c.in_ok-accepted.ensures.items_if_clones_equal (λ x y e. e) ∙ c.accepted.ensures.value ∙ ap (λ (j : Records). j.accepted) c.journal.ensures ∙ ap (λ (x : Course). x.book.journal.accepted) c.self.view_is in
+    let same = c.in_ok-accepted.ensures.items_if_clones_equal (λ x y e. e) ∙ c.accepted.ensures.value ∙ ap (λ (j : Records). j.accepted) c.journal.ensures.journal ∙ ap (λ (x : Course). x.book.journal.accepted) c.self.view_is in
     subst (λ l. All (λ (r : LaneReport g.row.H.Denot). IsDelivered l (g.H.PostHook.handed r.hook)) c.loop-feed.lanes.items) (sym same) c.loop-feed.invariant.delivered

@@ -3,7 +3,7 @@ use Rattle.std.specs.Ordering.{nat_cmp}
 use Rattle.std.specs.BTreeMap.{Updates}
 use Rattle.std.specs.BTreeMap.Entry.{map_with_value, entry_map_ref}
 use Rattle.up_machine.specs.Content.{Content}
-use Rattle.up_machine.proofs.uploads.create.Goals as goal
+use Rattle.up_machine.proofs.uploads.insert_noted.Goals as goal
 
 pub returns-clause-ok : goal.returns-clause-ok
 returns-clause-ok c =
