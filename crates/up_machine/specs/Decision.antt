@@ -64,6 +64,10 @@ patch_rows max_size p x =
     ∷ (nat_lt (unwrap_or (size_after p x) max_size) (length x.bytes + length p.bytes), refusal.TooMuch)
     ∷ []
 
+-- the rows of bytes for the upload that was found
+abbrev pub take_rows : Bool → ℕ → Patch → Option Content → List (Row Refusal)
+take_rows closed max_size p found = (closed, refusal.Closed) ∷ rows_at found (patch_rows max_size p)
+
 -- the row of an upload whose bytes are asked
 abbrev pub get_rows : Content → List (Row Refusal)
 get_rows x = (not (is_complete x), refusal.Unfinished) ∷ []
@@ -101,7 +105,7 @@ abbrev pub planned_rows : State → Request → List (Row Refusal)
 planned_rows s request.Options = []
 planned_rows s (request.Create new) = (s.closed, refusal.Closed) ∷ create_rows s.content s.max_size new
 planned_rows s (request.Head u) = rows_at (map.get s.content u) (λ x. [])
-planned_rows s (request.Patch p) = (s.closed, refusal.Closed) ∷ rows_at (map.get s.content p.id) (patch_rows s.max_size p)
+planned_rows s (request.Patch p) = take_rows s.closed s.max_size p (map.get s.content p.id)
 planned_rows s (request.Delete u) = (s.closed, refusal.Closed) ∷ rows_at (map.get s.content u) (λ x. [])
 planned_rows s (request.Get u) = rows_at (map.get s.content u) get_rows
 
@@ -204,14 +208,18 @@ abbrev pub unless : {T : Type 0} → Option Refusal → T → Result T Refusal
 unless None x = Ok x
 unless (Some r) x = Err r
 
+-- the first refusal of these rows that holds, or else this
+abbrev pub checked : {T : Type 0} → List (Row Refusal) → T → Result T Refusal
+checked rows x = unless (first_that_holds rows) x
+
 -- the decision on a request
 abbrev pub decide : State → Request → ℕ → Asked → Result Done Refusal
 decide s request id asked =
-    unless (first_that_holds (rows_of s request id asked)) (record { response = response_to s request id; change = change_of s request id })
+    checked (rows_of s request id asked) (record { response = response_to s request id; change = change_of s request id })
 
 -- the decision on a request that changes nothing
 abbrev pub answer_to : State → Request → Result Response Refusal
-answer_to s request = unless (first_that_holds (planned_rows s request)) (response_to s request 0)
+answer_to s request = checked (planned_rows s request) (response_to s request 0)
 
 -- what is asked before an upload is made, also whether it may be complete at once
 abbrev pub plan_to_create : Content → Plan
@@ -240,7 +248,7 @@ plan_of s (request.Get u) = Answer (response_to s (request.Get u) 0)
 
 -- the decision at planning
 abbrev pub decide_plan : State → Request → Result Plan Refusal
-decide_plan s request = unless (first_that_holds (planned_rows s request)) (plan_of s request)
+decide_plan s request = checked (planned_rows s request) (plan_of s request)
 
 -- the answer is this one, or memory was refused for one that is no refusal
 abbrev pub Answers : {T : Type 0} → Result T Refusal → Result T Refusal → Type 0

@@ -47,7 +47,7 @@ impl Book {
     ghost use Rattle.up_headers.specs.Table.{FitsWithin};
     ghost use Rattle.up_headers.specs.declared.request.Request.TheVariants as request;
     ghost use Rattle.up_machine.specs.State.{empty_state, after, first_bytes};
-    ghost use Rattle.up_machine.specs.Decision.{Answers, answer_to, decide, decide_plan, is_asked, is_refusal, planned_rows, rows_of, unless};
+    ghost use Rattle.up_machine.specs.Decision.{Answers, answer_to, decide, decide_plan, is_asked, is_refusal, planned_rows, rows_of, checked};
     ghost use Rattle.up_machine.specs.Fits.{IsSoundBook};
     ghost use Rattle.up_machine.specs.Views.{Shows};
     ghost use Rattle.up_machine.specs.declared.plan.Plan.TheVariants.{Ready as is_ready};
@@ -131,7 +131,9 @@ impl Book {
 
     /// What refuses a creation at planning, or else how many bytes the upload begins with.
     fn check_creation(&self, new: &NewUpload) -> Result<u64, Refusal>
-        ensures { result ≡ unless (first_that_holds (planned_rows self.now (request.Create new.now))) (length (first_bytes self.now.content new.now)) }
+        ensures { result ≡ checked
+            (planned_rows self.now (request.Create new.now))
+            (length (first_bytes self.now.content new.now)) }
     {
         if self.closed {
             return Err(Refusal::Closed);
@@ -141,7 +143,7 @@ impl Book {
 
     /// What refuses a creation.
     fn check_create(&self, new: &NewUpload, id: Id, asked: &Asked) -> Result<(), Refusal>
-        ensures { result ≡ unless (first_that_holds (rows_of self.now (request.Create new.now) id asked.now)) tt }
+        ensures { result ≡ checked (rows_of self.now (request.Create new.now) id asked.now) tt }
     {
         let offset = self.check_creation(new)?;
         check_asked(first_size(new, offset) == Some(offset), asked)?;

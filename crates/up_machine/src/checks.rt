@@ -1,9 +1,8 @@
 //! The checks of a request against the uploads, in their order.
 ghost use Rattle.std.specs.Prelude.{◌≡◌, ◌++◌, ◌∷◌, [], Some};
 ghost use Rattle.std.specs.FinMap as map;
-ghost use Rattle.up_headers.specs.Rows.{first_that_holds};
 ghost use Rattle.up_machine.specs.Content.{declared};
-ghost use Rattle.up_machine.specs.Decision.{asked_rows, change_by, is_bad_size, patch_completes, patch_rows, rows_at, step_of, unless};
+ghost use Rattle.up_machine.specs.Decision.{asked_rows, change_by, checked, is_bad_size, patch_completes, patch_rows, step_of, take_rows};
 ghost use Rattle.up_machine.specs.declared.refusal.Refusal.TheVariants as refusal;
 
 use crate::plan::Asked;
@@ -34,9 +33,10 @@ pub fn check_take(
     patch: &Patch,
     asked: &Asked,
 ) -> Result<Step, Refusal>
-    ensures { result ≡ unless (first_that_holds ((closed, refusal.Closed) ∷ rows_at (map.get uploads.now patch.now.id) (patch_rows max_size patch.now)
-        ++ asked_rows (patch_completes patch.now (map.get uploads.now patch.now.id)) asked.now))
-        (step_of patch.now (map.get uploads.now patch.now.id)) }
+    ensures { let found = map.get uploads.now patch.now.id in
+        result ≡ checked
+        (take_rows closed max_size patch.now found ++ asked_rows (patch_completes patch.now found) asked.now)
+        (step_of patch.now found) }
 {
     if closed {
         return Err(Refusal::Closed);
@@ -49,7 +49,10 @@ pub fn check_take(
 
 /// The same, where the upload is there.
 fn check_said(upload: &Upload, max_size: u64, patch: &Patch, asked: &Asked) -> Result<Step, Refusal>
-    ensures { result ≡ unless (first_that_holds (patch_rows max_size patch.now upload.now ++ asked_rows (patch_completes patch.now (Some upload.now)) asked.now)) (step_of patch.now (Some upload.now)) }
+    ensures { let found = Some upload.now in
+        result ≡ checked
+        (patch_rows max_size patch.now upload.now ++ asked_rows (patch_completes patch.now found) asked.now)
+        (step_of patch.now found) }
 {
     let step = check_bytes(upload, max_size, patch)?;
     check_asked(step.completes, asked)?;
@@ -58,7 +61,7 @@ fn check_said(upload: &Upload, max_size: u64, patch: &Patch, asked: &Asked) -> R
 
 /// What refuses a PATCH of this upload at planning, or else what it comes to.
 pub fn check_bytes(upload: &Upload, max_size: u64, patch: &Patch) -> Result<Step, Refusal>
-    ensures { result ≡ unless (first_that_holds (patch_rows max_size patch.now upload.now)) (step_of patch.now (Some upload.now)) }
+    ensures { result ≡ checked (patch_rows max_size patch.now upload.now) (step_of patch.now (Some upload.now)) }
 {
     if upload.kind() == Kind::Final {
         return Err(Refusal::FinalUpload);
@@ -95,7 +98,9 @@ pub fn check_bytes(upload: &Upload, max_size: u64, patch: &Patch) -> Result<Step
 
 /// The length that is declared, if one is, or else what refuses the one that was sent.
 fn declared(upload: &Upload, sent: Option<Result<u64, NotDigits>>) -> Result<Option<u64>, Refusal>
-    ensures { result ≡ unless (first_that_holds ((is_bad_size sent upload.now, refusal.BadDeclared) ∷ [])) (declared sent upload.now.length) }
+    ensures { result ≡ checked
+        ((is_bad_size sent upload.now, refusal.BadDeclared) ∷ [])
+        (declared sent upload.now.length) }
 {
     let size = match sent {
         None => return Ok(None),
@@ -122,7 +127,7 @@ pub fn change_by(id: Id, declared: Option<u64>, count: u64) -> Option<Accepted>
 
 /// What refuses a request because of those that were asked, or weren't.
 pub fn check_asked(completes: bool, asked: &Asked) -> Result<(), Refusal>
-    ensures { result ≡ unless (first_that_holds (asked_rows completes asked.now)) tt }
+    ensures { result ≡ checked (asked_rows completes asked.now) tt }
 {
     match asked {
         Asked::Skipped | Asked::Allowed if completes => Err(Refusal::NotAsked),

@@ -3,9 +3,8 @@ ghost use Rattle.std.specs.Prelude.{◌≡◌, false, length, is_none, nat_lt, n
 ghost use Rattle.up_events.specs.History.{is_final_kind};
 ghost use Rattle.std.specs.FinMap as map;
 ghost use Rattle.std.specs.List.{list_any};
-ghost use Rattle.up_headers.specs.Rows.{first_that_holds};
 ghost use Rattle.up_machine.specs.State.{bytes_of, first_bytes, joined};
-ghost use Rattle.up_machine.specs.Decision.{create_rows, is_partial, part_rows, passes, unless};
+ghost use Rattle.up_machine.specs.Decision.{create_rows, is_partial, part_rows, passes, checked};
 ghost use Rattle.up_machine.specs.Content.{is_complete};
 
 use crate::refusal::Refusal;
@@ -83,7 +82,7 @@ fn sum_within(uploads: &Uploads, parts: &[Id], most: u64) -> Option<u64>
 
 /// What refuses these parts, or else how many bytes they have together.
 fn check_parts(uploads: &Uploads, max_size: u64, parts: &[Id]) -> Result<u64, Refusal>
-    ensures { result ≡ unless (first_that_holds (part_rows uploads.now max_size parts.now)) (length (joined uploads.now parts.now)) }
+    ensures { result ≡ checked (part_rows uploads.now max_size parts.now) (length (joined uploads.now parts.now)) }
 {
     if any_missing(uploads, parts) {
         return Err(Refusal::PartUnknown);
@@ -102,7 +101,7 @@ fn check_parts(uploads: &Uploads, max_size: u64, parts: &[Id]) -> Result<u64, Re
 
 /// What refuses a new upload because of its parts, or else how many bytes it begins with.
 pub fn check_first_bytes(uploads: &Uploads, max_size: u64, new: &NewUpload) -> Result<u64, Refusal>
-    ensures { result ≡ unless (first_that_holds (create_rows uploads.now max_size new.now)) (length (first_bytes uploads.now new.now)) }
+    ensures { result ≡ checked (create_rows uploads.now max_size new.now) (length (first_bytes uploads.now new.now)) }
 {
     if new.kind == Kind::Final {
         check_parts(uploads, max_size, new.parts.as_slice())
