@@ -110,6 +110,3 @@ fn main(rt: HostRuntime) -> io::Result<ExitCode> {
         }
     }
 }
-
-#[cfg(test)]
-mod tests;

@@ -1,15 +1,8 @@
-//! Whole conversations: what is asked, and what is then answered and reported, to the byte.
-mod asking;
+//! Conversations over devices and closures of the tests' own: what is asked, and what is then answered and reported, to the byte.
 mod command_lines;
-mod concatenating;
-mod creating;
+mod dripping;
 mod failing;
-mod framed;
-mod headed;
-mod many;
-mod patching;
 mod refusing;
-mod unreadable;
 
 use super::*;
 use crate::recorders::new_recorders;
@@ -21,14 +14,6 @@ use up_wire::{Input, Output};
 const U1: &str = "00000000000000000000000000000001";
 
 const U2: &str = "00000000000000000000000000000002";
-
-const U3: &str = "00000000000000000000000000000003";
-
-const U4: &str = "00000000000000000000000000000004";
-
-const U5: &str = "00000000000000000000000000000005";
-
-const THIRTY_NINES: &str = "999999999999999999999999999999";
 
 /// The report of a run that changed nothing.
 const NOTHING: &str = "\naccepted 0\nlane 0 drained 0\nlane 1 drained 0\n";
@@ -117,30 +102,12 @@ impl Talk {
         )
     }
 
-    /// Wants a refusal of a HEAD, which has no body.
-    fn want_bare(&mut self, status: &str) -> Result<(), AllocError> {
-        write!(
-            self.wanted,
-            "HTTP/1.1 {status}\r\nTus-Resumable: 1.0.0\r\nCache-Control: no-store\r\n\
-            Content-Type: text/plain\r\n\r\n"
-        )
-    }
-
     /// Wants a refusal, whose body is a line of so many bytes.
     fn want_refused(&mut self, status: &str, count: &str, line: &str) -> Result<(), AllocError> {
         write!(
             self.wanted,
             "HTTP/1.1 {status}\r\nTus-Resumable: 1.0.0\r\nCache-Control: no-store\r\n\
             Content-Type: text/plain\r\nContent-Length: {count}\r\n\r\n{line}\n"
-        )
-    }
-
-    /// Wants a refusal that closes the conversation.
-    fn want_closed(&mut self, status: &str, count: &str, line: &str) -> Result<(), AllocError> {
-        write!(
-            self.wanted,
-            "HTTP/1.1 {status}\r\nTus-Resumable: 1.0.0\r\nCache-Control: no-store\r\n\
-            Content-Type: text/plain\r\nContent-Length: {count}\r\nConnection: close\r\n\r\n{line}\n"
         )
     }
 
@@ -197,12 +164,4 @@ fn run_plain<R: Source, W: Sink>(
         source,
         sink,
     )
-}
-
-/// How a run over these bytes ends, and what it writes.
-fn served(alloc: Global, settings: &Settings, input: &[u8]) -> (Result<(), ServerFault>, Vec<u8>) {
-    let mut source = Input::new(input);
-    let mut sink = Output::new(Vec::new(alloc));
-    let ended = run_plain(alloc, settings, &mut source, &mut sink);
-    (ended, sink.into_inner())
 }

@@ -1,0 +1,82 @@
+//! Whether there came of a talk what must come of it.
+ghost use Rattle.std.specs.Prelude.{◌≡◌, ◌≢◌, Ok, IsOk, IsNone, IsTrue, IfOk};
+ghost use Rattle.up_talks.specs.declared.comparison.Comparison.TheVariants.{Line, Same};
+
+use crate::difference::{LineDifference, difference};
+use crate::serving::Served;
+use crate::talk::Talk;
+use std::alloc::{AllocError, Global};
+use std::fmt;
+use up_server::ServerFault;
+
+/// How what came of a talk stands to what must come of it.
+#[derive(Clone, Copy)]
+pub enum Comparison<'a> {
+    Same,
+    Line(LineDifference<'a>),
+    /// The run ended otherwise.
+    Ended(Result<(), ServerFault>),
+    /// The run left so many bytes unread.
+    Unread(usize),
+}
+
+impl<'a> fmt::Display for Comparison<'a> {
+    fn fmt<W: fmt::Write>(&self, f: &mut fmt::Formatter<W>) -> fmt::Result {
+        match self {
+            Comparison::Same => write!(f, "same"),
+            Comparison::Line(line) => write!(f, "differs at {line}"),
+            Comparison::Ended(Ok(())) => write!(f, "differs, since it ended without a fault"),
+            Comparison::Ended(Err(fault)) => write!(
+                f,
+                "differs, since it ended with the fault {fault}"
+            ),
+            Comparison::Unread(count) => write!(f, "differs, since {count} bytes were left unread"),
+        }
+    }
+}
+
+/// Whether a run ended with the fault of this text, or without one where there is none.
+fn ends_so(
+    alloc: Global,
+    wanted: &Option<String>,
+    ended: Result<(), ServerFault>,
+) -> Result<bool, AllocError>
+    ensures without { IsNone wanted.now → IfOk result (λ so. IsTrue so → IsOk ended) }
+{
+    match (wanted, ended) {
+        (None, Ok(())) => Ok(true),
+        (Some(text), Err(fault)) => Ok(fault.to_string(alloc)?.as_str() == text.as_str()),
+        _ => Ok(false),
+    }
+}
+
+/// Whether as many bytes were left unread as must be.
+fn stops_so(talk: &Talk, unread: usize) -> bool {
+    match talk.read {
+        Some(read) => talk.asked.len().saturating_sub(read) == unread,
+        None => true,
+    }
+}
+
+/// How what came of a talk stands to what must come of it: the first line that differs, or else how it ended, or else how
+/// much it left unread.
+pub fn compare<'a>(
+    alloc: Global,
+    talk: &'a Talk,
+    served: &'a Served,
+) -> Result<Comparison<'a>, AllocError>
+    ensures written { result ≡ Ok Same → talk.now.wanted.items ≡ served.now.written.items }
+    ensures line { (line : _) → result ≡ Ok (Line line) → talk.now.wanted.items ≢ served.now.written.items }
+    ensures ended { IsNone talk.now.fault → result ≡ Ok Same → IsOk served.now.ended }
+{
+    if let Some(line) = difference(&talk.wanted, &served.written) {
+        return Ok(Comparison::Line(line));
+    }
+    if !ends_so(alloc, &talk.fault, served.ended)? {
+        return Ok(Comparison::Ended(served.ended));
+    }
+    if !stops_so(talk, served.unread) {
+        return Ok(Comparison::Unread(served.unread));
+    }
+    Ok(Comparison::Same)
+}

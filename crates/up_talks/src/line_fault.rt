@@ -1,0 +1,32 @@
+//! Why a line of the input can't be read.
+use std::alloc::AllocError;
+use thiserror::Error;
+
+/// Why a line says nothing that a talk may have.
+#[derive(Clone, Copy, Debug, PartialEq, Eq, Error)]
+pub enum LineFault {
+    #[error("no such mark")]
+    Mark,
+    #[error("no talk has begun")]
+    Outside,
+    #[error("a name is wanting")]
+    NoName,
+    #[error("said before")]
+    Twice,
+    #[error("no such escape")]
+    Escape,
+    #[error("no count, or no text behind it")]
+    Count,
+    #[error("the command line refuses these words")]
+    Words,
+    #[error(transparent)]
+    Memory(#[from(alloc)] AllocError),
+}
+
+/// A line that can't be read, and its number, counted from 1.
+#[derive(Clone, Copy, Debug, PartialEq, Eq, Error)]
+#[error("line {number}: {fault}")]
+pub struct BadLine {
+    pub number: usize,
+    pub fault: LineFault,
+}

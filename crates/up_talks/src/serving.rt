@@ -1,0 +1,81 @@
+//! Runs of the server.
+ghost use Rattle.std.specs.Prelude.{◌≡◌, IsTrue, string_bytes};
+ghost use Rattle.up_hooks.specs.Verdicts.{is_lawful};
+ghost use Rattle.up_server.specs.Rules.{at_most, finishes_at_most, keeps, needs_key};
+
+use std::alloc::{AllocError, Global};
+use up_events::Event;
+use up_hooks::{Outcome, PreHook, PreHooks};
+use up_machine::{Ask, Point, Verdict};
+use up_server::{
+    ServerFault, Settings, Words, at_most, finishes_at_most, keeps, needs_key, new_recorders,
+    replay,
+};
+use up_wire::{Input, Output};
+
+/// What came of a run.
+#[derive(Drop)]
+pub struct Served {
+    pub ended: Result<(), ServerFault>,
+    pub written: Vec<u8>,
+    /// How many of the asked bytes were not read.
+    pub unread: usize,
+}
+
+/// Serves what is asked as one conversation, with these closures and post-hooks that answer that they are done.
+fn run(alloc: Global, hooks: PreHooks, settings: &Settings, asked: &[u8]) -> Served {
+    let mut source = Input::new(asked);
+    let mut sink = Output::new(Vec::new(alloc));
+    let answer = |_: &Event| Outcome::Done;
+    let ended = match new_recorders(alloc, settings.lanes, answer) {
+        Ok(recorders) => replay(alloc, hooks, recorders, settings, &mut source, &mut sink),
+        Err(_) => Err(ServerFault::Memory),
+    };
+    Served {
+        ended,
+        written: sink.into_inner(),
+        unread: source.into_inner().len(),
+    }
+}
+
+/// Serves what is asked as the words ask for it: the closures of their rules are asked in the order in which the help names
+/// them.
+pub fn serve(alloc: Global, words: Words, asked: &[u8]) -> Result<Served, AllocError> {
+    let Words {
+        settings,
+        require_key,
+        max_length,
+        keep,
+        max_finish,
+    } = words;
+    let mut hooks = Vec::new(alloc);
+    if let Some(key) = require_key {
+        let judge = move |ask: &Ask| -> Verdict
+            ensures answer { result ≡ needs_key ask.now (string_bytes key) }
+            ensures lawful { IsTrue (is_lawful result) }
+        { needs_key(ask, key.as_bytes()) };
+        hooks.push(PreHook::new(Point::Create, Box::new(alloc, judge)?))?;
+    }
+    if let Some(limit) = max_length {
+        let judge = move |ask: &Ask| -> Verdict
+            ensures answer { result ≡ at_most ask.now limit }
+            ensures lawful { IsTrue (is_lawful result) }
+        { at_most(ask, limit) };
+        hooks.push(PreHook::new(Point::Create, Box::new(alloc, judge)?))?;
+    }
+    if keep {
+        let judge = |ask: &Ask| -> Verdict
+            ensures answer { result ≡ keeps ask.now }
+            ensures lawful { IsTrue (is_lawful result) }
+        { keeps(ask) };
+        hooks.push(PreHook::new(Point::Terminate, Box::new(alloc, judge)?))?;
+    }
+    if let Some(limit) = max_finish {
+        let judge = move |ask: &Ask| -> Verdict
+            ensures answer { result ≡ finishes_at_most ask.now limit }
+            ensures lawful { IsTrue (is_lawful result) }
+        { finishes_at_most(ask, limit) };
+        hooks.push(PreHook::new(Point::Finish, Box::new(alloc, judge)?))?;
+    }
+    Ok(run(alloc, PreHooks::new(hooks), &settings, asked))
+}
