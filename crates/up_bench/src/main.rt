@@ -1,14 +1,20 @@
-//! Works a book of uploads, to see how its time grows with their number: makes as many as standard input says, puts eight
-//! bytes into each, asks for each, and writes how many changes were accepted.
+//! Works a book of uploads, to see how its time grows with their number. For each line of standard input it works a new book, and
+//! writes how many changes were accepted: for a number `N` it makes so many uploads, puts eight bytes into each and asks for each;
+//! for `removals N` it makes so many, and removes each before the next.
 #![tactic(auto)]
 
 use std::alloc::Global;
 use std::io;
 use std::process::ExitCode;
-use up_events::{Id, Kind};
+use up_events::{Id, Kind, NoMemory};
 use up_headers::{NewUpload, Patch, Request};
 use up_machine::{Asked, Book, Refusal};
 use up_wire::Sequence;
+
+/// A book of two lanes, for uploads of 8 bytes.
+fn new_book(alloc: Global) -> Result<Book, NoMemory> {
+    Book::new(alloc, 2, 8)
+}
 
 fn create(alloc: Global, book: &mut Book, id: Id) -> Result<(), Refusal> {
     let new = NewUpload {
@@ -36,9 +42,25 @@ fn append(alloc: Global, book: &mut Book, id: Id) -> Result<(), Refusal> {
     Ok(())
 }
 
+fn remove(alloc: Global, book: &mut Book, id: Id) -> Result<(), Refusal> {
+    book.commit(alloc, Request::Delete(id), id, &Asked::Allowed)?;
+    Ok(())
+}
+
+/// How many changes were accepted of so many uploads, each of which was removed before the next was made.
+fn work_removals(alloc: Global, count: u64) -> Result<usize, Refusal> {
+    let mut book = new_book(alloc)?;
+    for n in 0..count {
+        let id = Id::new(u128::from(n));
+        create(alloc, &mut book, id)?;
+        remove(alloc, &mut book, id)?;
+    }
+    Ok(book.journal().accepted().len())
+}
+
 /// How many changes of so many uploads were accepted.
 fn work(alloc: Global, count: u64) -> Result<usize, Refusal> {
-    let mut book = Book::new(alloc, 2, 8)?;
+    let mut book = new_book(alloc)?;
     for n in 0..count {
         create(alloc, &mut book, Id::new(u128::from(n)))?;
     }
@@ -51,13 +73,27 @@ fn work(alloc: Global, count: u64) -> Result<usize, Refusal> {
     Ok(book.journal().accepted().len())
 }
 
+/// What a line asks for: how many uploads, and whether each is removed.
+fn reading(line: &str) -> Option<(u64, bool)> {
+    let (count, removals) = match line.strip_prefix("removals ") {
+        Some(count) => (count, true),
+        None => (line, false),
+    };
+    Some((count.parse().ok()?, removals))
+}
+
 fn main(rt: HostRuntime) -> io::Result<ExitCode> {
     for line in rt.lines(rt.alloc()) {
-        let Ok(count) = line?.parse::<u64>() else {
+        let Some((count, removals)) = reading(line?.as_str()) else {
             eprintln!(rt; "up_bench: not a number")?;
             return Ok(ExitCode::FAILURE);
         };
-        match work(rt.alloc(), count) {
+        let worked = if removals {
+            work_removals(rt.alloc(), count)
+        } else {
+            work(rt.alloc(), count)
+        };
+        match worked {
             Ok(accepted) => println!(rt; "{accepted}")?,
             Err(refusal) => {
                 eprintln!(rt; "up_bench: {refusal}")?;

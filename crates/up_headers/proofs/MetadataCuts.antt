@@ -4,7 +4,7 @@ use Rattle.std.specs.List.{list_all}
 use Rattle.std.proofs.lemmas.List.{reverse-append, reverse-reverse}
 use Rattle.std.proofs.lemmas.Bool.{eq-eqb}
 use Rattle.up_headers.specs.Reading.{key_of, value_of}
-use Rattle.up_headers.specs.Words.{is_space, is_no_space, AreSpaces, EndsWord, skip_spaces, from_space, trim_end}
+use Rattle.up_headers.specs.Words.{is_space, is_no_space, AreSpaces, EndsWord, skip_spaces, from_space, trim_end_spaces}
 use Rattle.up_headers.proofs.MetadataTexts.{split_at, drop_first}
 use Rattle.up_headers.proofs.WordLemmas.{first_space, taken}
 use Rattle.up_headers.proofs.MetadataParts.{all_reverse}
@@ -56,5 +56,5 @@ parted part =
       is_key = taken (skip_spaces part) t.front t.whole;
       is_rest = u.whole ∙ ap (λ b. u.front ++ b) (sym (reverse-reverse behind) ∙ ap reverse v.whole ∙ reverse-append v.front (skip_spaces (reverse behind)));
       spelled = s.whole ∙ ap (λ b. s.front ++ b) t.whole;
-      apart = λ none. ap trim_end (no_value (from_space (skip_spaces part)) behind u.front ends u.whole refl none);
+      apart = λ none. ap trim_end_spaces (no_value (from_space (skip_spaces part)) behind u.front ends u.whole refl none);
     }

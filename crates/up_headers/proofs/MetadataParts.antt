@@ -12,7 +12,7 @@ use Rattle.base64.proofs.EngineFacts.{decode_of-encode_of}
 use Rattle.up_headers.specs.declared.metadata_fault.MetadataFault.TheVariants as Fault
 use Rattle.up_headers.specs.Metadata.{Pair, IsPart, has_key}
 use Rattle.up_headers.specs.Reading.{key_of, value_of, with_value, part_reading}
-use Rattle.up_headers.specs.Words.{is_space, is_no_space, AreSpaces, skip_spaces, from_space, trim_end, until_space}
+use Rattle.up_headers.specs.Words.{is_space, is_no_space, AreSpaces, skip_spaces, from_space, trim_end_spaces, until_space}
 use Rattle.up_headers.proofs.WordLemmas.{word_stays, all_spaces, word_taken}
 use Rattle.up_headers.proofs.MetadataTexts.{all_first, all_rest, all_append, drop_through, drop_none, not_true}
 
@@ -80,7 +80,7 @@ all_reverse test (b ∷ bs) all =
     ∙ all_append test (reverse bs) (b ∷ []) (all_reverse test bs (all_rest test b bs all)) (both _ _ (all_first test b bs all) refl)
 
 -- spaces at the end go
-end_trimmed : (xs right : List ℕ) → list_all is_no_space xs ≡ true → AreSpaces right → trim_end (xs ++ right) ≡ xs
+end_trimmed : (xs right : List ℕ) → list_all is_no_space xs ≡ true → AreSpaces right → trim_end_spaces (xs ++ right) ≡ xs
 end_trimmed xs right all spaces =
     ap (λ t. reverse (skip_spaces t)) (reverse-append xs right)
     ∙ ap reverse (drop_through is_space (reverse right) (reverse xs) (all_reverse is_space right spaces))
@@ -88,10 +88,10 @@ end_trimmed xs right all spaces =
     ∙ reverse-reverse xs
 
 -- a text without spaces is left of one with spaces behind
-trimmed : (xs right : List ℕ) → list_all is_no_space xs ≡ true → AreSpaces right → trim_end (skip_spaces (xs ++ right)) ≡ xs
-trimmed [] right all spaces = ap trim_end (all_spaces right spaces)
+trimmed : (xs right : List ℕ) → list_all is_no_space xs ≡ true → AreSpaces right → trim_end_spaces (skip_spaces (xs ++ right)) ≡ xs
+trimmed [] right all spaces = ap trim_end_spaces (all_spaces right spaces)
 trimmed (b ∷ bs) right all spaces =
-    ap trim_end (drop_none is_space b (bs ++ right) (not_true (b == 32) (all_first is_no_space b bs all))) ∙ end_trimmed (b ∷ bs) right all spaces
+    ap trim_end_spaces (drop_none is_space b (bs ++ right) (not_true (b == 32) (all_first is_no_space b bs all))) ∙ end_trimmed (b ∷ bs) right all spaces
 
 -- of a part that is a pair these are the key and the encoding
 pub part_facts : (part : List ℕ) (pair : Pair) → IsPart part pair → (key_of part ≡ pair.0) × (value_of part ≡ encode_of standard pair.1)
@@ -104,8 +104,8 @@ part_facts part pair is =
     let found : from_space (pair.0 ++ text) ≡ text =
     drop_through is_no_space pair.0 text is.is_key.1 ∙ gap_stays is.gap encoded is.right is.spaces.1 is.spaces.2 none in (
       ap until_space skipped ∙ word_taken pair.0 text found,
-      ap (λ t. trim_end (skip_spaces (from_space t))) skipped ∙ ap (λ t. trim_end (skip_spaces t)) found
-          ∙ ap trim_end (drop_through is_space is.gap (encoded ++ is.right) is.spaces.1)
+      ap (λ t. trim_end_spaces (skip_spaces (from_space t))) skipped ∙ ap (λ t. trim_end_spaces (skip_spaces t)) found
+          ∙ ap trim_end_spaces (drop_through is_space is.gap (encoded ++ is.right) is.spaces.1)
           ∙ trimmed encoded is.right (encoding_no_space pair.1) is.spaces.2,
     )
   where

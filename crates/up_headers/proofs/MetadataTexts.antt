@@ -78,11 +78,6 @@ pub all_append : (test : ℕ → Bool) (xs ys : List ℕ) → list_all test xs �
 all_append test [] ys all more = more
 all_append test (x ∷ xs) ys all more = ap (λ t. t && list_all test (xs ++ ys)) (all_first test x xs all) ∙ all_append test xs ys (all_rest test x xs all) more
 
--- the back of what passes
-pub all_back : (test : ℕ → Bool) (xs ys : List ℕ) → list_all test (xs ++ ys) ≡ true → list_all test ys ≡ true
-all_back test [] ys all = all
-all_back test (x ∷ xs) ys all = all_back test xs ys (all_rest test x (xs ++ ys) all)
-
 -- a byte more in the first part, joined
 joined_first : (b : ℕ) (parts : List (List ℕ)) → with_commas (cons_first b parts) ≡ b ∷ with_commas parts
 joined_first b [] = refl

@@ -1,11 +1,10 @@
 -- The PATCH of an upload (tus 1.0.0, PATCH).
-use Rattle.std.specs.Prelude.{ℕ, ◌-◌, ◌^◌, ◌==◌, Bool, List, reverse, codes, Option, Some, None, Result, Ok, Err, if◌then◌else◌, min}
+use Rattle.std.specs.Prelude.{ℕ, ◌-◌, ◌^◌, ◌==◌, Bool, List, codes, Option, Some, None, Result, Ok, Err, if◌then◌else◌, min}
 use Rattle.std.specs.List.{before_first}
 use Rattle.std.specs.Str.Parse.{digits_value}
 use Rattle.httparse.specs.Ascii.{semicolon}
-use Rattle.httparse.specs.Grammar.{skip_ows}
 use Rattle.up_wire.specs.Digits.{is_digits}
-use Rattle.up_wire.specs.Fields.{Field, same_name}
+use Rattle.up_wire.specs.Fields.{Field, same_name, trim_end_ows}
 use Rattle.up_headers.specs.declared.request.Patch.{Patch}
 use Rattle.up_headers.specs.declared.request.NotDigits.{NotDigits}
 use Rattle.up_headers.specs.Fields.{stands, value_in}
@@ -14,13 +13,9 @@ use Rattle.up_headers.specs.Fields.{stands, value_in}
 abbrev pub before_semicolon : List ℕ → List ℕ
 before_semicolon text = before_first (λ b. b == semicolon) text
 
--- the text without spaces and tabs at its end
-abbrev pub trim_end : List ℕ → List ℕ
-trim_end text = reverse (skip_ows (reverse text))
-
 -- whether a content type, whatever its parameters, is the one of a PATCH
 abbrev pub is_media : List ℕ → Bool
-is_media text = same_name (trim_end (before_semicolon text)) (codes "application/offset+octet-stream")
+is_media text = same_name (trim_end_ows (before_semicolon text)) (codes "application/offset+octet-stream")
 
 -- the number that the digits spell, at most 2^64 - 1
 abbrev pub number_of : List ℕ → Option ℕ

@@ -8,7 +8,7 @@ use Rattle.up_wire.specs.Fields.{split_commas}
 use Rattle.up_headers.specs.declared.metadata_fault.MetadataFault.{MetadataFault}
 use Rattle.up_headers.specs.declared.metadata_fault.MetadataFault.TheVariants as Fault
 use Rattle.up_headers.specs.Metadata.{Pair, has_key, ReadsPairs, HasFault}
-use Rattle.up_headers.specs.Words.{skip_spaces, trim_end, first_word, behind_word}
+use Rattle.up_headers.specs.Words.{skip_spaces, trim_end_spaces, first_word, behind_word}
 
 -- the key of a part, which may be empty
 abbrev pub key_of : List ℕ → List ℕ
@@ -16,7 +16,7 @@ key_of part = first_word part
 
 -- what stands for a part's value
 abbrev pub value_of : List ℕ → List ℕ
-value_of part = trim_end (skip_spaces (behind_word part))
+value_of part = trim_end_spaces (skip_spaces (behind_word part))
 
 -- the pair of a key and what its value decodes to
 abbrev pub with_value : List ℕ → Result (List ℕ) DecodeError → Result Pair MetadataFault

@@ -49,8 +49,8 @@ abbrev pub from_space : List ℕ → List ℕ
 from_space text = drop_while is_no_space text
 
 -- without the spaces at the end
-abbrev pub trim_end : List ℕ → List ℕ
-trim_end text = reverse (skip_spaces (reverse text))
+abbrev pub trim_end_spaces : List ℕ → List ℕ
+trim_end_spaces text = reverse (skip_spaces (reverse text))
 
 -- up to the first space
 abbrev pub until_space : List ℕ → List ℕ

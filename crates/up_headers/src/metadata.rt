@@ -6,11 +6,11 @@ ghost use Rattle.base64.specs.Engines.{standard};
 ghost use Rattle.base64.specs.GeneralPurpose.{decode_of};
 ghost use Rattle.up_headers.specs.Metadata.{ReadsPairs, IsRefusal};
 ghost use Rattle.up_headers.specs.Reading.{Answers, reading, parts_of, with_value};
-ghost use Rattle.up_headers.specs.Words.{skip_spaces, trim_end};
+ghost use Rattle.up_headers.specs.Words.{skip_spaces, trim_end_spaces};
 
 use crate::metadata_fault::MetadataFault;
 use crate::request::Pairs;
-use crate::words::{first_word, skip_spaces, trim_end};
+use crate::words::{first_word, skip_spaces, trim_end_spaces};
 use base64::DecodeAllocError;
 use base64::engine::general_purpose::STANDARD;
 use std::alloc::Global;
@@ -23,9 +23,9 @@ fn read_pair(
     key: &[u8],
     behind: &[u8],
 ) -> Result<(Sequence<u8>, Sequence<u8>), MetadataFault>
-    ensures { Answers result (with_value key.now (decode_of standard (trim_end (skip_spaces behind.now)))) }
+    ensures { Answers result (with_value key.now (decode_of standard (trim_end_spaces (skip_spaces behind.now)))) }
 {
-    match STANDARD.decode(alloc, trim_end(skip_spaces(behind))) {
+    match STANDARD.decode(alloc, trim_end_spaces(skip_spaces(behind))) {
         Ok(value) => Ok((Sequence::from_slice(alloc, key)?, Sequence::from_vec(value))),
         Err(DecodeAllocError::DecodeError(_)) => Err(MetadataFault::BadValue),
         Err(DecodeAllocError::OutOfMemory) => Err(MetadataFault::NoMemory),

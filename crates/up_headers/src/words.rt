@@ -1,6 +1,6 @@
 //! Words between spaces.
 ghost use Rattle.std.specs.Prelude.{◌≡◌};
-ghost use Rattle.up_headers.specs.Words.{IsFirstWord, skip_spaces, from_space, trim_end};
+ghost use Rattle.up_headers.specs.Words.{IsFirstWord, skip_spaces, from_space, trim_end_spaces};
 
 /// The text behind the spaces at its front.
 pub(crate) fn skip_spaces(mut text: &[u8]) -> &[u8]
@@ -27,8 +27,8 @@ fn from_space(mut text: &[u8]) -> &[u8]
 }
 
 /// The text without the spaces at its end.
-pub(crate) fn trim_end(mut text: &[u8]) -> &[u8]
-    ensures { result.now ≡ trim_end text.now }
+pub(crate) fn trim_end_spaces(mut text: &[u8]) -> &[u8]
+    ensures { result.now ≡ trim_end_spaces text.now }
 {
     while let [rest @ .., last] = text
         && *last == b' '

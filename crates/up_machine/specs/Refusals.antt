@@ -1,8 +1,8 @@
 -- What is answered to a request that is refused.
 use Rattle.std.specs.Prelude.{◌++◌, codes}
-use Rattle.up_machine.specs.Responses.{out_of_memory, refused_with}
 use Rattle.up_machine.specs.declared.refusal.Refusal.{Refusal}
 use Rattle.up_machine.specs.declared.refusal.Refusal.TheVariants as refusal
+use Rattle.up_wire.specs.Refused.{out_of_memory, refused_with}
 use Rattle.up_wire.specs.declared.response.Response.{Response}
 
 -- the response to each refusal: its status, and a line with its number and name, or with the reason of a closure

@@ -3,10 +3,8 @@ use Rattle.std.specs.Prelude.{ℕ, ◌++◌, List, [], ◌∷◌, Option, Some, 
 use Rattle.up_events.specs.IdText.{text_of}
 use Rattle.up_machine.specs.Content.{Content}
 use Rattle.up_wire.specs.Fields.{Field}
+use Rattle.up_wire.specs.Refused.{answered}
 use Rattle.up_wire.specs.declared.response.Response.{Response}
-
-abbrev pub answered : ℕ → List Field → List ℕ → Response
-answered status fields body = record { status = status; fields = fields; body = body }
 
 -- an upload was made
 abbrev pub created : ℕ → Response
@@ -53,15 +51,3 @@ version = (codes "Tus-Version", codes "1.0.0")
 abbrev pub can_do : ℕ → Response
 can_do max_size =
     answered 204 (version ∷ (codes "Tus-Extension", codes "creation,creation-defer-length,termination,concatenation") ∷ (codes "Tus-Max-Size", decimal max_size) ∷ []) []
-
--- the type of every text that is answered
-abbrev pub plain_text : Field
-plain_text = (codes "Content-Type", codes "text/plain")
-
--- a request was refused, in the words of this text
-abbrev pub refused_with : ℕ → List ℕ → Response
-refused_with status text = answered status (plain_text ∷ []) text
-
--- memory is wanting
-abbrev pub out_of_memory : Response
-out_of_memory = answered 503 [] []

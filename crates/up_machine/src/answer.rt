@@ -1,7 +1,8 @@
 //! The responses, each made before anything is changed.
 ghost use Rattle.std.specs.Prelude.{◌≡◌, ◌++◌, ◌∷◌, [], codes, decimal, Some, IfOk};
 ghost use Rattle.std.specs.Option.{option_copied};
-ghost use Rattle.up_machine.specs.Responses.{answered, created, reached_offset, removed, standing, downloaded, can_do, refused_with, out_of_memory, field_of, size_field};
+ghost use Rattle.up_machine.specs.Responses.{created, reached_offset, removed, standing, downloaded, can_do, field_of, size_field};
+ghost use Rattle.up_wire.specs.Refused.{refused_with};
 
 use crate::reason::Reason;
 use crate::upload::Upload;
@@ -105,30 +106,14 @@ pub fn to_get(alloc: Global, upload: &Upload) -> Result<Response, NoMemory>
     )
 }
 
-/// To a request that was refused: why, as plain text.
-pub fn refused(alloc: Global, status: u16, text: &'static str) -> Result<Response, NoMemory>
-    ensures { IfOk result (λ made. made ≡ refused_with status text.now) }
-{
-    let response = Response::new(alloc, status).with_field(alloc, b"Content-Type", b"text/plain")?;
-    Ok(response.with_body(Bytes::from_static(text.as_bytes())))
-}
-
 /// To a request that a closure refuses: why, in the closure's words.
 pub fn refused_because(alloc: Global, status: u16, reason: &Reason) -> Result<Response, NoMemory>
     ensures { IfOk result (λ made. made ≡ refused_with status (reason.now ++ codes "\n")) }
 {
     let mut text = Vec::from_slice(alloc, reason.bytes())?;
     text.push(b'\n')?;
-    let response = Response::new(alloc, status).with_field(alloc, b"Content-Type", b"text/plain")?;
     match Bytes::from_vec(text) {
-        Ok(body) => Ok(response.with_body(body)),
+        Ok(body) => Ok(Response::new(alloc, status).with_plain_text(alloc, body)?),
         Err(_) => Err(NoMemory),
     }
-}
-
-/// To a request for which there was no memory (RFC 9110, section 15.6.4). Takes no memory itself.
-pub fn out_of_memory(alloc: Global) -> Response
-    ensures { result ≡ out_of_memory }
-{
-    Response::new(alloc, 503)
 }

@@ -104,7 +104,7 @@ pub fn response_of(alloc: Global, refusal: &Refusal) -> Result<Response, NoMemor
         ),
         Refusal::IdTaken => (500, "32 IdTaken\n"),
         Refusal::Unfinished => (409, "33 Unfinished\n"),
-        Refusal::NoMemory => return Ok(answer::out_of_memory(alloc)),
+        Refusal::NoMemory => return Ok(Response::out_of_memory(alloc)),
     };
-    answer::refused(alloc, status, text)
+    Ok(Response::refused(alloc, status, text)?)
 }

@@ -7,7 +7,6 @@ use Rattle.up_headers.specs.declared.request.Request.{Request}
 use Rattle.up_headers.specs.declared.request.Request.TheVariants as request
 use Rattle.up_machine.specs.Decision.{decide, decide_plan, is_refusal}
 use Rattle.up_machine.specs.Refusals.{response_of}
-use Rattle.up_machine.specs.Responses.{out_of_memory}
 use Rattle.up_machine.specs.State.{State, after}
 use Rattle.up_machine.specs.declared.ask.Ask.{Ask}
 use Rattle.up_machine.specs.declared.plan.Asked.{Asked}
@@ -18,6 +17,7 @@ use Rattle.up_machine.specs.declared.plan.Done.{Done}
 use Rattle.up_machine.specs.declared.refusal.Refusal.{Refusal}
 use Rattle.up_server.specs.Passage.{Passage, IsFrom}
 use Rattle.up_server.specs.declared.feed.LaneReport.{LaneReport}
+use Rattle.up_wire.specs.Refused.{out_of_memory}
 use Rattle.up_wire.specs.declared.response.Response.{Response}
 
 pub record Course : Type 0 where

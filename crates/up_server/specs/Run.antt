@@ -55,7 +55,7 @@ IsReported served before after (Ok done) =
     HasEndedWell served.ended × Appends before.bytes after.bytes (report_text served.report) × (any_stopped served.report.lanes.items ≡ false)
 IsReported served before after (Err Fault.Memory) = ⊥
 IsReported served before after (Err Fault.Write) =
-    ((served.ended ≡ WriteFailed) × (after ≡ before)) ⊎ (WritesFront before.bytes after.bytes (report_text served.report) × GaveUp after.has_failed after.interruptions)
+    ((served.ended ≡ WriteFailed) × (after ≡ before)) ⊎ (WritesFront before.bytes after.bytes (report_text served.report) × GaveUp after after.interruptions)
 IsReported served before after (Err Fault.Read) = (served.ended ≡ ReadFailed) × Appends before.bytes after.bytes (report_text served.report)
 IsReported served before after (Err Fault.Stopped) =
     HasEndedWell served.ended × Appends before.bytes after.bytes (report_text served.report) × (any_stopped served.report.lanes.items ≡ true)

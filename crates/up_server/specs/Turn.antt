@@ -11,7 +11,7 @@ use Rattle.up_server.specs.Replies.{IsReply, reply_to_header_fault, reply_to_wir
 use Rattle.up_server.specs.declared.conversation.TheConstants.{MOST_MESSAGES}
 use Rattle.up_server.specs.declared.conversation.Ended.{Ended}
 use Rattle.up_server.specs.declared.conversation.Ended.TheVariants.{Closed, Cut, ReadFailed, WriteFailed}
-use Rattle.up_wire.specs.Device.{Device, GaveUp}
+use Rattle.up_wire.specs.Device.{Device, GaveUp, interrupted}
 use Rattle.up_wire.specs.Reading.{IsReading}
 use Rattle.up_wire.specs.Response.{WritesFront, response_text}
 use Rattle.up_wire.specs.declared.message.Message.{Message}
@@ -58,7 +58,7 @@ Sends before after text close (Some Closed) = (close ≡ true) × Appends before
 Sends before after text close (Some Cut) = ⊥
 Sends before after text close (Some ReadFailed) = ⊥
 Sends before after text close (Some WriteFailed) =
-    WritesFront before.bytes after.bytes text × GaveUp after.has_failed (after.interruptions - before.interruptions)
+    WritesFront before.bytes after.bytes text × GaveUp after (interrupted before after)
 
 -- the faults that are not answered, and how the conversation then ended
 abbrev pub unanswered : WireFault → Option Ended

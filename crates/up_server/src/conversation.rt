@@ -1,6 +1,5 @@
 //! One conversation: each message is read, decided and answered before the next.
 ghost use Rattle.std.specs.Prelude.{◌≡◌, ◌+◌, ◌<◌, ◌≤◌, ◌^◌};
-ghost use Rattle.up_wire.specs.Device.{device};
 ghost use Rattle.up_hooks.specs.Gives.{ClosuresGive};
 ghost use Rattle.up_wire.specs.Response.{response_text};
 ghost use Rattle.up_server.specs.Turn.{IsTurn, IsCutTurn, Converses, GoesOn, Sends, TakesTurn, unanswered};
@@ -93,8 +92,7 @@ fn unanswered(fault: WireFault) -> Option<Ended>
 
 /// Writes a response, and tells how the conversation ended if it did.
 fn send<W: Sink>(sink: &mut W, response: &Response, bare: bool, close: bool) -> Option<Ended>
-    ensures { Sends (device (W.written sink.old) (W.has_failed sink.old) (W.interruptions sink.old))
-        (device (W.written sink.new) (W.has_failed sink.new) (W.interruptions sink.new))
+    ensures { Sends (W.device sink.old) (W.device sink.new)
         (response_text response.now bare close) close result }
 {
     match write_response(sink, response, bare, close) {
@@ -119,13 +117,13 @@ fn take_turn<H: PostHook + Drop, R: Source, W: Sink>(
     ensures turn { TakesTurn (ClosuresGive hooks.now) max_size is_last
         (record {
           course = dispatcher.old;
-          source = device (R.left source.old) (R.has_failed source.old) (R.interruptions source.old);
-          sink = device (W.written sink.old) (W.has_failed sink.old) (W.interruptions sink.old);
+          source = R.device source.old;
+          sink = W.device sink.old;
         })
         (record {
           course = dispatcher.new;
-          source = device (R.left source.new) (R.has_failed source.new) (R.interruptions source.new);
-          sink = device (W.written sink.new) (W.has_failed sink.new) (W.interruptions sink.new);
+          source = R.device source.new;
+          sink = W.device sink.new;
         })
         result }
     ensures goes_on { GoesOn 1 dispatcher.old dispatcher.new }
@@ -168,13 +166,13 @@ pub fn converse<H: PostHook + Drop, R: Source, W: Sink>(
     ensures turns { Converses (ClosuresGive hooks.now) max_size
         (record {
           course = dispatcher.old;
-          source = device (R.left source.old) (R.has_failed source.old) (R.interruptions source.old);
-          sink = device (W.written sink.old) (W.has_failed sink.old) (W.interruptions sink.old);
+          source = R.device source.old;
+          sink = W.device sink.old;
         })
         (record {
           course = dispatcher.new;
-          source = device (R.left source.new) (R.has_failed source.new) (R.interruptions source.new);
-          sink = device (W.written sink.new) (W.has_failed sink.new) (W.interruptions sink.new);
+          source = R.device source.new;
+          sink = W.device sink.new;
         })
         result }
     ensures goes_on { GoesOn MOST_MESSAGES dispatcher.old dispatcher.new }

@@ -1,7 +1,6 @@
 //! What is answered where a message or a request is refused.
-ghost use Rattle.std.specs.Prelude.{◌≡◌, ◌++◌, ◌∷◌, [], IfOk};
+ghost use Rattle.std.specs.Prelude.{◌≡◌, IfOk};
 ghost use Rattle.up_machine.specs.Refusals.{response_of};
-ghost use Rattle.up_machine.specs.Responses.{out_of_memory, plain_text, refused_with};
 ghost use Rattle.up_server.specs.Replies.{IsReply, method_refused_with, reply_to_header_fault, reply_to_wire_fault, version_refused_with};
 
 use bytes::Bytes;
@@ -10,31 +9,12 @@ use up_headers::HeaderFault;
 use up_machine::{Refusal, response_of};
 use up_wire::{Response, WireFault};
 
-/// With a text that says why, behind the fields that there are.
-fn with_reason(
-    response: Response,
-    alloc: Global,
-    text: &'static str,
-) -> Result<Response, AllocError>
-    ensures { IfOk result (λ made. made ≡ record response { fields = response.fields ++ plain_text ∷ []; body = text.now }) }
-{
-    let response = response.with_field(alloc, b"Content-Type", b"text/plain")?;
-    Ok(response.with_body(Bytes::from_static(text.as_bytes())))
-}
-
-/// To a message that is refused: why, as plain text.
-fn refused(alloc: Global, status: u16, text: &'static str) -> Result<Response, AllocError>
-    ensures { IfOk result (λ made. made ≡ refused_with status text.now) }
-{
-    with_reason(Response::new(alloc, status), alloc, text)
-}
-
 /// To a message of another version of the protocol: which version there is (tus 1.0.0, Tus-Version), and why.
 fn version_refused(alloc: Global, status: u16, text: &'static str) -> Result<Response, AllocError>
     ensures { IfOk result (λ made. made ≡ version_refused_with status text.now) }
 {
     let response = Response::new(alloc, status).with_field(alloc, b"Tus-Version", b"1.0.0")?;
-    with_reason(response, alloc, text)
+    response.with_plain_text(alloc, Bytes::from_static(text.as_bytes()))
 }
 
 /// To a message whose method is refused: which methods there are at an upload or at the creation URL (RFC 9110,
@@ -53,25 +33,22 @@ fn method_refused(
         b"OPTIONS, POST"
     };
     let response = Response::new(alloc, status).with_field(alloc, b"Allow", methods)?;
-    with_reason(response, alloc, text)
+    response.with_plain_text(alloc, Bytes::from_static(text.as_bytes()))
 }
 
-/// Where memory is wanting (RFC 9110, section 15.6.4). Takes no memory itself.
-fn out_of_memory(alloc: Global) -> Response
-    ensures { result ≡ out_of_memory }
-{
-    Response::new(alloc, 503)
-}
-
-/// What is answered to a message that can't be read. Where memory is wanting, that is answered instead.
+/// What is answered to a message that can't be read. Where memory is wanting, that is answered instead; and so it is for
+/// a fault that isn't answered.
 pub fn reply_to_wire_fault(alloc: Global, fault: WireFault) -> Response
     ensures { IsReply (reply_to_wire_fault fault) result }
 {
-    let made = match fault {
-        WireFault::NoMemory => return out_of_memory(alloc),
-        _ => refused(alloc, fault.status(), fault.text()),
+    let Some(status) = fault.status() else {
+        return Response::out_of_memory(alloc);
     };
-    made.unwrap_or(out_of_memory(alloc))
+    let made = match fault {
+        WireFault::NoMemory => return Response::out_of_memory(alloc),
+        _ => Response::refused(alloc, status, fault.text()),
+    };
+    made.unwrap_or(Response::out_of_memory(alloc))
 }
 
 /// What is answered to a message that is no request. Where memory is wanting, that is answered instead.
@@ -79,21 +56,21 @@ pub fn reply_to_header_fault(alloc: Global, fault: HeaderFault) -> Response
     ensures { IsReply (reply_to_header_fault fault) result }
 {
     let made = match fault {
-        HeaderFault::NoMemory => return out_of_memory(alloc),
+        HeaderFault::NoMemory => return Response::out_of_memory(alloc),
         HeaderFault::Version => version_refused(alloc, fault.status(), fault.text()),
         HeaderFault::Method { of_upload } => {
             method_refused(alloc, fault.status(), fault.text(), of_upload)
         }
-        _ => refused(alloc, fault.status(), fault.text()),
+        _ => Response::refused(alloc, fault.status(), fault.text()),
     };
-    made.unwrap_or(out_of_memory(alloc))
+    made.unwrap_or(Response::out_of_memory(alloc))
 }
 
 /// What is answered to a request that is refused. Where memory is wanting, that is answered instead.
 pub fn reply_to_refusal(alloc: Global, refusal: &Refusal) -> Response
     ensures { IsReply (response_of refusal.now) result }
 {
-    response_of(alloc, refusal).unwrap_or(out_of_memory(alloc))
+    response_of(alloc, refusal).unwrap_or(Response::out_of_memory(alloc))
 }
 
 #[cfg(test)]

@@ -18,8 +18,9 @@ pub fn write_report<F, W: Sink>(
     sink: &mut W,
     report: &Report<Recorder<F>>,
 ) -> Result<(), WriteFailed>
-    ensures written { Writes (W.written sink.old) (W.written sink.new) (report_text report.now) result }
-    ensures failed { OnErr result (GaveUp (W.has_failed sink.new) (W.interruptions sink.new)) }
+    ensures written { Writes (W.device sink.old).bytes (W.device sink.new).bytes
+        (report_text report.now) result }
+    ensures failed { OnErr result (GaveUp (W.device sink.new) (W.device sink.new).interruptions) }
 {
     write_count(sink, report.accepted.len())?;
     write_lanes(sink, report.lanes.as_slice())?;
@@ -28,8 +29,9 @@ pub fn write_report<F, W: Sink>(
 
 /// Writes the number of accepted changes.
 fn write_count<W: Sink>(sink: &mut W, count: usize) -> Result<(), WriteFailed>
-    ensures written { Writes (W.written sink.old) (W.written sink.new) (count_line count) result }
-    ensures failed { OnErr result (GaveUp (W.has_failed sink.new) (W.interruptions sink.new)) }
+    ensures written { Writes (W.device sink.old).bytes (W.device sink.new).bytes
+        (count_line count) result }
+    ensures failed { OnErr result (GaveUp (W.device sink.new) (W.device sink.new).interruptions) }
 {
     let mut digits = Buffer::new();
     let pieces: [&[u8]; 3] = [b"\naccepted ", digits.format(count).as_bytes(), b"\n"];
@@ -41,8 +43,9 @@ fn write_lanes<F, W: Sink>(
     sink: &mut W,
     lanes: &[LaneReport<Recorder<F>>],
 ) -> Result<(), WriteFailed>
-    ensures written { Writes (W.written sink.old) (W.written sink.new) (lanes_text 0 lanes.now) result }
-    ensures failed { OnErr result (GaveUp (W.has_failed sink.new) (W.interruptions sink.new)) }
+    ensures written { Writes (W.device sink.old).bytes (W.device sink.new).bytes
+        (lanes_text 0 lanes.now) result }
+    ensures failed { OnErr result (GaveUp (W.device sink.new) (W.device sink.new).interruptions) }
 {
     for (number, lane) in lanes.iter().enumerate() {
         write_lane(sink, number, lane)?;
@@ -56,8 +59,9 @@ fn write_lane<F, W: Sink>(
     number: usize,
     lane: &LaneReport<Recorder<F>>,
 ) -> Result<(), WriteFailed>
-    ensures written { Writes (W.written sink.old) (W.written sink.new) (lane_text number lane.now) result }
-    ensures failed { OnErr result (GaveUp (W.has_failed sink.new) (W.interruptions sink.new)) }
+    ensures written { Writes (W.device sink.old).bytes (W.device sink.new).bytes
+        (lane_text number lane.now) result }
+    ensures failed { OnErr result (GaveUp (W.device sink.new) (W.device sink.new).interruptions) }
 {
     write_lane_line(sink, number, lane)?;
     write_events(sink, lane.hook.list())
@@ -77,8 +81,9 @@ fn write_lane_line<F, W: Sink>(
     number: usize,
     lane: &LaneReport<Recorder<F>>,
 ) -> Result<(), WriteFailed>
-    ensures written { Writes (W.written sink.old) (W.written sink.new) (lane_line number lane.now) result }
-    ensures failed { OnErr result (GaveUp (W.has_failed sink.new) (W.interruptions sink.new)) }
+    ensures written { Writes (W.device sink.old).bytes (W.device sink.new).bytes
+        (lane_line number lane.now) result }
+    ensures failed { OnErr result (GaveUp (W.device sink.new) (W.device sink.new).interruptions) }
 {
     let mut digits = Buffer::new();
     let mut handed = Buffer::new();
@@ -93,8 +98,9 @@ fn write_lane_line<F, W: Sink>(
 }
 
 fn write_events<W: Sink>(sink: &mut W, events: &[(Event, Outcome)]) -> Result<(), WriteFailed>
-    ensures written { Writes (W.written sink.old) (W.written sink.new) (flat_map event_line events.now) result }
-    ensures failed { OnErr result (GaveUp (W.has_failed sink.new) (W.interruptions sink.new)) }
+    ensures written { Writes (W.device sink.old).bytes (W.device sink.new).bytes
+        (flat_map event_line events.now) result }
+    ensures failed { OnErr result (GaveUp (W.device sink.new) (W.device sink.new).interruptions) }
 {
     for event in events {
         write_event(sink, event)?;
@@ -104,8 +110,9 @@ fn write_events<W: Sink>(sink: &mut W, events: &[(Event, Outcome)]) -> Result<()
 
 /// Writes an event, and what its post-hook answered.
 fn write_event<W: Sink>(sink: &mut W, told: &(Event, Outcome)) -> Result<(), WriteFailed>
-    ensures written { Writes (W.written sink.old) (W.written sink.new) (event_line told.now) result }
-    ensures failed { OnErr result (GaveUp (W.has_failed sink.new) (W.interruptions sink.new)) }
+    ensures written { Writes (W.device sink.old).bytes (W.device sink.new).bytes
+        (event_line told.now) result }
+    ensures failed { OnErr result (GaveUp (W.device sink.new) (W.device sink.new).interruptions) }
 {
     write_event_text(sink, &told.0)?;
     write_outcome(sink, told.1)
@@ -123,8 +130,9 @@ fn length_text(digits: &mut Buffer, length: Option<u64>) -> &[u8]
 
 /// Writes an event: its id, number, hook, offset and length.
 fn write_event_text<W: Sink>(sink: &mut W, event: &Event) -> Result<(), WriteFailed>
-    ensures written { Writes (W.written sink.old) (W.written sink.new) (event_text event.now) result }
-    ensures failed { OnErr result (GaveUp (W.has_failed sink.new) (W.interruptions sink.new)) }
+    ensures written { Writes (W.device sink.old).bytes (W.device sink.new).bytes
+        (event_text event.now) result }
+    ensures failed { OnErr result (GaveUp (W.device sink.new) (W.device sink.new).interruptions) }
 {
     let text = event.id.text();
     let mut number = Buffer::new();
@@ -146,8 +154,9 @@ fn write_event_text<W: Sink>(sink: &mut W, event: &Event) -> Result<(), WriteFai
 
 /// Writes what a post-hook answered, which ends the line of its event.
 fn write_outcome<W: Sink>(sink: &mut W, outcome: Outcome) -> Result<(), WriteFailed>
-    ensures written { Writes (W.written sink.old) (W.written sink.new) (outcome_of outcome) result }
-    ensures failed { OnErr result (GaveUp (W.has_failed sink.new) (W.interruptions sink.new)) }
+    ensures written { Writes (W.device sink.old).bytes (W.device sink.new).bytes
+        (outcome_of outcome) result }
+    ensures failed { OnErr result (GaveUp (W.device sink.new) (W.device sink.new).interruptions) }
 {
     let code = match outcome {
         Outcome::Done => return write_pieces(sink, &[b" done\n"]),

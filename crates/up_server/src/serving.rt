@@ -2,7 +2,7 @@
 ghost use Rattle.std.specs.Prelude.{◌≡◌, ◌⊎◌, [], All, Err, length, IfOk};
 ghost use Rattle.up_hooks.specs.Gives.{ClosuresGive};
 ghost use Rattle.up_hooks.specs.declared.recorder.Recorder.{Recorder};
-ghost use Rattle.up_wire.specs.Device.{Device, device};
+ghost use Rattle.up_wire.specs.Device.{Device};
 ghost use Rattle.up_server.specs.Run.{IsRun, IsReported, any_stopped, is_stopped};
 ghost use Rattle.up_server.specs.declared.serving.Served.{Served};
 
@@ -37,10 +37,10 @@ fn run<H: PostHook + Drop, R: Source, W: Sink>(
     requires new { All (λ hook. H.is_sound hook × (H.handed hook ≡ [])) lanes.items }
     ensures sound { IfOk result (λ served. All (λ lane. H.is_sound lane.hook) served.report.lanes.items) }
     ensures run { IfOk result (λ served. IsRun H.handed (ClosuresGive hooks.now) settings.now served
-        (device (R.left source.old) (R.has_failed source.old) (R.interruptions source.old))
-        (device (R.left source.new) (R.has_failed source.new) (R.interruptions source.new))
-        (device (W.written sink.old) (W.has_failed sink.old) (W.interruptions sink.old))
-        (device (W.written sink.new) (W.has_failed sink.new) (W.interruptions sink.new))) }
+        (R.device source.old)
+        (R.device source.new)
+        (W.device sink.old)
+        (W.device sink.new)) }
 {
     let mut dispatcher = Dispatcher::new(
         alloc,
@@ -78,8 +78,8 @@ fn any_stopped<H>(lanes: &[LaneReport<H>]) -> bool
 /// Writes the report behind the replies, where these were written, and tells the first thing that went wrong.
 fn tell<F, W: Sink>(sink: &mut W, served: &Served<Recorder<F>>) -> Result<(), ServerFault>
     ensures { IsReported served.now
-        (device (W.written sink.old) (W.has_failed sink.old) (W.interruptions sink.old))
-        (device (W.written sink.new) (W.has_failed sink.new) (W.interruptions sink.new))
+        (W.device sink.old)
+        (W.device sink.new)
         result }
 {
     match served.ended {
@@ -112,13 +112,13 @@ pub fn replay<F: Fn(&Event) -> Outcome + Send + Drop, R: Source, W: Sink>(
     requires new { All (λ r. ⟦<Recorder<F> as PostHook>⟧.is_sound r × (⟦<Recorder<F> as PostHook>⟧.handed r ≡ [])) recorders.items }
     ensures { (result ≡ Err ServerFault.Memory) ⊎ ((served : Served (Recorder F)) × (replied : Device)
         × IsRun ⟦<Recorder<F> as PostHook>⟧.handed (ClosuresGive hooks) settings.now served
-        (device (R.left source.old) (R.has_failed source.old) (R.interruptions source.old))
-        (device (R.left source.new) (R.has_failed source.new) (R.interruptions source.new))
-        (device (W.written sink.old) (W.has_failed sink.old) (W.interruptions sink.old))
+        (R.device source.old)
+        (R.device source.new)
+        (W.device sink.old)
         replied
         × All (λ lane. ⟦<Recorder<F> as PostHook>⟧.is_sound lane.hook) served.report.lanes.items
         × IsReported served replied
-        (device (W.written sink.new) (W.has_failed sink.new) (W.interruptions sink.new))
+        (W.device sink.new)
         result) }
 {
     let Ok(served) = run(alloc, &hooks, recorders, settings, source, sink) else {

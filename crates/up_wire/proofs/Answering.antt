@@ -1,5 +1,5 @@
 -- What the steps of reading a message make of it as a whole.
-use Rattle.std.proofs.Common.{◌≡◌, ℕ, ◌<◌, ◌≤◌, ◌⊎◌, Option, Bool, true, false, cond, eqb, leb, List, [], ◌∷◌, ◌++◌, Result, Ok, Err, refl, sym, ap, ◌∙◌, subst, arith, inl, inr}
+use Rattle.std.proofs.Common.{◌≡◌, ℕ, ◌<◌, ◌≤◌, ◌⊎◌, Bool, true, false, cond, eqb, leb, List, [], ◌∷◌, ◌++◌, Result, Ok, Err, refl, sym, ap, ◌∙◌, subst, arith, inl, inr}
 use Rattle.std.specs.Prelude.{codes, bytes_eq}
 use Rattle.std.proofs.Math.Nat.{eq-or-lt_of_le}
 use Rattle.std.specs.Str.Parse.{digits_value}
@@ -22,7 +22,7 @@ use Rattle.up_wire.specs.Reading.{IsInterimAtFault, IsDue, Shows, IsPatient, IsW
 use Rattle.up_wire.specs.Steps.{EndsSo, IsHeadFault, HasHead}
 
 -- what the source shows outside of a call, where it was interrupted in it if the call was too often
-pub shows_of : (ending : Ending) (source after : Device) (a b : ℕ) → EndsSo ending after.bytes after.has_failed a → a ≡ b
+pub shows_of : (ending : Ending) (source after : Device) (a b : ℕ) → EndsSo ending after a → a ≡ b
     → (max_interruptions ≤ a → source.interruptions < after.interruptions) → Shows ending source after b
 shows_of open_yet source after a b ends same rose = tt
 shows_of ended source after a b ends same rose = ends.0
@@ -30,10 +30,10 @@ shows_of failed source after a b (inl so, most) same rose = inl so
 shows_of failed source after a b (inr often, most) same rose = inr (omega (arith, often, most), rose often)
 
 -- a call that ends so is patient
-pub patient_of : (ending : Ending) (left : Option (List ℕ)) (has_failed : Bool) (a b : ℕ) (answer : Taken) → EndsSo ending left has_failed a → a ≡ b → IsPatient ending answer b
-patient_of open_yet left has_failed a b answer ends same = inl (omega arith)
-patient_of ended left has_failed a b answer ends same = inl (omega (arith, ends.1))
-patient_of failed left has_failed a b answer ends same = elim (eq-or-lt_of_le ends.1) [ inl all ↦ inr (omega (arith, all), inl refl) | inr less ↦ inl (omega (arith, less)) ]
+pub patient_of : (ending : Ending) (after : Device) (a b : ℕ) (answer : Taken) → EndsSo ending after a → a ≡ b → IsPatient ending answer b
+patient_of open_yet after a b answer ends same = inl (omega arith)
+patient_of ended after a b answer ends same = inl (omega (arith, ends.1))
+patient_of failed after a b answer ends same = elim (eq-or-lt_of_le ends.1) [ inl all ↦ inr (omega (arith, all), inl refl) | inr less ↦ inl (omega (arith, less)) ]
 
 -- a call that writes no more is patient
 pub patient_write : (ending : Ending) (bare : Bool) (a b : ℕ) → a ≤ max_interruptions → a ≡ b → IsPatient ending (Taken.Fault WriteFailed bare) b
@@ -41,11 +41,11 @@ patient_write ending bare a b most same =
     elim (eq-or-lt_of_le most) [ inl all ↦ inr (omega (arith, all), inr (bare, refl)) | inr less ↦ inl (omega (arith, less)) ]
 
 -- a call that goes on was interrupted less
-pub still_open : (ending : Ending) (left : Option (List ℕ)) (has_failed : Bool) (a : ℕ) → ending ≡ open_yet → EndsSo ending left has_failed a → a < max_interruptions
-still_open ending left has_failed a is ends = subst (λ e. EndsSo e left has_failed a) is ends
+pub still_open : (ending : Ending) (after : Device) (a : ℕ) → ending ≡ open_yet → EndsSo ending after a → a < max_interruptions
+still_open ending after a is ends = subst (λ e. EndsSo e after a) is ends
 
 -- a sink that was given up in a call
-pub broke : (before after : Device) (a b : ℕ) → GaveUp after.has_failed a → a ≤ max_interruptions → a ≡ b
+pub broke : (before after : Device) (a b : ℕ) → GaveUp after a → a ≤ max_interruptions → a ≡ b
     → (max_interruptions ≤ a → before.interruptions < after.interruptions) → Broke before after b
 broke before after a b (inl so) most same rose = inl so
 broke before after a b (inr often) most same rose = inr (omega (arith, often, most), rose often)

@@ -1,8 +1,9 @@
 -- Chunk lines and trailer sections that are read byte by byte.
-use Rattle.std.proofs.Common.{◌≡◌, ◌≢◌, ℕ, ◌+◌, ◌≤◌, ◌⊎◌, Bool, false, List, [], ◌∷◌, ◌++◌, All, IsTrue, length, Option, Some, None, Result, Ok, Err, refl, sym, ap, ◌∙◌, subst, arith, append_assoc, append-nil, true≢false, inl, inr}
-use Rattle.std.proofs.lemmas.List.{length-append}
+use Rattle.std.proofs.Common.{◌≡◌, ◌≢◌, ℕ, ◌≤◌, ◌⊎◌, Bool, false, List, [], ◌∷◌, ◌++◌, All, IsTrue, length, Option, Some, None, Result, Ok, Err, refl, sym, ap, ◌∙◌, subst, append_assoc, append-nil, true≢false, inl, inr}
 use Rattle.std.proofs.lemmas.List.Elements.{All-nil, All-cons, All-head, All-tail, All-append}
 use Rattle.std.specs.List.{flat_map}
+use Rattle.std.specs.Prelude.{Vec}
+use Rattle.std.specs.declared.alloc.Global.{Global}
 use Rattle.std.specs.Char.{is_ascii_hexdigit}
 use Rattle.httparse.specs.Grammar.{LineEnd, Field, print_field, print_section, ReadsSection, HasNoSection, NeverHasSection, is_ows, is_extension_byte, print_extension, IsExtension, ChunkLine, IsChunkLine, print_chunk_line, ReadsChunkLine, HasNoChunkLine, NeverHasChunkLine}
 use Rattle.httparse.specs.Ascii.{crlf_bytes}
@@ -14,7 +15,7 @@ use Rattle.up_wire.specs.declared.framing.Framing.TheVariants.{Chunked}
 use Rattle.up_wire.specs.Message.{Ending}
 use Rattle.up_wire.specs.Chunks.{AreChunks, IsTrailers, IsCutChunked, IsBadChunk}
 use Rattle.up_wire.specs.Limits.{max_head, max_fields}
-use Rattle.up_wire.specs.Steps.{IsStop, stopped, IsBodyRead, IsByteRead, IsCrlfRead}
+use Rattle.up_wire.specs.Steps.{IsStop, stopped, IsBodyRead, IsBounded, IsByteRead, IsCrlfRead}
 use Rattle.up_wire.proofs.Heads.{last_of, snoc_parts, section_ends}
 
 -- ---- trailer sections
@@ -36,15 +37,6 @@ no_section_yet front b none other fields last rest reads =
     let text = print_section fields last in
     let ends = section_ends [] (flat_map print_field fields) last in
     other (snoc_parts front ends.0 b 10 (reads.1 ∙ ap (λ r. text ++ r) whole ∙ append-nil text ∙ ends.1)).1
-
--- no bytes are no section
-pub no_section_at_first : HasNoSection []
-no_section_at_first fields last rest reads =
-    let text = print_section fields last in
-    let ends = section_ends [] (flat_map print_field fields) last in
-    let long : length text ≡ length ends.0 + 1 = ap length ends.1 ∙ length-append ends.0 (10 ∷ []) in
-    let whole : 0 ≡ length text + length rest = ap length reads.1 ∙ length-append text rest in
-    absurd (omega (arith, long, whole))
 
 -- a section that stands alone is within the limits
 pub trailers_alone : (text : List ℕ) (fields : List Field) (last : LineEnd) (rest : List ℕ) → ReadsSection text fields last rest → rest ≡ []
@@ -132,8 +124,8 @@ line_refused part all none more line rest reads =
 -- ---- the body
 
 -- a body that stops at a part of it
-pub stop_answer : (limit : ℕ) (input : List ℕ) (ending : Ending) (stop : Stop) (body : List ℕ) (cut bad : Type 0) (result : BodyRead)
-    → result ≡ stopped stop body → IsStop ending cut bad stop → (cut → IsCutChunked limit body input) → (bad → IsBadChunk limit input)
+pub stop_answer : (limit : ℕ) (input : List ℕ) (ending : Ending) (stop : Stop) (body : Vec ℕ Global) (cut bad : Type 0) (result : BodyRead)
+    → result ≡ stopped stop body → IsStop ending cut bad stop → (cut → IsCutChunked limit body.items input) → (bad → IsBadChunk limit input)
     → IsBodyRead limit Chunked input ending result
 stop_answer limit input ending Ended body cut bad result same is c b = subst (IsBodyRead limit Chunked input ending) (sym same) (c is.0, inl is.1)
 stop_answer limit input ending Failed body cut bad result same is c b = subst (IsBodyRead limit Chunked input ending) (sym same) (c is.0, inr is.1)
@@ -154,3 +146,9 @@ pub chunks_are : (body bytes run chunks line_text end : List ℕ) (line : ChunkL
 chunks_are body bytes run chunks line_text end line grown same ends next =
     subst (λ b. AreChunks b (chunks ++ (line_text ++ (run ++ end)))) (sym grown)
     (subst (AreChunks (body ++ run)) (λ i. chunks ++ (sym same i ++ (run ++ sym ends i))) next)
+
+-- a buffer to which bytes were read has little room still
+pub still_bounded : (done : Unit {0}) (result : Result (Unit {0}) Stop) (body : Vec ℕ Global) → result ≡ Ok done
+    → (result ≡ Err NoMemory) ⊎ IsBounded body → IsBounded body
+still_bounded done result body whole (inl wanting) = absurd (cc)
+still_bounded done result body whole (inr bounded) = bounded

@@ -6,6 +6,7 @@ pub mod BlankLines
 pub mod ChunkedTexts
 pub mod EmptyLines
 pub mod Answering
+pub mod Counting
 pub mod Writing
 pub mod OneAnswerTexts
 pub mod OneAnswerHeads

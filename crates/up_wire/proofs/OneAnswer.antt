@@ -9,7 +9,7 @@ use Rattle.up_wire.specs.declared.framing.Framing.{Framing}
 use Rattle.up_wire.specs.declared.framing.Framing.TheVariants.{Chunked}
 use Rattle.up_wire.specs.declared.message.Taken.{Taken}
 use Rattle.up_wire.specs.Message.{Ending, open_yet, ended, failed, IsHead, HasParts, framing_of, is_bare}
-use Rattle.up_wire.specs.Device.{Device, device}
+use Rattle.up_wire.specs.Device.{Device, device_of}
 use Rattle.up_wire.specs.Limits.{max_interruptions}
 use Rattle.up_wire.specs.Reading.{Shows}
 use Rattle.up_wire.specs.OneAnswer.{MayAnswer, IsSameAnswer, BreaksOff, MayStandFor, in_body, AreOne, HasOneAnswer, Reads, ReadingsAgree}
@@ -155,7 +155,7 @@ one_answer limit all end a b rest other of so x y =
 -- ---- two calls
 
 -- what no read failed for is open or ended
-stands_so : (before : Device) (rest : List ℕ) (ending : Ending) (after count : ℕ) → count < max_interruptions → Shows ending before (device (Some rest) false after) count
+stands_so : (before : Device) (rest : List ℕ) (ending : Ending) (after count : ℕ) → count < max_interruptions → Shows ending before (device_of (Some rest) false after) count
     → (ending ≡ open_yet) ⊎ ((rest ≡ []) × (ending ≡ ended))
 stands_so before rest open_yet after count patient shows = inl refl
 stands_so before rest ended after count patient shows = inr (shows, refl)

@@ -1,5 +1,5 @@
 -- What a call of a device does, as its callers see it.
-use Rattle.std.specs.Prelude.{◌≡◌, ◌≢◌, ℕ, ◌<◌, ◌≤◌, ◌⊎◌, Bool, true, false, List, [], ◌∷◌, ◌++◌, All, length, take, Option, Some, None, ⊤}
+use Rattle.std.specs.Prelude.{◌≡◌, ◌≢◌, ℕ, ◌+◌, ◌-◌, ◌<◌, ◌≤◌, ◌⊎◌, Bool, true, false, List, [], ◌∷◌, ◌++◌, All, length, take, Option, Some, None, ⊤}
 use Rattle.std.specs.Io.KnownBytes.{IsAtEnd}
 use Rattle.httparse.specs.Ascii.{line_feed}
 use Rattle.up_wire.specs.Limits.{max_interruptions}
@@ -16,12 +16,28 @@ pub record Device : Type 0 where
   pub has_failed : Bool
   pub interruptions : ℕ
 
-abbrev pub device : Option (List ℕ) → Bool → ℕ → Device
-device bytes has_failed interruptions = record { bytes = bytes; has_failed = has_failed; interruptions = interruptions }
+abbrev pub device_of : Option (List ℕ) → Bool → ℕ → Device
+device_of bytes has_failed interruptions = record { bytes = bytes; has_failed = has_failed; interruptions = interruptions }
 
--- a device failed, or a call was interrupted too often
-abbrev pub GaveUp : Bool → ℕ → Type 0
-GaveUp has_failed count = (has_failed ≡ true) ⊎ (max_interruptions ≤ count)
+-- how often a device was interrupted in a call
+abbrev pub interrupted : Device → Device → ℕ
+interrupted before after = after.interruptions - before.interruptions
+
+-- a device failed, or was interrupted as often as a call may be, or oftener
+abbrev pub GaveUp : Device → ℕ → Type 0
+GaveUp after count = (after.has_failed ≡ true) ⊎ (max_interruptions ≤ count)
+
+-- a call counts the interruptions of its device, from the one number to the other
+pub record Counts (before after : Device) (old new : ℕ) : Type 0 where
+  pub rose : old ≤ new
+  pub counted : new + before.interruptions ≡ old + after.interruptions
+
+-- a call that writes counts the interruptions of its sink, and gives up at the last that it may have or where the sink failed
+pub record Tries (before after : Device) (old new : ℕ) (done : Bool) : Type 0 where
+  pub counts : Counts before after old new
+  pub bounded : new ≤ max_interruptions
+  pub patient : done ≡ true → new < max_interruptions
+  pub failed : done ≡ false → GaveUp after new
 
 -- a device failed in a call, or it was interrupted in it and the call as often as it may be
 abbrev pub Broke : Device → Device → ℕ → Type 0
@@ -61,6 +77,13 @@ IsRun (Run.Moved count) most run = (length run ≡ count) × (0 < count) × (cou
 IsRun Run.End most run = run ≡ []
 IsRun Run.Interrupted most run = run ≡ []
 IsRun Run.Failed most run = run ≡ []
+
+-- the room of a buffer before and after a run: it stays where nothing was moved, and is never less
+abbrev pub KeepsRoom : Run → ℕ → ℕ → Type 0
+KeepsRoom (Run.Moved count) before after = before ≤ after
+KeepsRoom Run.End before after = after ≡ before
+KeepsRoom Run.Interrupted before after = after ≡ before
+KeepsRoom Run.Failed before after = after ≡ before
 
 -- bytes without a line feed
 abbrev pub HasNoFeed : List ℕ → Type 0

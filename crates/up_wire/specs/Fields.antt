@@ -1,9 +1,9 @@
 -- What the fields of a head say, from the list of their names and values.
-use Rattle.std.specs.Prelude.{◌≡◌, ℕ, ◌<◌, Bool, List, [], ◌∷◌, map, length, bytes_eq, flat_map, ◌==◌, if◌then◌else◌}
+use Rattle.std.specs.Prelude.{◌≡◌, ℕ, ◌<◌, Bool, List, [], ◌∷◌, map, length, bytes_eq, codes, reverse, flat_map, ◌==◌, if◌then◌else◌}
 use Rattle.std.specs.List.{list_any}
 use Rattle.std.specs.Char.{to_ascii_lowercase}
 use Rattle.httparse.specs.Ascii.{comma}
-use Rattle.httparse.specs.Grammar.{trim_ows}
+use Rattle.httparse.specs.Grammar.{skip_ows, trim_ows}
 use Rattle.up_wire.specs.declared.fields.Values.{Values}
 use Rattle.up_wire.specs.declared.fields.Values.TheVariants as Found
 
@@ -14,6 +14,10 @@ Field = List ℕ × List ℕ
 -- the same text, without regard to case
 unfoldable pub same_name : List ℕ → List ℕ → Bool
 same_name a b = bytes_eq (map to_ascii_lowercase a) (map to_ascii_lowercase b)
+
+-- the text without the spaces and tabs at its end
+abbrev pub trim_end_ows : List ℕ → List ℕ
+trim_end_ows text = reverse (skip_ows (reverse text))
 
 -- the values of the fields with that name, in order
 abbrev pub values : List ℕ → List Field → List (List ℕ)
@@ -32,6 +36,10 @@ split_commas (b ∷ bs) = let pieces = split_commas bs in if b == comma then [] 
 -- whether one of the tokens of a value is this, without regard to case
 abbrev pub has_token : List ℕ → List ℕ → Bool
 has_token token value = list_any (λ piece. same_name (trim_ows piece) token) (split_commas value)
+
+-- whether a field says that the conversation closes (RFC 9112, section 9.3)
+abbrev pub says_close : List Field → Bool
+says_close fields = list_any (has_token (codes "close")) (values (codes "connection") fields)
 
 -- what was found of the values of one name
 abbrev pub IsOneOf : Values → List (List ℕ) → Type 0

@@ -7,7 +7,7 @@ use Rattle.up_wire.specs.declared.wire_fault.WireFault.TheVariants as Fault
 use Rattle.up_wire.specs.declared.framing.Framing.{Framing}
 use Rattle.up_wire.specs.declared.framing.Framing.TheVariants.{NoBody, Sized, Chunked}
 use Rattle.up_wire.specs.Digits.{is_digits}
-use Rattle.up_wire.specs.Fields.{Field, values, same_name, has_token}
+use Rattle.up_wire.specs.Fields.{Field, values, same_name, says_close}
 
 -- a `Content-Length` that stands alone
 abbrev pub sized : ℕ → List ℕ → Result Framing WireFault
@@ -50,7 +50,7 @@ asks_to_continue minor fields = (minor == 1) && list_any is_continue (values (co
 
 -- the conversation closes after the message
 abbrev pub closes : ℕ → List Field → Bool
-closes minor fields = (minor == 0) || list_any (has_token (codes "close")) (values (codes "connection") fields)
+closes minor fields = (minor == 0) || says_close fields
 
 -- what is written before the body is read
 abbrev pub interim : Framing → ℕ → List Field → List ℕ

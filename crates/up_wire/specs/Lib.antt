@@ -10,4 +10,5 @@ pub mod Message
 pub mod Reading
 pub mod Steps
 pub mod Response
+pub mod Refused
 pub mod OneAnswer

@@ -13,6 +13,10 @@ max_fields = 64
 abbrev pub max_line : ℕ
 max_line = 256
 
+-- how many bytes of room a body has at first
+abbrev pub first_room : ℕ
+first_room = 8192
+
 -- the interruption of one call that counts as a failure
 abbrev pub max_interruptions : ℕ
 max_interruptions = 1000

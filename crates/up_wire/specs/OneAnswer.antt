@@ -9,7 +9,7 @@ use Rattle.up_wire.specs.declared.framing.Framing.TheVariants.{Chunked}
 use Rattle.up_wire.specs.declared.message.Taken.{Taken}
 use Rattle.up_wire.specs.Message.{Ending, open_yet, ended, failed, IsHead, framing_of}
 use Rattle.up_wire.specs.Limits.{max_head, max_fields, max_interruptions}
-use Rattle.up_wire.specs.Device.{Device, device}
+use Rattle.up_wire.specs.Device.{Device, device_of, interrupted}
 use Rattle.up_wire.specs.Reading.{IsAnswer, IsReading}
 use Rattle.up_wire.specs.Chunks.{HasChunks, IsOpenLine, IsLastLine, AreOpenTrailers}
 
@@ -81,8 +81,8 @@ pub record Reads (limit : ℕ) (all rest : List ℕ) (answer : Taken) : Type 0 w
   pub after : ℕ
   pub sink : Device
   pub sink_after : Device
-  pub patient : (after - before) + (sink_after.interruptions - sink.interruptions) < max_interruptions
-  pub is_reading : IsReading limit (device (Some all) false before) (device (Some rest) false after) sink sink_after answer
+  pub patient : (after - before) + interrupted sink sink_after < max_interruptions
+  pub is_reading : IsReading limit (device_of (Some all) false before) (device_of (Some rest) false after) sink sink_after answer
 
 -- two calls that find the same bytes have one answer
 abbrev pub ReadingsAgree : ℕ → Type 0

@@ -1,12 +1,12 @@
 -- What a call of `read_message` took, wrote and answered.
-use Rattle.std.specs.Prelude.{◌≡◌, ℕ, Bool, ◌+◌, ◌-◌, ◌<◌, ◌⊎◌, List, [], ◌++◌, length, Result, Ok, Err, ⊤}
+use Rattle.std.specs.Prelude.{◌≡◌, ℕ, Bool, ◌+◌, ◌<◌, ◌⊎◌, List, [], ◌++◌, length, Result, Ok, Err, ⊤}
 use Rattle.std.specs.Io.KnownBytes.{Consumes, Appends, IsAtEnd}
 use Rattle.httparse.specs.Grammar.{RequestHead}
 use Rattle.up_wire.specs.declared.wire_fault.WireFault.{WireFault}
 use Rattle.up_wire.specs.declared.wire_fault.WireFault.TheVariants as Fault
 use Rattle.up_wire.specs.declared.message.Taken.{Taken}
 use Rattle.up_wire.specs.declared.framing.Framing.{Framing}
-use Rattle.up_wire.specs.Device.{Device, Broke}
+use Rattle.up_wire.specs.Device.{Device, interrupted, Broke}
 use Rattle.up_wire.specs.Limits.{max_interruptions}
 use Rattle.up_wire.specs.Framing.{interim}
 use Rattle.up_wire.specs.Message.{Ending, fields_of, IsHead, framing_of, open_yet, ended, failed, IsMessage, IsCut, IsEndOfInput, IsFault}
@@ -71,8 +71,7 @@ IsPatient ending answer count =
 
 -- how often both devices were interrupted in a call
 abbrev pub interruptions : Device → Device → Device → Device → ℕ
-interruptions source source_after sink sink_after =
-    (source_after.interruptions - source.interruptions) + (sink_after.interruptions - sink.interruptions)
+interruptions source source_after sink sink_after = interrupted source source_after + interrupted sink sink_after
 
 -- a call of `read_message`, by the source and the sink before and after it
 pub record IsReading (limit : ℕ) (source source_after sink sink_after : Device) (answer : Taken) : Type 0 where

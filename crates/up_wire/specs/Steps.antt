@@ -1,6 +1,7 @@
 -- What the steps of reading a message answer.
-use Rattle.std.specs.Prelude.{◌≡◌, ◌≢◌, ℕ, ◌<◌, ◌≤◌, ◌⊎◌, Bool, true, false, ◌&&◌, ◌==◌, List, [], ◌∷◌, ◌++◌, length, Option, Result, Ok, Err}
+use Rattle.std.specs.Prelude.{◌≡◌, ◌≢◌, ℕ, ◌*◌, ◌<◌, ◌≤◌, ◌⊎◌, ⊤, max, Vec, vec_len, vec_capacity, Bool, true, false, ◌&&◌, ◌==◌, List, [], ◌∷◌, ◌++◌, length, Option, Result, Ok, Err}
 use Rattle.std.specs.Io.KnownBytes.{Appends, IsAtEnd}
+use Rattle.std.specs.declared.alloc.Global.{Global}
 use Rattle.httparse.specs.Ascii.{carriage_return, line_feed, crlf_bytes}
 use Rattle.httparse.specs.Grammar.{ReadsSection, HasNoSection, NeverHasSection, MayBecomeSection, ChunkLine, print_chunk_line, chunk_size, RequestHead, ReadsRequest, HasNoRequest, NeverHasRequest, MayBecomeRequest}
 use Rattle.httparse.specs.Spans.{RequestExceeds, SectionExceeds}
@@ -20,8 +21,8 @@ use Rattle.up_wire.specs.declared.line.Line.TheVariants as Taken
 use Rattle.up_wire.specs.declared.framing.Framing.{Framing}
 use Rattle.up_wire.specs.Chunks.{IsLine, IsOpenLine, IsBadLine, IsOpenEnd, IsBadEnd, IsTrailers, AreOpenTrailers, AreBadTrailers}
 use Rattle.up_wire.specs.Message.{IsBody, IsCutBody, IsBodyFault, Ending, open_yet, ended, failed, fields_of, is_bare, IsHead, IsEndOfInput, IsBadHead, IsTooLarge, IsReadFailure, IsBare}
-use Rattle.up_wire.specs.Limits.{max_fields, max_interruptions}
-use Rattle.up_wire.specs.Device.{GaveUp, HasNoFeed, IsEndedLine}
+use Rattle.up_wire.specs.Limits.{max_fields, max_interruptions, first_room}
+use Rattle.up_wire.specs.Device.{Device, GaveUp, HasNoFeed, IsEndedLine}
 use Rattle.up_wire.specs.Reading.{IsFront}
 
 -- the bytes that a step gives
@@ -30,11 +31,11 @@ step_bytes (Step.Byte byte) = byte ∷ []
 step_bytes Step.Ended = []
 step_bytes Step.Failed = []
 
--- how the input goes on, by the source after it: the bytes left, whether it failed, and the interruptions of the call
-abbrev pub EndsSo : Ending → Option (List ℕ) → Bool → ℕ → Type 0
-EndsSo open_yet left has_failed count = count < max_interruptions
-EndsSo ended left has_failed count = IsAtEnd left × (count < max_interruptions)
-EndsSo failed left has_failed count = GaveUp has_failed count × (count ≤ max_interruptions)
+-- how the input goes on, by the source after it and the interruptions of the call
+abbrev pub EndsSo : Ending → Device → ℕ → Type 0
+EndsSo open_yet source count = count < max_interruptions
+EndsSo ended source count = IsAtEnd source.bytes × (count < max_interruptions)
+EndsSo failed source count = GaveUp source count × (count ≤ max_interruptions)
 
 -- the ending that a step shows
 abbrev pub step_ending : Step → Ending
@@ -70,9 +71,16 @@ IsHeadFault input ending Fault.ReadFailed bare = IsReadFailure input ending × (
 IsHeadFault input ending Fault.NoMemory bare = IsBare input bare
 IsHeadFault input ending Fault.WriteFailed bare = ⊥
 
+-- a whole head, and what is kept of it; the input goes on behind it
+pub record IsHeadOf (input : List ℕ) (ending : Ending) (h : Head) : Type 0 where
+  pub head : RequestHead
+  pub is_head : IsHead input head []
+  pub keeps : HasHead h head
+  pub goes_on : ending ≡ open_yet
+
 -- what came of reading a head
 abbrev pub IsHeadRead : List ℕ → Ending → HeadRead → Type 0
-IsHeadRead input ending (HeadRead.Whole h) = (head : RequestHead) × IsHead input head [] × HasHead h head × (ending ≡ open_yet)
+IsHeadRead input ending (HeadRead.Whole h) = IsHeadOf input ending h
 IsHeadRead input ending (HeadRead.Fault fault bare) = IsHeadFault input ending fault bare
 IsHeadRead input ending HeadRead.End = IsEndOfInput input × (ending ≡ ended)
 
@@ -85,9 +93,19 @@ IsStanding text waiting fault =
 
 -- what came of reading a body
 abbrev pub IsBodyRead : ℕ → Framing → List ℕ → Ending → BodyRead → Type 0
-IsBodyRead limit framing input ending (BodyRead.Whole body) = IsBody limit framing body input × (ending ≡ open_yet)
-IsBodyRead limit framing input ending (BodyRead.Cut body) = IsCutBody limit framing body input × ((ending ≡ ended) ⊎ (ending ≡ failed))
+IsBodyRead limit framing input ending (BodyRead.Whole body) = IsBody limit framing body.items input × (ending ≡ open_yet)
+IsBodyRead limit framing input ending (BodyRead.Cut body) = IsCutBody limit framing body.items input × ((ending ≡ ended) ⊎ (ending ≡ failed))
 IsBodyRead limit framing input ending (BodyRead.Fault fault) = (fault ≡ Fault.NoMemory) ⊎ IsBodyFault limit framing input fault
+
+-- a buffer has the room that it has at first, or twice what it holds
+abbrev pub IsBounded : Vec ℕ Global → Type 0
+IsBounded buffer = vec_capacity buffer ≤ max first_room (2 * vec_len buffer)
+
+-- the body's buffer is so
+abbrev pub HasBoundedBody : BodyRead → Type 0
+HasBoundedBody (BodyRead.Whole body) = IsBounded body
+HasBoundedBody (BodyRead.Cut body) = IsBounded body
+HasBoundedBody (BodyRead.Fault fault) = ⊤
 
 -- the ending that a batch shows
 abbrev pub batch_ending : Batch → Ending
@@ -129,20 +147,28 @@ IsStop ending cut bad Stop.Bad = bad
 IsStop ending cut bad Stop.NoMemory = ending ≡ open_yet
 
 -- a body that stops so, with the bytes that came
-abbrev pub stopped : Stop → List ℕ → BodyRead
-stopped Stop.Ended bytes = BodyRead.Cut bytes
-stopped Stop.Failed bytes = BodyRead.Cut bytes
-stopped Stop.Bad bytes = BodyRead.Fault Fault.BadFraming
-stopped Stop.NoMemory bytes = BodyRead.Fault Fault.NoMemory
+abbrev pub stopped : Stop → Vec ℕ Global → BodyRead
+stopped Stop.Ended body = BodyRead.Cut body
+stopped Stop.Failed body = BodyRead.Cut body
+stopped Stop.Bad body = BodyRead.Fault Fault.BadFraming
+stopped Stop.NoMemory body = BodyRead.Fault Fault.NoMemory
 
 -- a body of that size, or less
 abbrev pub IsBytesRead : {X : Type 0} → ℕ → List ℕ → Ending → Result X Stop → Type 0
 IsBytesRead size bytes ending (Ok done) = (length bytes ≡ size) × (ending ≡ open_yet)
 IsBytesRead size bytes ending (Err stop) = IsStop ending (length bytes < size) ⊥ stop
 
+-- a chunk line that says this size; the input goes on behind it
+pub record IsLineOf (input : List ℕ) (ending : Ending) (size : ℕ) : Type 0 where
+  pub line : ChunkLine
+  pub is_line : IsLine line
+  pub text_is : input ≡ print_chunk_line line
+  pub size_is : size ≡ chunk_size line
+  pub goes_on : ending ≡ open_yet
+
 -- a chunk line and its size
 abbrev pub IsLineRead : List ℕ → Ending → Result ℕ Stop → Type 0
-IsLineRead input ending (Ok size) = (line : ChunkLine) × IsLine line × (input ≡ print_chunk_line line) × (size ≡ chunk_size line) × (ending ≡ open_yet)
+IsLineRead input ending (Ok size) = IsLineOf input ending size
 IsLineRead input ending (Err stop) = IsStop ending (IsOpenLine input) (IsBadLine input) stop
 
 -- one byte

@@ -1,18 +1,18 @@
 -- What is answered to a fault of the wire.
-use Rattle.std.specs.Prelude.{ℕ, List, codes}
+use Rattle.std.specs.Prelude.{ℕ, List, Option, Some, None, codes}
 use Rattle.up_wire.specs.declared.wire_fault.WireFault.{WireFault}
 use Rattle.up_wire.specs.declared.wire_fault.WireFault.TheVariants.{BadHead, HeadTooLarge, BadFraming, UnknownCoding, BodyTooLarge, ReadFailed, NoMemory, WriteFailed}
 
--- the status code of each fault
-abbrev pub status_of : WireFault → ℕ
-status_of BadHead = 400
-status_of HeadTooLarge = 431
-status_of BadFraming = 400
-status_of UnknownCoding = 501
-status_of BodyTooLarge = 413
-status_of ReadFailed = 400
-status_of NoMemory = 503
-status_of WriteFailed = 400
+-- the status code of each fault, where it is answered
+abbrev pub status_of : WireFault → Option ℕ
+status_of BadHead = Some 400
+status_of HeadTooLarge = Some 431
+status_of BadFraming = Some 400
+status_of UnknownCoding = Some 501
+status_of BodyTooLarge = Some 413
+status_of ReadFailed = None
+status_of NoMemory = Some 503
+status_of WriteFailed = None
 
 -- the line that names each fault
 abbrev pub line_of : WireFault → List ℕ

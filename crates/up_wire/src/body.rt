@@ -1,15 +1,15 @@
 //! Reading a body.
-ghost use Rattle.std.specs.Prelude.{◌≡◌, ◌+◌, ◌-◌, ◌<◌, ◌≤◌, ◌⊎◌, ◌++◌, [], List, ℕ, length, vec_len, vec_capacity};
+ghost use Rattle.std.specs.Prelude.{◌≡◌, ◌+◌, ◌<◌, ◌≤◌, ◌⊎◌, ◌++◌, List, ℕ, vec_len, vec_capacity};
 ghost use Rattle.std.specs.Io.KnownBytes.{Consumes};
+ghost use Rattle.up_wire.specs.Device.{Counts};
 ghost use Rattle.up_wire.specs.Message.{Ending};
 ghost use Rattle.up_wire.specs.Limits.{max_interruptions};
-ghost use Rattle.up_wire.specs.Steps.{EndsSo, IsBodyRead, batch_ending, IsBatch, IsBytesRead, stopped};
+ghost use Rattle.up_wire.specs.Steps.{EndsSo, IsBodyRead, batch_ending, IsBatch, IsBytesRead, IsBounded, HasBoundedBody, stopped};
 
 use crate::chunks::read_chunks;
 use crate::device::{Run, Source};
 use crate::framing::Framing;
 use crate::room::make_room;
-use crate::sequence::Sequence;
 use crate::step::MAX_INTERRUPTIONS;
 use crate::wire_fault::WireFault;
 use std::alloc::Global;
@@ -17,8 +17,8 @@ use std::alloc::Global;
 /// What came of reading a body.
 #[derive(Drop)]
 pub(crate) enum BodyRead {
-    Whole(Sequence<u8>),
-    Cut(Sequence<u8>),
+    Whole(Vec<u8>),
+    Cut(Vec<u8>),
     Fault(WireFault),
 }
 
@@ -35,17 +35,17 @@ pub(crate) enum Stop {
 impl Stop {
     /// What comes of a body that stops so, with the bytes that came.
     pub(crate) fn into_body(self, body: Vec<u8>) -> BodyRead
-        ensures { result ≡ stopped self body.items }
+        ensures { result ≡ stopped self body }
     {
         match self {
-            Stop::Ended | Stop::Failed => BodyRead::Cut(Sequence::from_vec(body)),
+            Stop::Ended | Stop::Failed => BodyRead::Cut(body),
             Stop::Bad => BodyRead::Fault(WireFault::BadFraming),
             Stop::NoMemory => BodyRead::Fault(WireFault::NoMemory),
         }
     }
 }
 
-/// Reads a body in its framing.
+/// Reads a body in its framing. Its room grows with the bytes that come, whatever length was announced.
 pub(crate) fn read_body<R: Source>(
     alloc: Global,
     source: &mut R,
@@ -55,15 +55,15 @@ pub(crate) fn read_body<R: Source>(
 ) -> BodyRead
     requires { interruptions.old < max_interruptions }
     ensures answer { (input : List ℕ) × (ending : Ending)
-        × Consumes (R.left source.old) (R.left source.new) input
-        × EndsSo ending (R.left source.new) (R.has_failed source.new) interruptions.new
+        × Consumes (R.device source.old).bytes (R.device source.new).bytes input
+        × EndsSo ending (R.device source.new) interruptions.new
         × IsBodyRead limit framing input ending result }
-    ensures rose { interruptions.old ≤ interruptions.new }
-    ensures counted { interruptions.new + R.interruptions source.old
-        ≡ interruptions.old + R.interruptions source.new }
+    ensures bounded { HasBoundedBody result }
+    ensures counts { Counts (R.device source.old) (R.device source.new)
+        interruptions.old interruptions.new }
 {
     match framing {
-        Framing::NoBody => BodyRead::Whole(Sequence::new(alloc)),
+        Framing::NoBody => BodyRead::Whole(Vec::new(alloc)),
         Framing::Sized(size) => read_sized(alloc, source, interruptions, limit, size),
         Framing::Chunked => read_chunks(alloc, source, interruptions, limit),
     }
@@ -79,16 +79,16 @@ fn read_sized<R: Source>(
 ) -> BodyRead
     requires { interruptions.old < max_interruptions }
     ensures answer { (input : List ℕ) × (ending : Ending)
-        × Consumes (R.left source.old) (R.left source.new) input
-        × EndsSo ending (R.left source.new) (R.has_failed source.new) interruptions.new
+        × Consumes (R.device source.old).bytes (R.device source.new).bytes input
+        × EndsSo ending (R.device source.new) interruptions.new
         × IsBodyRead limit (Framing.Sized size) input ending result }
-    ensures rose { interruptions.old ≤ interruptions.new }
-    ensures counted { interruptions.new + R.interruptions source.old
-        ≡ interruptions.old + R.interruptions source.new }
+    ensures bounded { HasBoundedBody result }
+    ensures counts { Counts (R.device source.old) (R.device source.new)
+        interruptions.old interruptions.new }
 {
     let mut body = Vec::new(alloc);
     match read_bytes(source, interruptions, &mut body, size, size) {
-        Ok(()) => BodyRead::Whole(Sequence::from_vec(body)),
+        Ok(()) => BodyRead::Whole(body),
         Err(stop) => stop.into_body(body),
     }
 }
@@ -103,14 +103,15 @@ pub(crate) fn read_bytes<R: Source>(
 ) -> Result<(), Stop>
     requires patient { interruptions.old < max_interruptions }
     requires within { (vec_len body.old ≤ size) × (size ≤ most) }
+    requires bounded { IsBounded body.old }
     ensures answer { (run : List ℕ) × (ending : Ending)
-        × Consumes (R.left source.old) (R.left source.new) run
-        × EndsSo ending (R.left source.new) (R.has_failed source.new) interruptions.new
+        × Consumes (R.device source.old).bytes (R.device source.new).bytes run
+        × EndsSo ending (R.device source.new) interruptions.new
         × (body.new.items ≡ body.old.items ++ run)
         × IsBytesRead size body.new.items ending result }
-    ensures rose { interruptions.old ≤ interruptions.new }
-    ensures counted { interruptions.new + R.interruptions source.old
-        ≡ interruptions.old + R.interruptions source.new }
+    ensures bounded { (result ≡ Err Stop.NoMemory) ⊎ IsBounded body.new }
+    ensures counts { Counts (R.device source.old) (R.device source.new)
+        interruptions.old interruptions.new }
 {
     'batches: while (body.len() as u64) < size {
         if !make_room(body, most, FIRST_ROOM) {
@@ -118,8 +119,14 @@ pub(crate) fn read_bytes<R: Source>(
         }
         let room = (body.capacity() - body.len()) as u64;
         let wanted = room.min(size - body.len() as u64) as usize;
+        let reserved = body.capacity();
         match take_batch(source, interruptions, body, wanted) {
-            Batch::Came => {}
+            Batch::Came => {
+                // No source needs more room than it was given, but its contract lets it make some.
+                if body.capacity() > reserved {
+                    return Err(Stop::NoMemory);
+                }
+            }
             Batch::Ended => return Err(Stop::Ended),
             Batch::Failed => return Err(Stop::Failed),
         }
@@ -148,12 +155,13 @@ fn take_batch<R: Source>(
     requires patient { interruptions.old < max_interruptions }
     requires some { 0 < most }
     requires room { vec_len into.old + most ≤ vec_capacity into.old }
-    ensures bytes { (run : List ℕ) × Consumes (R.left source.old) (R.left source.new) run
+    ensures bytes { (run : List ℕ)
+        × Consumes (R.device source.old).bytes (R.device source.new).bytes run
         × (into.new.items ≡ into.old.items ++ run) × IsBatch result most run }
-    ensures rose { interruptions.old ≤ interruptions.new }
-    ensures counted { interruptions.new + R.interruptions source.old
-        ≡ interruptions.old + R.interruptions source.new }
-    ensures ends { EndsSo (batch_ending result) (R.left source.new) (R.has_failed source.new) interruptions.new }
+    ensures room { (result ≡ Batch.Came) ⊎ (vec_capacity into.new ≡ vec_capacity into.old) }
+    ensures counts { Counts (R.device source.old) (R.device source.new)
+        interruptions.old interruptions.new }
+    ensures ends { EndsSo (batch_ending result) (R.device source.new) interruptions.new }
 {
     'tries: loop {
         match source.take_run(into, most) {

@@ -1,10 +1,11 @@
 //! Reading a chunked body.
-ghost use Rattle.std.specs.Prelude.{◌≤◌, ◌≡◌, ◌+◌, ◌<◌, List, ℕ};
+ghost use Rattle.std.specs.Prelude.{◌<◌, List, ℕ};
 ghost use Rattle.std.specs.Io.KnownBytes.{Consumes};
 ghost use Rattle.httparse.specs.Grammar.{HasNoSection};
+ghost use Rattle.up_wire.specs.Device.{Counts};
 ghost use Rattle.up_wire.specs.Message.{Ending};
 ghost use Rattle.up_wire.specs.Limits.{max_interruptions};
-ghost use Rattle.up_wire.specs.Steps.{EndsSo, IsBodyRead, IsLineRead, IsByteRead, IsCrlfRead, AreParsed, IsStopBehind, AreTrailersRead};
+ghost use Rattle.up_wire.specs.Steps.{EndsSo, IsBodyRead, HasBoundedBody, IsLineRead, IsByteRead, IsCrlfRead, AreParsed, IsStopBehind, AreTrailersRead};
 
 use crate::body::{BodyRead, Stop, read_bytes};
 use crate::device::Source;
@@ -12,7 +13,6 @@ use crate::framing::Framing;
 use crate::head::MAX_FIELDS;
 use crate::head_reader::MAX_HEAD;
 use crate::line::{Line, is_line_end, take_line};
-use crate::sequence::Sequence;
 use crate::step::{Step, take_step};
 use crate::wire_fault::WireFault;
 use httparse::spans::{EMPTY_HEADER_SPAN, parse_headers};
@@ -31,12 +31,12 @@ pub(crate) fn read_chunks<R: Source>(
 ) -> BodyRead
     requires { interruptions.old < max_interruptions }
     ensures answer { (input : List ℕ) × (ending : Ending)
-        × Consumes (R.left source.old) (R.left source.new) input
-        × EndsSo ending (R.left source.new) (R.has_failed source.new) interruptions.new
+        × Consumes (R.device source.old).bytes (R.device source.new).bytes input
+        × EndsSo ending (R.device source.new) interruptions.new
         × IsBodyRead limit Framing.Chunked input ending result }
-    ensures rose { interruptions.old ≤ interruptions.new }
-    ensures counted { interruptions.new + R.interruptions source.old
-        ≡ interruptions.old + R.interruptions source.new }
+    ensures bounded { HasBoundedBody result }
+    ensures counts { Counts (R.device source.old) (R.device source.new)
+        interruptions.old interruptions.new }
 {
     let mut body = Vec::new(alloc);
     let mut line = Vec::new(alloc);
@@ -49,7 +49,7 @@ pub(crate) fn read_chunks<R: Source>(
             if let Err(stop) = read_trailers(alloc, source, interruptions) {
                 return stop.into_body(body);
             }
-            return BodyRead::Whole(Sequence::from_vec(body));
+            return BodyRead::Whole(body);
         }
         let done = body.len() as u64;
         if size > limit - done {
@@ -72,12 +72,11 @@ fn read_line<R: Source>(
 ) -> Result<u64, Stop>
     requires { interruptions.old < max_interruptions }
     ensures answer { (input : List ℕ) × (ending : Ending)
-        × Consumes (R.left source.old) (R.left source.new) input
-        × EndsSo ending (R.left source.new) (R.has_failed source.new) interruptions.new
+        × Consumes (R.device source.old).bytes (R.device source.new).bytes input
+        × EndsSo ending (R.device source.new) interruptions.new
         × IsLineRead input ending result }
-    ensures rose { interruptions.old ≤ interruptions.new }
-    ensures counted { interruptions.new + R.interruptions source.old
-        ≡ interruptions.old + R.interruptions source.new }
+    ensures counts { Counts (R.device source.old) (R.device source.new)
+        interruptions.old interruptions.new }
 {
     text.clear();
     match take_line(source, interruptions, text, MAX_LINE) {
@@ -97,12 +96,11 @@ fn read_line<R: Source>(
 fn read_crlf<R: Source>(source: &mut R, interruptions: &mut u32) -> Result<(), Stop>
     requires { interruptions.old < max_interruptions }
     ensures answer { (input : List ℕ) × (ending : Ending)
-        × Consumes (R.left source.old) (R.left source.new) input
-        × EndsSo ending (R.left source.new) (R.has_failed source.new) interruptions.new
+        × Consumes (R.device source.old).bytes (R.device source.new).bytes input
+        × EndsSo ending (R.device source.new) interruptions.new
         × IsCrlfRead input ending result }
-    ensures rose { interruptions.old ≤ interruptions.new }
-    ensures counted { interruptions.new + R.interruptions source.old
-        ≡ interruptions.old + R.interruptions source.new }
+    ensures counts { Counts (R.device source.old) (R.device source.new)
+        interruptions.old interruptions.new }
 {
     match read_byte(source, interruptions, b'\r') {
         Ok(()) => read_byte(source, interruptions, b'\n'),
@@ -114,12 +112,11 @@ fn read_crlf<R: Source>(source: &mut R, interruptions: &mut u32) -> Result<(), S
 fn read_byte<R: Source>(source: &mut R, interruptions: &mut u32, wanted: u8) -> Result<(), Stop>
     requires { interruptions.old < max_interruptions }
     ensures answer { (input : List ℕ) × (ending : Ending)
-        × Consumes (R.left source.old) (R.left source.new) input
-        × EndsSo ending (R.left source.new) (R.has_failed source.new) interruptions.new
+        × Consumes (R.device source.old).bytes (R.device source.new).bytes input
+        × EndsSo ending (R.device source.new) interruptions.new
         × IsByteRead wanted input ending result }
-    ensures rose { interruptions.old ≤ interruptions.new }
-    ensures counted { interruptions.new + R.interruptions source.old
-        ≡ interruptions.old + R.interruptions source.new }
+    ensures counts { Counts (R.device source.old) (R.device source.new)
+        interruptions.old interruptions.new }
 {
     match take_step(source, interruptions) {
         Step::Byte(byte) if byte == wanted => Ok(()),
@@ -171,12 +168,11 @@ fn read_trailers<R: Source>(
 ) -> Result<(), Stop>
     requires { interruptions.old < max_interruptions }
     ensures answer { (input : List ℕ) × (ending : Ending)
-        × Consumes (R.left source.old) (R.left source.new) input
-        × EndsSo ending (R.left source.new) (R.has_failed source.new) interruptions.new
+        × Consumes (R.device source.old).bytes (R.device source.new).bytes input
+        × EndsSo ending (R.device source.new) interruptions.new
         × AreTrailersRead input ending result }
-    ensures rose { interruptions.old ≤ interruptions.new }
-    ensures counted { interruptions.new + R.interruptions source.old
-        ≡ interruptions.old + R.interruptions source.new }
+    ensures counts { Counts (R.device source.old) (R.device source.new)
+        interruptions.old interruptions.new }
 {
     let mut text = Vec::new(alloc);
     'lines: loop {

@@ -1,7 +1,7 @@
 //! Where bytes come from and go to.
-ghost use Rattle.std.specs.Prelude.{◌≡◌, ℕ, ◌+◌, ◌<◌, ◌≤◌, Bool, true, IsTrue, List, ◌++◌, Option, vec_len, vec_capacity};
+ghost use Rattle.std.specs.Prelude.{◌≡◌, ℕ, ◌+◌, ◌<◌, ◌≤◌, IsTrue, List, ◌++◌, vec_len, vec_capacity};
 ghost use Rattle.std.specs.Io.KnownBytes.{Consumes, Appends, Keeps};
-ghost use Rattle.up_wire.specs.Device.{given, is_failed_read, interrupted_reads, EndsAt, IsRun, is_failed_run, interrupted_runs, RunEndsAt, IsInLine, taken, is_failed_write, interrupted_writes, TakesSome};
+ghost use Rattle.up_wire.specs.Device.{Device, given, is_failed_read, interrupted_reads, EndsAt, IsRun, is_failed_run, interrupted_runs, RunEndsAt, KeepsRoom, IsInLine, taken, is_failed_write, interrupted_writes, TakesSome};
 
 /// What a source answers when it is asked for its next byte.
 #[derive(Clone, Copy, Debug, PartialEq, Eq)]
@@ -31,35 +31,34 @@ pub enum Run {
 /// Where bytes come from. A source that answered Failed answers nothing else from then on, and End comes only where
 /// no bytes are left.
 pub trait Source {
-    /// The bytes that are left, where they are known.
-    ghost left: { Self → Option (List ℕ) };
-
-    /// Whether it answered Failed.
-    ghost has_failed: { Self → Bool };
-
-    /// How often it answered Interrupted.
-    ghost interruptions: { Self → ℕ };
+    /// The bytes that are left, where they are known; whether it answered Failed, and how often Interrupted.
+    ghost device: { Self → Device };
 
     /// Takes the next byte, or says why there is none.
     fn next_byte(&mut self) -> NextByte
-        ensures bytes { Consumes (left self.old) (left self.new) (given result) }
-        ensures end { EndsAt result (left self.new) }
-        ensures failed { has_failed self.new ≡ is_failed_read result }
-        ensures stays_failed { IsTrue (has_failed self.old) → IsTrue (has_failed self.new) }
-        ensures interrupted { interruptions self.new ≡ interruptions self.old + interrupted_reads result };
+        ensures bytes { Consumes (device self.old).bytes (device self.new).bytes (given result) }
+        ensures end { EndsAt result (device self.new).bytes }
+        ensures failed { (device self.new).has_failed ≡ is_failed_read result }
+        ensures stays_failed { IsTrue (device self.old).has_failed
+            → IsTrue (device self.new).has_failed }
+        ensures interrupted { (device self.new).interruptions
+            ≡ (device self.old).interruptions + interrupted_reads result };
 
-    /// Moves some of the next bytes, at most `most`, to the end of `into`, which has room for them. It is as a few calls
-    /// of `next_byte`, and a source that has many bytes at hand may be quicker.
+    /// Moves some of the next bytes, at most `most`, to the end of `into`, which has room for them. Where none moved, the
+    /// room stays as it was. It is as a few calls of `next_byte`, and a source that has many bytes at hand may be quicker.
     fn take_run(&mut self, into: &mut Vec<u8>, most: usize) -> Run
         requires some { 0 < most }
         requires room { vec_len into.old + most ≤ vec_capacity into.old }
-        ensures bytes { (run : List ℕ) × Consumes (left self.old) (left self.new) run
+        ensures bytes { (run : List ℕ)
+            × Consumes (device self.old).bytes (device self.new).bytes run
             × (into.new.items ≡ into.old.items ++ run) × IsRun result most run }
-        ensures room { vec_capacity into.old ≤ vec_capacity into.new }
-        ensures end { RunEndsAt result (left self.new) }
-        ensures failed { has_failed self.new ≡ is_failed_run result }
-        ensures stays_failed { IsTrue (has_failed self.old) → IsTrue (has_failed self.new) }
-        ensures interrupted { interruptions self.new ≡ interruptions self.old + interrupted_runs result }
+        ensures room { KeepsRoom result (vec_capacity into.old) (vec_capacity into.new) }
+        ensures end { RunEndsAt result (device self.new).bytes }
+        ensures failed { (device self.new).has_failed ≡ is_failed_run result }
+        ensures stays_failed { IsTrue (device self.old).has_failed
+            → IsTrue (device self.new).has_failed }
+        ensures interrupted { (device self.new).interruptions
+            ≡ (device self.old).interruptions + interrupted_runs result }
     {
         match self.next_byte() {
             NextByte::Byte(byte) => {
@@ -76,13 +75,16 @@ pub trait Source {
     fn take_in_line(&mut self, into: &mut Vec<u8>, most: usize) -> Run
         requires some { 0 < most }
         requires room { vec_len into.old + most ≤ vec_capacity into.old }
-        ensures bytes { (run : List ℕ) × Consumes (left self.old) (left self.new) run
+        ensures bytes { (run : List ℕ)
+            × Consumes (device self.old).bytes (device self.new).bytes run
             × (into.new.items ≡ into.old.items ++ run) × IsRun result most run × IsInLine run }
-        ensures room { vec_capacity into.old ≤ vec_capacity into.new }
-        ensures end { RunEndsAt result (left self.new) }
-        ensures failed { has_failed self.new ≡ is_failed_run result }
-        ensures stays_failed { IsTrue (has_failed self.old) → IsTrue (has_failed self.new) }
-        ensures interrupted { interruptions self.new ≡ interruptions self.old + interrupted_runs result }
+        ensures room { KeepsRoom result (vec_capacity into.old) (vec_capacity into.new) }
+        ensures end { RunEndsAt result (device self.new).bytes }
+        ensures failed { (device self.new).has_failed ≡ is_failed_run result }
+        ensures stays_failed { IsTrue (device self.old).has_failed
+            → IsTrue (device self.new).has_failed }
+        ensures interrupted { (device self.new).interruptions
+            ≡ (device self.old).interruptions + interrupted_runs result }
     {
         self.take_run(into, 1)
     }
@@ -101,28 +103,27 @@ pub enum WriteSome {
 
 /// Where bytes go. A sink that answered Failed answers nothing else from then on.
 pub trait Sink {
-    /// The bytes that were written, where they are known.
-    ghost written: { Self → Option (List ℕ) };
-
-    /// Whether it answered Failed.
-    ghost has_failed: { Self → Bool };
-
-    /// How often it answered Interrupted.
-    ghost interruptions: { Self → ℕ };
+    /// The bytes that were written, where they are known; whether it answered Failed, and how often Interrupted.
+    ghost device: { Self → Device };
 
     /// Takes some bytes from the front of `bytes`: at least one, where there are any.
     fn write_some(&mut self, bytes: &[u8]) -> WriteSome
-        ensures bytes { Appends (written self.old) (written self.new) (taken result bytes.now) }
+        ensures bytes { Appends (device self.old).bytes (device self.new).bytes
+            (taken result bytes.now) }
         ensures some { TakesSome result bytes.now }
-        ensures failed { has_failed self.new ≡ is_failed_write result }
-        ensures stays_failed { IsTrue (has_failed self.old) → IsTrue (has_failed self.new) }
-        ensures interrupted { interruptions self.new ≡ interruptions self.old + interrupted_writes result };
+        ensures failed { (device self.new).has_failed ≡ is_failed_write result }
+        ensures stays_failed { IsTrue (device self.old).has_failed
+            → IsTrue (device self.new).has_failed }
+        ensures interrupted { (device self.new).interruptions
+            ≡ (device self.old).interruptions + interrupted_writes result };
 
     /// Sends on what the sink holds back, and answers that it took nothing more. A sink that holds nothing back has
     /// nothing to do.
     fn flush(&mut self) -> WriteSome
-        ensures bytes { Keeps (written self.old) (written self.new) }
-        ensures failed { has_failed self.new ≡ is_failed_write result }
-        ensures stays_failed { IsTrue (has_failed self.old) → IsTrue (has_failed self.new) }
-        ensures interrupted { interruptions self.new ≡ interruptions self.old + interrupted_writes result };
+        ensures bytes { Keeps (device self.old).bytes (device self.new).bytes }
+        ensures failed { (device self.new).has_failed ≡ is_failed_write result }
+        ensures stays_failed { IsTrue (device self.old).has_failed
+            → IsTrue (device self.new).has_failed }
+        ensures interrupted { (device self.new).interruptions
+            ≡ (device self.old).interruptions + interrupted_writes result };
 }

@@ -1,8 +1,8 @@
 //! What the fields of a head say.
-ghost use Rattle.std.specs.Prelude.{◌≡◌, reverse, codes};
+ghost use Rattle.std.specs.Prelude.{◌≡◌, codes};
 ghost use Rattle.std.specs.List.{list_any};
 ghost use Rattle.httparse.specs.Grammar.{skip_ows, trim_ows};
-ghost use Rattle.up_wire.specs.Fields.{values, same_name, has_token, IsOneOf};
+ghost use Rattle.up_wire.specs.Fields.{values, same_name, has_token, says_close, trim_end_ows, IsOneOf};
 ghost use Rattle.up_wire.specs.Framing.{closes, is_continue, asks_to_continue};
 
 use crate::message::Field;
@@ -43,7 +43,7 @@ pub fn find_value<'a>(fields: &'a [Field], name: &[u8]) -> Values<'a>
     found
 }
 
-fn trim_start(mut text: &[u8]) -> &[u8]
+fn trim_start_ows(mut text: &[u8]) -> &[u8]
     ensures { result.now ≡ skip_ows text.now }
 {
     while let [first, rest @ ..] = text
@@ -55,8 +55,8 @@ fn trim_start(mut text: &[u8]) -> &[u8]
 }
 
 /// The text without the spaces and tabs at its end (RFC 9110, section 5.6.3).
-pub fn trim_end(mut text: &[u8]) -> &[u8]
-    ensures { result.now ≡ reverse (skip_ows (reverse text.now)) }
+pub fn trim_end_ows(mut text: &[u8]) -> &[u8]
+    ensures { result.now ≡ trim_end_ows text.now }
 {
     while let [rest @ .., last] = text
         && is_space_or_tab(*last)
@@ -67,10 +67,10 @@ pub fn trim_end(mut text: &[u8]) -> &[u8]
 }
 
 /// The text without the blanks at both ends.
-fn trim(text: &[u8]) -> &[u8]
+fn trim_ows(text: &[u8]) -> &[u8]
     ensures { result.now ≡ trim_ows text.now }
 {
-    trim_end(trim_start(text))
+    trim_end_ows(trim_start_ows(text))
 }
 
 /// Whether the text, up to each comma, is the token somewhere.
@@ -81,12 +81,12 @@ fn has_token(value: &[u8], token: &[u8]) -> bool
     'pieces: loop {
         match rest.iter().position(|b| *b == b',') {
             Some(comma) => {
-                if same_name(trim(&rest[..comma]), token) {
+                if same_name(trim_ows(&rest[..comma]), token) {
                     return true;
                 }
                 rest = &rest[comma + 1..];
             }
-            None => return same_name(trim(rest), token),
+            None => return same_name(trim_ows(rest), token),
         }
     }
 }
@@ -99,7 +99,7 @@ pub(crate) fn closes(minor: u8, fields: &[Field]) -> bool
 }
 
 fn says_close(fields: &[Field]) -> bool
-    ensures { result ≡ list_any (has_token (codes "close")) (values (codes "connection") fields.now) }
+    ensures { result ≡ says_close fields.now }
 {
     let mut closes = false;
     for field in fields {

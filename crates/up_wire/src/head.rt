@@ -1,5 +1,5 @@
 //! A head out of its bytes.
-ghost use Rattle.std.specs.Prelude.{◌≡◌, ◌≤◌, length, take, map, All, IfOk, bytes_eq, codes};
+ghost use Rattle.std.specs.Prelude.{◌≡◌, length, take, map, All, IfOk, bytes_eq, codes};
 ghost use Rattle.up_wire.specs.Framing.{closes};
 ghost use Rattle.http_header.specs.Token.{IsToken};
 ghost use Rattle.httparse.specs.Spans.{span_bytes, header_bytes, IsHeaderWithin, IsRequestWithin};
@@ -99,7 +99,8 @@ fn head_of(
     ensures method { IfOk result (λ head. head.method ≡ span_bytes text.now found.method) }
     ensures target { IfOk result (λ head. head.target ≡ span_bytes text.now found.path) }
     ensures minor { IfOk result (λ head. head.minor ≡ found.version) }
-    ensures fields { IfOk result (λ head. head.fields ≡ map (header_bytes text.now) (take found.headers spans.now)) }
+    ensures fields { IfOk result (λ head. head.fields
+        ≡ map (header_bytes text.now) (take found.headers spans.now)) }
 {
     let method = method_of(alloc, found.method.of(text))?;
     let target = Sequence::from_slice(alloc, found.path.of(text))?;

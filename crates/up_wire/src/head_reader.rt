@@ -1,7 +1,8 @@
 //! Reading a head.
-ghost use Rattle.std.specs.Prelude.{◌≤◌, ◌≡◌, ◌+◌, ◌<◌, List, ℕ, false};
+ghost use Rattle.std.specs.Prelude.{◌≡◌, ◌<◌, List, ℕ, false};
 ghost use Rattle.std.specs.Io.KnownBytes.{Consumes};
 ghost use Rattle.httparse.specs.Grammar.{HasNoRequest};
+ghost use Rattle.up_wire.specs.Device.{Counts};
 ghost use Rattle.up_wire.specs.Message.{Ending, is_crlfs};
 ghost use Rattle.up_wire.specs.Limits.{max_interruptions};
 ghost use Rattle.up_wire.specs.Steps.{EndsSo, IsStanding, IsHeadRead};
@@ -66,12 +67,11 @@ pub(crate) fn read_head<R: Source>(
 ) -> HeadRead
     requires { interruptions.old < max_interruptions }
     ensures answer { (input : List ℕ) × (ending : Ending)
-        × Consumes (R.left source.old) (R.left source.new) input
-        × EndsSo ending (R.left source.new) (R.has_failed source.new) interruptions.new
+        × Consumes (R.device source.old).bytes (R.device source.new).bytes input
+        × EndsSo ending (R.device source.new) interruptions.new
         × IsHeadRead input ending result }
-    ensures rose { interruptions.old ≤ interruptions.new }
-    ensures counted { interruptions.new + R.interruptions source.old
-        ≡ interruptions.old + R.interruptions source.new }
+    ensures counts { Counts (R.device source.old) (R.device source.new)
+        interruptions.old interruptions.new }
 {
     let mut text = Vec::new(alloc);
     let mut is_begun = false;

@@ -1,7 +1,7 @@
 //! A reader of std as a source.
 ghost use Rattle.std.specs.Prelude.{◌≡◌, ℕ, ◌<◌, ◌≤◌, ◌⊎◌, ◌+◌, false, not, List, [], ◌++◌, Some, IfOk, OnErr, length, take, vec_len, vec_capacity, if◌then◌else◌};
 ghost use Rattle.std.specs.Io.KnownBytes.{Consumes, Keeps, IsAtEnd};
-ghost use Rattle.up_wire.specs.Device.{maybe_byte, IsNoneAtEnd, IsInLine};
+ghost use Rattle.up_wire.specs.Device.{device_of, maybe_byte, IsNoneAtEnd, IsInLine};
 
 use crate::device::{NextByte, Run, Source};
 use memchr::memchr;
@@ -22,7 +22,8 @@ impl<R> Input<R> {
         ensures reader { self.new.reader ≡ self.old.reader }
         ensures ended { self.new.has_ended ≡ self.old.has_ended }
         ensures failed { self.new.has_failed ≡ not result }
-        ensures interrupted { self.new.interruptions ≡ if result then self.old.interruptions + 1 else self.old.interruptions }
+        ensures interrupted { self.new.interruptions
+            ≡ if result then self.old.interruptions + 1 else self.old.interruptions }
     {
         if error.kind() == ErrorKind::Interrupted && self.interruptions < u64::MAX {
             self.interruptions += 1;
@@ -37,9 +38,8 @@ impl<R> Input<R> {
 impl<R: BufRead> Input<R> {
     /// A source that reads from the reader.
     pub fn new(reader: R) -> Input<R>
-        ensures left { ⟦<Input<R> as Source>⟧.left result ≡ R.remaining reader }
-        ensures failed { ⟦<Input<R> as Source>⟧.has_failed result ≡ false }
-        ensures interruptions { ⟦<Input<R> as Source>⟧.interruptions result ≡ 0 }
+        ensures { ⟦<Input<R> as Source>⟧.device result
+            ≡ device_of (R.remaining reader) false 0 }
     {
         Input {
             reader,
@@ -51,18 +51,16 @@ impl<R: BufRead> Input<R> {
 
     /// The reader. The source keeps no byte back.
     pub fn into_inner(self) -> R
-        ensures { IsAtEnd (⟦<Input<R> as Source>⟧.left self) ⊎ (R.remaining result ≡ ⟦<Input<R> as Source>⟧.left self) }
+        ensures { IsAtEnd (⟦<Input<R> as Source>⟧.device self).bytes
+            ⊎ (R.remaining result ≡ (⟦<Input<R> as Source>⟧.device self).bytes) }
     {
         self.reader
     }
 }
 
 impl<R: BufRead> Source for Input<R> {
-    ghost left = { λ s. if s.has_ended then Some [] else R.remaining s.reader };
-
-    ghost has_failed = { λ s. s.has_failed };
-
-    ghost interruptions = { λ s. s.interruptions };
+    ghost device = { λ s. device_of
+        (if s.has_ended then Some [] else R.remaining s.reader) s.has_failed s.interruptions };
 
     fn next_byte(&mut self) -> NextByte {
         if self.has_failed {
@@ -121,7 +119,8 @@ impl<R: BufRead> Source for Input<R> {
 
 /// The next byte of the reader, or None at its end.
 fn take_shown<R: BufRead>(reader: &mut R) -> io::Result<Option<u8>>
-    ensures bytes { IfOk result (λ found. Consumes (R.remaining reader.old) (R.remaining reader.new) (maybe_byte found)) }
+    ensures bytes { IfOk result (λ found.
+        Consumes (R.remaining reader.old) (R.remaining reader.new) (maybe_byte found)) }
     ensures end { IfOk result (λ found. IsNoneAtEnd found (R.remaining reader.old)) }
     ensures err { OnErr result (Keeps (R.remaining reader.old) (R.remaining reader.new)) }
 {
@@ -143,16 +142,23 @@ fn move_shown<R: BufRead>(reader: &mut R, into: &mut Vec<u8>, most: usize) -> io
     requires room { vec_len into.old + most ≤ vec_capacity into.old }
     ensures bytes { IfOk result (λ count. (run : List ℕ)
         × Consumes (R.remaining reader.old) (R.remaining reader.new) run
-        × (into.new.items ≡ into.old.items ++ run) × (length run ≡ count) × (count ≤ most)) }
+        × (into.new.items ≡ into.old.items ++ run)
+        × (length run ≡ count) × (count ≤ most)) }
     ensures end { IfOk result (λ count. count ≡ 0 → IsAtEnd (R.remaining reader.old)) }
     ensures err { OnErr result (Keeps (R.remaining reader.old) (R.remaining reader.new)) }
     ensures unchanged { OnErr result (into.new.items ≡ into.old.items) }
     ensures room { vec_capacity into.old ≤ vec_capacity into.new }
+    ensures kept { OnErr result (vec_capacity into.new ≡ vec_capacity into.old) }
+    ensures none { IfOk result (λ count.
+        count ≡ 0 → vec_capacity into.new ≡ vec_capacity into.old) }
 {
     let available = match reader.fill_buf() {
         Ok(available) => available,
         Err(error) => return Err(error),
     };
+    if available.is_empty() {
+        return Ok(0);
+    }
     let count = available.len().min(most);
     if into.extend_from_slice(&available[..count]).is_err() {
         unreachable!();
@@ -179,16 +185,23 @@ fn move_in_line<R: BufRead>(reader: &mut R, into: &mut Vec<u8>, most: usize) -> 
     requires room { vec_len into.old + most ≤ vec_capacity into.old }
     ensures bytes { IfOk result (λ count. (run : List ℕ)
         × Consumes (R.remaining reader.old) (R.remaining reader.new) run
-        × (into.new.items ≡ into.old.items ++ run) × (length run ≡ count) × (count ≤ most) × IsInLine run) }
+        × (into.new.items ≡ into.old.items ++ run)
+        × (length run ≡ count) × (count ≤ most) × IsInLine run) }
     ensures end { IfOk result (λ count. count ≡ 0 → IsAtEnd (R.remaining reader.old)) }
     ensures err { OnErr result (Keeps (R.remaining reader.old) (R.remaining reader.new)) }
     ensures unchanged { OnErr result (into.new.items ≡ into.old.items) }
     ensures room { vec_capacity into.old ≤ vec_capacity into.new }
+    ensures kept { OnErr result (vec_capacity into.new ≡ vec_capacity into.old) }
+    ensures none { IfOk result (λ count.
+        count ≡ 0 → vec_capacity into.new ≡ vec_capacity into.old) }
 {
     let available = match reader.fill_buf() {
         Ok(available) => available,
         Err(error) => return Err(error),
     };
+    if available.is_empty() {
+        return Ok(0);
+    }
     let shown = &available[..available.len().min(most)];
     let run = line_length(shown);
     if into.extend_from_slice(&shown[..run]).is_err() {

@@ -27,7 +27,7 @@ mod write;
 
 pub use device::{NextByte, Run, Sink, Source, WriteSome};
 pub use digits::{is_digits, number};
-pub use fields::{Values, find_value, same_name, trim_end};
+pub use fields::{Values, find_value, same_name, trim_end_ows};
 pub use input::Input;
 pub use law::an_input_has_one_answer;
 pub use message::{Field, Limits, Message, Taken};

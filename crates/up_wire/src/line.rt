@@ -1,6 +1,7 @@
 //! One line of a source.
-ghost use Rattle.std.specs.Prelude.{◌≡◌, ◌+◌, ◌<◌, ◌≤◌, ◌++◌, Bool, List, ℕ, vec_len, vec_capacity, length, max, true};
+ghost use Rattle.std.specs.Prelude.{◌≡◌, ◌+◌, ◌<◌, ◌≤◌, ◌++◌, List, ℕ, vec_len};
 ghost use Rattle.std.specs.Io.KnownBytes.{Consumes};
+ghost use Rattle.up_wire.specs.Device.{Counts};
 ghost use Rattle.up_wire.specs.Message.{Ending};
 ghost use Rattle.up_wire.specs.Limits.{max_interruptions};
 ghost use Rattle.up_wire.specs.Steps.{EndsSo, EndsInFeed, is_line_end, IsLineTaken};
@@ -55,13 +56,12 @@ pub(crate) fn take_line<R: Source>(
     requires patient { interruptions.old < max_interruptions }
     requires within { vec_len text.old ≤ most }
     ensures answer { (line : List ℕ) × (ending : Ending)
-        × Consumes (R.left source.old) (R.left source.new) line
-        × EndsSo ending (R.left source.new) (R.has_failed source.new) interruptions.new
+        × Consumes (R.device source.old).bytes (R.device source.new).bytes line
+        × EndsSo ending (R.device source.new) interruptions.new
         × (text.new.items ≡ text.old.items ++ line)
         × IsLineTaken most text.new.items line ending result }
-    ensures rose { interruptions.old ≤ interruptions.new }
-    ensures counted { interruptions.new + R.interruptions source.old
-        ≡ interruptions.old + R.interruptions source.new }
+    ensures counts { Counts (R.device source.old) (R.device source.new)
+        interruptions.old interruptions.new }
     ensures within { vec_len text.new ≤ most }
 {
     'runs: while text.len() < most {

@@ -1,6 +1,6 @@
 //! A writer of std as a sink.
 ghost use Rattle.std.specs.Prelude.{◌≡◌, ◌+◌, false};
-ghost use Rattle.up_wire.specs.Device.{IsNothing, is_failed_write, interrupted_writes};
+ghost use Rattle.up_wire.specs.Device.{device_of, IsNothing, is_failed_write, interrupted_writes};
 
 use crate::device::{Sink, WriteSome};
 use std::io::{self, ErrorKind, Write};
@@ -19,7 +19,8 @@ impl<W> Output<W> {
         ensures writer { self.new.writer ≡ self.old.writer }
         ensures nothing { IsNothing result }
         ensures failed { self.new.has_failed ≡ is_failed_write result }
-        ensures interrupted { self.new.interruptions ≡ self.old.interruptions + interrupted_writes result }
+        ensures interrupted { self.new.interruptions
+            ≡ self.old.interruptions + interrupted_writes result }
     {
         if error.kind() == ErrorKind::Interrupted && self.interruptions < u64::MAX {
             self.interruptions += 1;
@@ -34,9 +35,8 @@ impl<W> Output<W> {
 impl<W: Write> Output<W> {
     /// A sink that writes to the writer.
     pub fn new(writer: W) -> Output<W>
-        ensures written { ⟦<Output<W> as Sink>⟧.written result ≡ W.contents writer }
-        ensures failed { ⟦<Output<W> as Sink>⟧.has_failed result ≡ false }
-        ensures interruptions { ⟦<Output<W> as Sink>⟧.interruptions result ≡ 0 }
+        ensures { ⟦<Output<W> as Sink>⟧.device result
+            ≡ device_of (W.contents writer) false 0 }
     {
         Output {
             writer,
@@ -47,18 +47,14 @@ impl<W: Write> Output<W> {
 
     /// The writer.
     pub fn into_inner(self) -> W
-        ensures { W.contents result ≡ ⟦<Output<W> as Sink>⟧.written self }
+        ensures { W.contents result ≡ (⟦<Output<W> as Sink>⟧.device self).bytes }
     {
         self.writer
     }
 }
 
 impl<W: Write> Sink for Output<W> {
-    ghost written = { λ s. W.contents s.writer };
-
-    ghost has_failed = { λ s. s.has_failed };
-
-    ghost interruptions = { λ s. s.interruptions };
+    ghost device = { λ s. device_of (W.contents s.writer) s.has_failed s.interruptions };
 
     fn write_some(&mut self, bytes: &[u8]) -> WriteSome {
         if self.has_failed {

@@ -1,5 +1,4 @@
 //! Reading a message.
-ghost use Rattle.up_wire.specs.Device.{device};
 ghost use Rattle.up_wire.specs.Reading.{IsReading};
 
 use crate::body::{BodyRead, read_body};
@@ -7,6 +6,7 @@ use crate::device::{Sink, Source};
 use crate::framing::framing_of;
 use crate::head_reader::{HeadRead, read_head};
 use crate::message::{Limits, Taken};
+use crate::sequence::Sequence;
 use crate::wire_fault::WireFault;
 use crate::write::continue_if_asked;
 use std::alloc::Global;
@@ -29,10 +29,10 @@ pub fn read_message<R: Source, W: Sink>(
     limits: &Limits,
 ) -> Taken
     ensures { IsReading limits.now.max_body
-        (device (R.left source.old) (R.has_failed source.old) (R.interruptions source.old))
-        (device (R.left source.new) (R.has_failed source.new) (R.interruptions source.new))
-        (device (W.written sink.old) (W.has_failed sink.old) (W.interruptions sink.old))
-        (device (W.written sink.new) (W.has_failed sink.new) (W.interruptions sink.new))
+        (R.device source.old)
+        (R.device source.new)
+        (W.device sink.old)
+        (W.device sink.new)
         result }
 {
     let mut interruptions = 0;
@@ -53,8 +53,8 @@ pub fn read_message<R: Source, W: Sink>(
         };
     }
     match read_body(alloc, source, &mut interruptions, limits.max_body, framing) {
-        BodyRead::Whole(body) => Taken::Message(head.into_message(body)),
-        BodyRead::Cut(body) => Taken::Cut(head.into_message(body)),
+        BodyRead::Whole(body) => Taken::Message(head.into_message(Sequence::from_vec(body))),
+        BodyRead::Cut(body) => Taken::Cut(head.into_message(Sequence::from_vec(body))),
         BodyRead::Fault(fault) => Taken::Fault { fault, bare },
     }
 }

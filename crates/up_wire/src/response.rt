@@ -1,8 +1,9 @@
 //! What is answered.
-ghost use Rattle.std.specs.Prelude.{◌≡◌, ◌+◌, ◌-◌, ◌<◌, ◌≤◌, ◌⊎◌, ◌++◌, ◌∷◌, [], true, false, flat_map, IfOk, OnOk, OnErr};
-ghost use Rattle.up_wire.specs.Device.{GaveUp};
+ghost use Rattle.std.specs.Prelude.{◌≡◌, ◌+◌, ◌<◌, ◌≤◌, ◌++◌, ◌∷◌, [], flat_map, IfOk, OnOk, OnErr};
+ghost use Rattle.up_wire.specs.Device.{GaveUp, Tries, interrupted};
 ghost use Rattle.up_wire.specs.Limits.{max_interruptions};
 ghost use Rattle.up_wire.specs.Steps.{WritesIf};
+ghost use Rattle.up_wire.specs.Refused.{plain_text, refused_with, out_of_memory};
 ghost use Rattle.up_wire.specs.Response.{Writes, phrase, start_text, field_line, length_line, end_text, response_text};
 
 use crate::device::Sink;
@@ -44,7 +45,8 @@ impl Response {
         name: &[u8],
         value: &[u8],
     ) -> Result<Self, AllocError>
-        ensures { IfOk result (λ made. made ≡ record self { fields = self.fields ++ (name.now, value.now) ∷ [] }) }
+        ensures { IfOk result (λ made. made
+            ≡ record self { fields = self.fields ++ (name.now, value.now) ∷ [] }) }
     {
         let name = Sequence::from_slice(alloc, name)?;
         self.fields
@@ -59,16 +61,38 @@ impl Response {
         self.body = body;
         self
     }
+
+    /// With this body, which is not copied, and a last field that says that it is plain text. `AllocError` where memory
+    /// for the field was refused.
+    pub fn with_plain_text(self, alloc: Global, text: Bytes) -> Result<Self, AllocError>
+        ensures { IfOk result (λ made. made
+            ≡ record self { fields = self.fields ++ plain_text ∷ []; body = text }) }
+    {
+        let response = self.with_field(alloc, b"Content-Type", b"text/plain")?;
+        Ok(response.with_body(text))
+    }
+
+    /// To what is refused: why, as plain text. `AllocError` where memory was refused.
+    pub fn refused(alloc: Global, status: u16, text: &'static str) -> Result<Self, AllocError>
+        ensures { IfOk result (λ made. made ≡ refused_with status text.now) }
+    {
+        Response::new(alloc, status).with_plain_text(alloc, Bytes::from_static(text.as_bytes()))
+    }
+
+    /// To what there was no memory for: nothing but its status (RFC 9110, section 15.6.4). Takes no memory.
+    pub fn out_of_memory(alloc: Global) -> Self
+        ensures { result ≡ out_of_memory }
+    {
+        Response::new(alloc, 503)
+    }
 }
 
 fn write_field<W: Sink>(sink: &mut W, field: &Field, interruptions: &mut u32) -> bool
     requires { interruptions.old < max_interruptions }
-    ensures written { WritesIf (W.written sink.old) (W.written sink.new) (field_line field.now) result }
-    ensures rose { interruptions.old ≤ interruptions.new }
-    ensures counted { interruptions.new + W.interruptions sink.old
-        ≡ interruptions.old + W.interruptions sink.new }
-    ensures patient { result ≡ true → interruptions.new < max_interruptions }
-    ensures failed { result ≡ false → GaveUp (W.has_failed sink.new) interruptions.new }
+    ensures written { WritesIf (W.device sink.old).bytes (W.device sink.new).bytes
+        (field_line field.now) result }
+    ensures tries { Tries (W.device sink.old) (W.device sink.new)
+        interruptions.old interruptions.new result }
 {
     let pieces: [&[u8]; 4] = [field.0.as_slice(), b": ", field.1.as_slice(), b"\r\n"];
     write_each(sink, &pieces, interruptions)
@@ -77,12 +101,10 @@ fn write_field<W: Sink>(sink: &mut W, field: &Field, interruptions: &mut u32) ->
 /// Writes the lines of the fields.
 fn write_fields<W: Sink>(sink: &mut W, fields: &[Field], interruptions: &mut u32) -> bool
     requires { interruptions.old < max_interruptions }
-    ensures written { WritesIf (W.written sink.old) (W.written sink.new) (flat_map field_line fields.now) result }
-    ensures rose { interruptions.old ≤ interruptions.new }
-    ensures counted { interruptions.new + W.interruptions sink.old
-        ≡ interruptions.old + W.interruptions sink.new }
-    ensures patient { result ≡ true → interruptions.new < max_interruptions }
-    ensures failed { result ≡ false → GaveUp (W.has_failed sink.new) interruptions.new }
+    ensures written { WritesIf (W.device sink.old).bytes (W.device sink.new).bytes
+        (flat_map field_line fields.now) result }
+    ensures tries { Tries (W.device sink.old) (W.device sink.new)
+        interruptions.old interruptions.new result }
 {
     for field in fields {
         if !write_field(sink, field, interruptions) {
@@ -104,12 +126,10 @@ fn phrase(status: u16) -> &'static str
 
 fn write_start<W: Sink>(sink: &mut W, status: u16, interruptions: &mut u32) -> bool
     requires { interruptions.old < max_interruptions }
-    ensures written { WritesIf (W.written sink.old) (W.written sink.new) (start_text status) result }
-    ensures rose { interruptions.old ≤ interruptions.new }
-    ensures counted { interruptions.new + W.interruptions sink.old
-        ≡ interruptions.old + W.interruptions sink.new }
-    ensures patient { result ≡ true → interruptions.new < max_interruptions }
-    ensures failed { result ≡ false → GaveUp (W.has_failed sink.new) interruptions.new }
+    ensures written { WritesIf (W.device sink.old).bytes (W.device sink.new).bytes
+        (start_text status) result }
+    ensures tries { Tries (W.device sink.old) (W.device sink.new)
+        interruptions.old interruptions.new result }
 {
     let mut digits = Buffer::new();
     let pieces: [&[u8]; 5] = [
@@ -129,12 +149,10 @@ fn write_length<W: Sink>(
     interruptions: &mut u32,
 ) -> bool
     requires { interruptions.old < max_interruptions }
-    ensures written { WritesIf (W.written sink.old) (W.written sink.new) (length_line bare response.now) result }
-    ensures rose { interruptions.old ≤ interruptions.new }
-    ensures counted { interruptions.new + W.interruptions sink.old
-        ≡ interruptions.old + W.interruptions sink.new }
-    ensures patient { result ≡ true → interruptions.new < max_interruptions }
-    ensures failed { result ≡ false → GaveUp (W.has_failed sink.new) interruptions.new }
+    ensures written { WritesIf (W.device sink.old).bytes (W.device sink.new).bytes
+        (length_line bare response.now) result }
+    ensures tries { Tries (W.device sink.old) (W.device sink.new)
+        interruptions.old interruptions.new result }
 {
     if bare || response.status == 204 {
         return true;
@@ -156,12 +174,10 @@ fn write_end<W: Sink>(
     interruptions: &mut u32,
 ) -> bool
     requires { interruptions.old < max_interruptions }
-    ensures written { WritesIf (W.written sink.old) (W.written sink.new) (end_text bare close body.now) result }
-    ensures rose { interruptions.old ≤ interruptions.new }
-    ensures counted { interruptions.new + W.interruptions sink.old
-        ≡ interruptions.old + W.interruptions sink.new }
-    ensures patient { result ≡ true → interruptions.new < max_interruptions }
-    ensures failed { result ≡ false → GaveUp (W.has_failed sink.new) interruptions.new }
+    ensures written { WritesIf (W.device sink.old).bytes (W.device sink.new).bytes
+        (end_text bare close body.now) result }
+    ensures tries { Tries (W.device sink.old) (W.device sink.new)
+        interruptions.old interruptions.new result }
 {
     let closing: &[u8] = if close { b"Connection: close\r\n" } else { b"" };
     let sent: &[u8] = if bare { b"" } else { body };
@@ -176,9 +192,13 @@ pub fn write_response<W: Sink>(
     bare: bool,
     close: bool,
 ) -> Result<(), WriteFailed>
-    ensures written { Writes (W.written sink.old) (W.written sink.new) (response_text response.now bare close) result }
-    ensures patient { OnOk result (W.interruptions sink.new - W.interruptions sink.old < max_interruptions) }
-    ensures failed { OnErr result (GaveUp (W.has_failed sink.new) (W.interruptions sink.new - W.interruptions sink.old)) }
+    ensures written { Writes (W.device sink.old).bytes (W.device sink.new).bytes
+        (response_text response.now bare close) result }
+    ensures patient { OnOk result
+        (interrupted (W.device sink.old) (W.device sink.new) < max_interruptions) }
+    ensures failed { OnErr result
+        (GaveUp (W.device sink.new) (interrupted (W.device sink.old) (W.device sink.new))) }
+    ensures bounded { interrupted (W.device sink.old) (W.device sink.new) ≤ max_interruptions }
 {
     let mut interruptions = 0;
     if !write_parts(sink, response, bare, close, &mut interruptions) {
@@ -198,12 +218,10 @@ fn write_parts<W: Sink>(
     interruptions: &mut u32,
 ) -> bool
     requires { interruptions.old < max_interruptions }
-    ensures written { WritesIf (W.written sink.old) (W.written sink.new) (response_text response.now bare close) result }
-    ensures rose { interruptions.old ≤ interruptions.new }
-    ensures counted { interruptions.new + W.interruptions sink.old
-        ≡ interruptions.old + W.interruptions sink.new }
-    ensures patient { result ≡ true → interruptions.new < max_interruptions }
-    ensures failed { result ≡ false → GaveUp (W.has_failed sink.new) interruptions.new }
+    ensures written { WritesIf (W.device sink.old).bytes (W.device sink.new).bytes
+        (response_text response.now bare close) result }
+    ensures tries { Tries (W.device sink.old) (W.device sink.new)
+        interruptions.old interruptions.new result }
 {
     if !write_start(sink, response.status, interruptions) {
         return false;

@@ -1,19 +1,21 @@
 //! Room for bytes that come.
-ghost use Rattle.std.specs.Prelude.{◌≡◌, ◌+◌, ◌<◌, ◌≤◌, true, max, min, vec_len, vec_capacity};
+ghost use Rattle.std.specs.Prelude.{◌≡◌, ◌*◌, ◌<◌, ◌≤◌, true, max, min, vec_len, vec_capacity};
 
-/// Makes room for a byte at least, where the buffer may come to have `most` bytes: a full buffer doubles, or has this
-/// much room at first, but not past `most`. Answers whether there is room.
+/// Makes room for a byte at least, where the buffer may come to have `most` bytes: a full buffer doubles, or has `first`
+/// bytes of room at first, but not past `most`. Answers whether there is room.
 pub(crate) fn make_room(buffer: &mut Vec<u8>, most: u64, first: usize) -> bool
     requires some { 0 < first }
     requires within { vec_len buffer.old < most }
     ensures items { buffer.new.items ≡ buffer.old.items }
     ensures room { result ≡ true → vec_len buffer.new < vec_capacity buffer.new }
-    ensures bounded { vec_capacity buffer.new ≤ max (vec_capacity buffer.old) (min most (vec_len buffer.old + max first (vec_len buffer.old))) }
+    ensures bounded { vec_capacity buffer.new
+        ≤ max (vec_capacity buffer.old) (min most (max first (2 * vec_len buffer.old))) }
 {
     let len = buffer.len();
     if len < buffer.capacity() {
         return true;
     }
-    let growth = (len.max(first) as u64).min(most - len as u64) as usize;
+    let growth = if len < first { first - len } else { len };
+    let growth = (growth as u64).min(most - len as u64) as usize;
     buffer.reserve_exact(growth).is_ok()
 }

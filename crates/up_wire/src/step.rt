@@ -1,6 +1,7 @@
 //! One byte of a source, where an interrupted read is tried again.
-ghost use Rattle.std.specs.Prelude.{◌≤◌, ◌≡◌, ◌+◌, ◌<◌};
+ghost use Rattle.std.specs.Prelude.{◌<◌};
 ghost use Rattle.std.specs.Io.KnownBytes.{Consumes};
+ghost use Rattle.up_wire.specs.Device.{Counts};
 ghost use Rattle.up_wire.specs.Limits.{max_interruptions};
 ghost use Rattle.up_wire.specs.Steps.{step_bytes, step_ending, EndsSo};
 
@@ -20,11 +21,11 @@ pub(crate) enum Step {
 /// The next byte, where an interrupted read is tried again.
 pub(crate) fn take_step<R: Source>(source: &mut R, interruptions: &mut u32) -> Step
     requires { interruptions.old < max_interruptions }
-    ensures bytes { Consumes (R.left source.old) (R.left source.new) (step_bytes result) }
-    ensures rose { interruptions.old ≤ interruptions.new }
-    ensures counted { interruptions.new + R.interruptions source.old
-        ≡ interruptions.old + R.interruptions source.new }
-    ensures ends { EndsSo (step_ending result) (R.left source.new) (R.has_failed source.new) interruptions.new }
+    ensures bytes { Consumes (R.device source.old).bytes (R.device source.new).bytes
+        (step_bytes result) }
+    ensures counts { Counts (R.device source.old) (R.device source.new)
+        interruptions.old interruptions.new }
+    ensures ends { EndsSo (step_ending result) (R.device source.new) interruptions.new }
 {
     'tries: loop {
         match source.next_byte() {

@@ -1,7 +1,8 @@
 //! Writing texts of any kind.
-ghost use Rattle.std.specs.Prelude.{◌≡◌, ◌-◌, OnErr};
+ghost use Rattle.std.specs.Prelude.{◌<◌, ◌≤◌, OnOk, OnErr};
 ghost use Rattle.std.specs.Io.KnownBytes.{Keeps};
-ghost use Rattle.up_wire.specs.Device.{GaveUp};
+ghost use Rattle.up_wire.specs.Device.{GaveUp, interrupted};
+ghost use Rattle.up_wire.specs.Limits.{max_interruptions};
 ghost use Rattle.up_wire.specs.Response.{Writes, joined};
 
 use crate::device::Sink;
@@ -16,8 +17,13 @@ pub struct WriteFailed;
 /// Writes the pieces, one after another. It takes no memory. An error comes where the sink failed, or was interrupted
 /// 1,000 times: a front of the text may then be written.
 pub fn write_pieces<W: Sink>(sink: &mut W, pieces: &[&[u8]]) -> Result<(), WriteFailed>
-    ensures written { Writes (W.written sink.old) (W.written sink.new) (joined pieces.now) result }
-    ensures failed { OnErr result (GaveUp (W.has_failed sink.new) (W.interruptions sink.new - W.interruptions sink.old)) }
+    ensures written { Writes (W.device sink.old).bytes (W.device sink.new).bytes
+        (joined pieces.now) result }
+    ensures patient { OnOk result
+        (interrupted (W.device sink.old) (W.device sink.new) < max_interruptions) }
+    ensures failed { OnErr result
+        (GaveUp (W.device sink.new) (interrupted (W.device sink.old) (W.device sink.new))) }
+    ensures bounded { interrupted (W.device sink.old) (W.device sink.new) ≤ max_interruptions }
 {
     let mut interruptions = 0;
     if !write_each(sink, pieces, &mut interruptions) {
@@ -28,8 +34,12 @@ pub fn write_pieces<W: Sink>(sink: &mut W, pieces: &[&[u8]]) -> Result<(), Write
 
 /// Has the sink send on what it holds back. An error comes where it failed, or was interrupted 1,000 times.
 pub fn flush<W: Sink>(sink: &mut W) -> Result<(), WriteFailed>
-    ensures kept { Keeps (W.written sink.old) (W.written sink.new) }
-    ensures failed { OnErr result (GaveUp (W.has_failed sink.new) (W.interruptions sink.new - W.interruptions sink.old)) }
+    ensures kept { Keeps (W.device sink.old).bytes (W.device sink.new).bytes }
+    ensures patient { OnOk result
+        (interrupted (W.device sink.old) (W.device sink.new) < max_interruptions) }
+    ensures failed { OnErr result
+        (GaveUp (W.device sink.new) (interrupted (W.device sink.old) (W.device sink.new))) }
+    ensures bounded { interrupted (W.device sink.old) (W.device sink.new) ≤ max_interruptions }
 {
     let mut interruptions = 0;
     if !send_on(sink, &mut interruptions) {

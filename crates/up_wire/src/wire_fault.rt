@@ -36,18 +36,18 @@ pub enum WireFault {
 impl WireFault {
     ghost use Rattle.up_wire.specs.WireFaults.{status_of, line_of};
 
-    /// The status code of the answer (RFC 9110, section 15). `ReadFailed` and `WriteFailed` are never answered, and
-    /// have that of `BadHead`.
-    pub fn status(&self) -> u16
+    /// The status code of the answer (RFC 9110, section 15). `ReadFailed` and `WriteFailed` are not answered, and have
+    /// none.
+    pub fn status(&self) -> Option<u16>
         ensures { result ≡ status_of self.now }
     {
         match self {
-            WireFault::BadHead | WireFault::BadFraming => 400,
-            WireFault::HeadTooLarge => 431,
-            WireFault::UnknownCoding => 501,
-            WireFault::BodyTooLarge => 413,
-            WireFault::NoMemory => 503,
-            WireFault::ReadFailed | WireFault::WriteFailed => 400,
+            WireFault::BadHead | WireFault::BadFraming => Some(400),
+            WireFault::HeadTooLarge => Some(431),
+            WireFault::UnknownCoding => Some(501),
+            WireFault::BodyTooLarge => Some(413),
+            WireFault::NoMemory => Some(503),
+            WireFault::ReadFailed | WireFault::WriteFailed => None,
         }
     }
 

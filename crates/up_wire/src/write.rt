@@ -1,9 +1,9 @@
 //! Writing to a sink.
-ghost use Rattle.std.specs.Prelude.{◌≡◌, ◌+◌, ◌-◌, ◌<◌, ◌≤◌, ◌⊎◌, ℕ, List, true, false, codes, ◌&&◌, length};
+ghost use Rattle.std.specs.Prelude.{◌≡◌, ◌<◌, ℕ, List, true, false, length};
 ghost use Rattle.std.specs.Io.KnownBytes.{Appends, Keeps};
-ghost use Rattle.up_wire.specs.Framing.{has_body, asks_to_continue, interim};
+ghost use Rattle.up_wire.specs.Framing.{has_body, interim};
 ghost use Rattle.up_wire.specs.Reading.{IsFront};
-ghost use Rattle.up_wire.specs.Device.{GaveUp};
+ghost use Rattle.up_wire.specs.Device.{Tries};
 ghost use Rattle.up_wire.specs.Response.{joined};
 ghost use Rattle.up_wire.specs.Steps.{WritesIf};
 ghost use Rattle.up_wire.specs.Limits.{max_interruptions};
@@ -18,14 +18,10 @@ use crate::step::MAX_INTERRUPTIONS;
 pub(crate) fn write_all<W: Sink>(sink: &mut W, bytes: &[u8], interruptions: &mut u32) -> bool
     requires { interruptions.old < max_interruptions }
     ensures written { (front : List ℕ) × IsFront front bytes.now
-        × Appends (W.written sink.old) (W.written sink.new) front
+        × Appends (W.device sink.old).bytes (W.device sink.new).bytes front
         × (result ≡ true → front ≡ bytes.now) }
-    ensures rose { interruptions.old ≤ interruptions.new }
-    ensures counted { interruptions.new + W.interruptions sink.old
-        ≡ interruptions.old + W.interruptions sink.new }
-    ensures patient { result ≡ true → interruptions.new < max_interruptions }
-    ensures failed { result ≡ false → GaveUp (W.has_failed sink.new) interruptions.new }
-    ensures bounded { interruptions.new ≤ max_interruptions }
+    ensures tries { Tries (W.device sink.old) (W.device sink.new)
+        interruptions.old interruptions.new result }
 {
     let mut rest = bytes;
     'pieces: while !rest.is_empty() {
@@ -46,13 +42,10 @@ pub(crate) fn write_all<W: Sink>(sink: &mut W, bytes: &[u8], interruptions: &mut
 /// Writes the pieces, one after another.
 pub(crate) fn write_each<W: Sink>(sink: &mut W, pieces: &[&[u8]], interruptions: &mut u32) -> bool
     requires { interruptions.old < max_interruptions }
-    ensures written { WritesIf (W.written sink.old) (W.written sink.new) (joined pieces.now) result }
-    ensures rose { interruptions.old ≤ interruptions.new }
-    ensures counted { interruptions.new + W.interruptions sink.old
-        ≡ interruptions.old + W.interruptions sink.new }
-    ensures patient { result ≡ true → interruptions.new < max_interruptions }
-    ensures failed { result ≡ false → GaveUp (W.has_failed sink.new) interruptions.new }
-    ensures bounded { interruptions.new ≤ max_interruptions }
+    ensures written { WritesIf (W.device sink.old).bytes (W.device sink.new).bytes
+        (joined pieces.now) result }
+    ensures tries { Tries (W.device sink.old) (W.device sink.new)
+        interruptions.old interruptions.new result }
 {
     for piece in pieces {
         if !write_all(sink, piece, interruptions) {
@@ -65,13 +58,9 @@ pub(crate) fn write_each<W: Sink>(sink: &mut W, pieces: &[&[u8]], interruptions:
 /// Has the sink send on what it holds back, where an interrupted try is repeated. Answers whether it did.
 pub(crate) fn send_on<W: Sink>(sink: &mut W, interruptions: &mut u32) -> bool
     requires { interruptions.old < max_interruptions }
-    ensures kept { Keeps (W.written sink.old) (W.written sink.new) }
-    ensures rose { interruptions.old ≤ interruptions.new }
-    ensures counted { interruptions.new + W.interruptions sink.old
-        ≡ interruptions.old + W.interruptions sink.new }
-    ensures patient { result ≡ true → interruptions.new < max_interruptions }
-    ensures failed { result ≡ false → GaveUp (W.has_failed sink.new) interruptions.new }
-    ensures bounded { interruptions.new ≤ max_interruptions }
+    ensures kept { Keeps (W.device sink.old).bytes (W.device sink.new).bytes }
+    ensures tries { Tries (W.device sink.old) (W.device sink.new)
+        interruptions.old interruptions.new result }
 {
     'tries: loop {
         match sink.flush() {
@@ -106,16 +95,13 @@ pub(crate) fn continue_if_asked<W: Sink>(
     interruptions: &mut u32,
 ) -> bool
     requires { interruptions.old < max_interruptions }
-    ensures written { (front : List ℕ) × IsFront front (interim framing head.now.minor head.now.fields)
-        × Appends (W.written sink.old) (W.written sink.new) front
+    ensures written { (front : List ℕ)
+        × IsFront front (interim framing head.now.minor head.now.fields)
+        × Appends (W.device sink.old).bytes (W.device sink.new).bytes front
         × (result ≡ true → front ≡ interim framing head.now.minor head.now.fields) }
     ensures due { result ≡ false → 0 < length (interim framing head.now.minor head.now.fields) }
-    ensures rose { interruptions.old ≤ interruptions.new }
-    ensures counted { interruptions.new + W.interruptions sink.old
-        ≡ interruptions.old + W.interruptions sink.new }
-    ensures patient { result ≡ true → interruptions.new < max_interruptions }
-    ensures failed { result ≡ false → GaveUp (W.has_failed sink.new) interruptions.new }
-    ensures bounded { interruptions.new ≤ max_interruptions }
+    ensures tries { Tries (W.device sink.old) (W.device sink.new)
+        interruptions.old interruptions.new result }
 {
     if has_body(framing) && fields::asks_to_continue(head.minor, head.fields.as_slice()) {
         if !write_all(sink, b"HTTP/1.1 100 Continue\r\n\r\n", interruptions) {

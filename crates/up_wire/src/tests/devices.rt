@@ -1,4 +1,5 @@
 //! Devices in memory, which are interrupted and fail as they are told to.
+ghost use Rattle.up_wire.specs.Device.{device_of};
 ghost use Rattle.std.specs.Prelude.{None};
 
 use super::*;
@@ -30,11 +31,7 @@ impl<'a> Tape<'a> {
 }
 
 impl<'a> Source for Tape<'a> {
-    ghost left = { λ s. None };
-
-    ghost has_failed = { λ s. s.has_failed };
-
-    ghost interruptions = { λ s. s.interruptions };
+    ghost device = { λ s. device_of None s.has_failed s.interruptions };
 
     fn next_byte(&mut self) -> NextByte {
         if self.has_failed {
@@ -85,11 +82,7 @@ impl Slot {
 }
 
 impl Sink for Slot {
-    ghost written = { λ s. None };
-
-    ghost has_failed = { λ s. s.has_failed };
-
-    ghost interruptions = { λ s. s.interruptions };
+    ghost device = { λ s. device_of None s.has_failed s.interruptions };
 
     fn write_some(&mut self, bytes: &[u8]) -> WriteSome {
         if self.has_failed {

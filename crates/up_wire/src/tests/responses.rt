@@ -104,6 +104,22 @@ fn makes_responses(rt: HostRuntime) -> Result<(), Fail> {
 }
 
 #[test]
+fn refuses_in_plain_text(rt: HostRuntime) -> Result<(), Fail> {
+    let mut slot = Slot::new(rt.alloc());
+    let refused = Response::refused(rt.alloc(), 404, "no such path\n")?;
+    assert_eq!(rt; write_response(&mut slot, &refused, false, false), Ok(()));
+    let wanted = "HTTP/1.1 404 Not Found\r\nTus-Resumable: 1.0.0\r\nCache-Control: no-store\r\n\
+        Content-Type: text/plain\r\nContent-Length: 13\r\n\r\nno such path\n";
+    assert_eq!(rt; slot.taken.as_slice(), wanted.as_bytes());
+    let empty = Response::out_of_memory(rt.alloc());
+    assert_eq!(rt;
+        (empty.status, empty.fields.len(), empty.body.len()),
+        (503, 0, 0)
+    );
+    Ok(())
+}
+
+#[test]
 fn writes_phrases(rt: HostRuntime) -> Result<(), Fail> {
     let rows: [(u16, &str); 20] = [
         (200, "HTTP/1.1 200 OK\r\n"),
@@ -139,14 +155,14 @@ fn writes_phrases(rt: HostRuntime) -> Result<(), Fail> {
 #[test]
 fn names_faults(rt: HostRuntime) {
     for (fault, status, text) in [
-        (WireFault::BadHead, 400, "1 BadHead\n"),
-        (WireFault::HeadTooLarge, 431, "2 HeadTooLarge\n"),
-        (WireFault::BadFraming, 400, "3 BadFraming\n"),
-        (WireFault::UnknownCoding, 501, "4 UnknownCoding\n"),
-        (WireFault::BodyTooLarge, 413, "5 BodyTooLarge\n"),
-        (WireFault::ReadFailed, 400, "6 ReadFailed\n"),
-        (WireFault::NoMemory, 503, "7 NoMemory\n"),
-        (WireFault::WriteFailed, 400, "8 WriteFailed\n"),
+        (WireFault::BadHead, Some(400), "1 BadHead\n"),
+        (WireFault::HeadTooLarge, Some(431), "2 HeadTooLarge\n"),
+        (WireFault::BadFraming, Some(400), "3 BadFraming\n"),
+        (WireFault::UnknownCoding, Some(501), "4 UnknownCoding\n"),
+        (WireFault::BodyTooLarge, Some(413), "5 BodyTooLarge\n"),
+        (WireFault::ReadFailed, None, "6 ReadFailed\n"),
+        (WireFault::NoMemory, Some(503), "7 NoMemory\n"),
+        (WireFault::WriteFailed, None, "8 WriteFailed\n"),
     ] {
         assert_eq!(rt; fault.status(), status);
         assert_eq!(rt; fault.text(), text);

@@ -1,6 +1,5 @@
 use Rattle.std.proofs.Common.{◌+◌, arith}
 use Rattle.up_hooks.specs.Gives.{ClosuresGive}
-use Rattle.up_wire.specs.Device.{device}
 use Rattle.up_server.proofs.TurnLemmas.{goes_on_same, goes_on_then, goes_on_within, no_passes, passes_few, passes_more}
 use Rattle.up_server.proofs.conversation.converse.Goals as goal
 
@@ -15,8 +14,8 @@ returns-in-Some-clause-turns g c = record {
   turns = c.loop-turn.turn;
   last = record {
     course = c.loop-turn.dispatcher;
-    source = device (g.R.Source.left c.loop-turn.source) (g.R.Source.has_failed c.loop-turn.source) (g.R.Source.interruptions c.loop-turn.source);
-    sink = device (g.W.Sink.written c.loop-turn.sink) (g.W.Sink.has_failed c.loop-turn.sink) (g.W.Sink.interruptions c.loop-turn.sink);
+    source = g.R.Source.device c.loop-turn.source;
+    sink = g.W.Sink.device c.loop-turn.sink;
   };
   passes = c.loop-turn.invariant.passes;
   ends = c.in-Some.ensures.turn;

@@ -1,13 +1,12 @@
 use Rattle.std.proofs.Common.{◌≡◌, ◌∙◌, None, refl, sym, subst}
-use Rattle.up_wire.specs.Device.{device}
 use Rattle.up_wire.specs.declared.message.Taken.TheVariants as Taken
 use Rattle.up_server.specs.Turn.{IsFaultSent, unanswered}
 use Rattle.up_server.proofs.conversation.take_turn.Goals as goal
 
 pub returns-in-None-clause-turn : goal.returns-in-None-clause-turn
 returns-in-None-clause-turn g c =
-    let sink = device (g.W.Sink.written c.read_message.new.sink) (g.W.Sink.has_failed c.read_message.new.sink) (g.W.Sink.interruptions c.read_message.new.sink) in
-    let after = device (g.W.Sink.written c.send.new.sink) (g.W.Sink.has_failed c.send.new.sink) (g.W.Sink.interruptions c.send.new.sink) in
+    let sink = g.W.Sink.device c.read_message.new.sink in
+    let after = g.W.Sink.device c.send.new.sink in
     let none : unanswered c.in-Fault.fault ≡ None = sym c.unanswered.ensures ∙ c.in-None.is in
     record {
       taken = Taken.Fault c.in-Fault.fault c.in-Fault.bare;

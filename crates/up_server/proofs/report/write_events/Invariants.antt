@@ -5,4 +5,4 @@ use Rattle.up_server.specs.ReportText.{event_line}
 use Rattle.up_server.proofs.report.write_events.Given as goal
 
 abbrev pub invariant-loop-event : goal.invariant-loop-event
-invariant-loop-event g l = Appends (g.W.Sink.written l.fn.sink) (g.W.Sink.written l.sink) (flat_map event_line (take l.event-index l.events))
+invariant-loop-event g l = Appends (g.W.Sink.device l.fn.sink).bytes (g.W.Sink.device l.sink).bytes (flat_map event_line (take l.event-index l.events))

@@ -16,4 +16,4 @@ pub returns-clause-written : goal.returns-clause-written
 returns-clause-written g c =
     let lane = c.args.lane.now in
     writes_then _ _ _ (lane_line c.args.number lane) (flat_map event_line (told_by lane.hook)) c.write_events.result c.in_ok-write_lane_line.ensures.written
-    (subst (λ events. Writes (g.W.Sink.written c.write_lane_line.new.sink) (g.W.Sink.written c.write_events.new.sink) (flat_map event_line events) c.write_events.result) c.list.ensures c.write_events.ensures.written)
+    (subst (λ events. Writes (g.W.Sink.device c.write_lane_line.new.sink).bytes (g.W.Sink.device c.write_events.new.sink).bytes (flat_map event_line events) c.write_events.result) c.list.ensures c.write_events.ensures.written)

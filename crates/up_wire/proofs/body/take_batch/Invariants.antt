@@ -1,16 +1,17 @@
 use Rattle.std.proofs.Common.{◌≡◌, ◌+◌, ◌-◌, ◌<◌, ◌≤◌, [], vec_len, vec_capacity}
 use Rattle.std.specs.Io.KnownBytes.{Consumes}
+use Rattle.up_wire.specs.Device.{Counts}
 use Rattle.up_wire.specs.Limits.{max_interruptions}
 use Rattle.up_wire.proofs.body.take_batch.Given as goal
 
 abbrev pub invariant-tries : goal.invariant-tries
 invariant-tries g l = record {
-  bytes : Consumes (g.R.Source.left l.fn.source) (g.R.Source.left l.source) [];
-  rose : l.fn.interruptions ≤ l.interruptions;
-  counted : l.interruptions + g.R.Source.interruptions l.fn.source ≡ l.fn.interruptions + g.R.Source.interruptions l.source;
+  bytes : Consumes (g.R.Source.device l.fn.source).bytes (g.R.Source.device l.source).bytes [];
+  counts : Counts (g.R.Source.device l.fn.source) (g.R.Source.device l.source) l.fn.interruptions l.interruptions;
   patient : l.interruptions < max_interruptions;
   items : l.into.items ≡ l.fn.into.items;
   room : vec_len l.into + l.most ≤ vec_capacity l.into;
+  kept : vec_capacity l.into ≡ vec_capacity l.fn.into;
 }
 
 abbrev pub decreases-tries : goal.decreases-tries

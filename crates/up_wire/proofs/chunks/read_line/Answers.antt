@@ -1,5 +1,6 @@
 use Rattle.std.proofs.Common.{◌≡◌, ◌≤◌, [], ◌∷◌, ◌++◌, length, sym, ap, ◌∙◌, subst, arith, inl, inr}
 use Rattle.httparse.specs.Grammar.{print_chunk_line, HasNoChunkLine, NeverHasChunkLine}
+use Rattle.up_wire.specs.Chunks.{IsLine}
 use Rattle.up_wire.proofs.ChunkedTexts.{no_line, line_alone, line_refused}
 use Rattle.up_wire.proofs.chunks.read_line.Goals as goal
 
@@ -11,7 +12,8 @@ returns-in-Ok-Complete-clause-answer g c =
     let found = rw c.in-Ok-Complete.field-0-is at c.in-Ok-Complete.ensures.complete in
     let alone = line_alone front found.0 _ a.5.0.2 (found.1.reads.0, sym same ∙ found.1.reads.1) in
     let short : length (print_chunk_line found.0) ≤ 256 = omega (arith, ap length (sym same ∙ c.deref.ensures.value), c.in-Whole.ensures.within, ap length alone) in
-    (a.0, a.1, a.2, a.3, (found.0, record { valid = found.1.reads.0; short = short }, a.5.0.1 ∙ alone, found.1.size_is, a.5.1))
+    let is_line : IsLine found.0 = record { valid = found.1.reads.0; short = short } in
+    (a.0, a.1, a.2, a.3, record { line = found.0; is_line = is_line; text_is = a.5.0.1 ∙ alone; size_is = found.1.size_is; goes_on = a.5.1 })
 
 pub returns-in-Ok-Partial-clause-answer : goal.returns-in-Ok-Partial-clause-answer
 returns-in-Ok-Partial-clause-answer g c =

@@ -9,6 +9,7 @@ use Rattle.up_wire.specs.Steps.{AreParsed, EndsSo, IsStopBehind, is_line_end}
 use Rattle.up_wire.proofs.ChunkedTexts.{trailers_alone}
 use Rattle.up_wire.proofs.EmptyLines.{section_at_line, part_no_section, line_no_section, trailers_stop}
 use Rattle.up_wire.proofs.Lines.{rest_of, front_of}
+use Rattle.up_wire.proofs.Counting.{counts_on}
 use Rattle.up_wire.proofs.chunks.read_trailers.Goals as goal
 
 pub returns-in-Whole-parse_trailers-clause-answer : goal.returns-in-Whole-parse_trailers-clause-answer
@@ -28,9 +29,8 @@ lines-preserved-in-Whole g c =
     let found = subst (λ t. AreParsed t Trailers.Partial) c.deref-then-start-eq0.ensures.value c.in-Partial.ensures in
     record {
       bytes = subst (Consumes _ _) (sym a.4) (Consumes-trans _ _ _ _ _ old.bytes a.2);
-      rose = omega (arith, old.rose, c.in-Whole.ensures.rose);
-      counted = omega (arith, old.counted, c.in-Whole.ensures.counted);
-      patient = subst (λ e. EndsSo e (g.R.Source.left c.take_line.new.source) (g.R.Source.has_failed c.take_line.new.source) c.take_line.new.interruptions) a.5.1 a.3;
+      counts = counts_on _ _ _ _ _ _ old.counts c.in-Whole.ensures.counts;
+      patient = subst (λ e. EndsSo e (g.R.Source.device c.take_line.new.source) c.take_line.new.interruptions) a.5.1 a.3;
       short = omega (arith, c.in-Whole.ensures.within);
       no_section = found.0;
     }
@@ -44,9 +44,8 @@ lines-preserved g c =
     c.is_line_end.ensures ∙ ap is_line_end (rest_of text a.0 c.deref.result.now c.len-start.result (c.deref.ensures.value ∙ a.4) (omega (arith, c.len-start.ensures))) in
     record {
       bytes = subst (Consumes _ _) (sym a.4) (Consumes-trans _ _ _ _ _ old.bytes a.2);
-      rose = omega (arith, old.rose, c.in-Whole.ensures.rose);
-      counted = omega (arith, old.counted, c.in-Whole.ensures.counted);
-      patient = subst (λ e. EndsSo e (g.R.Source.left c.take_line.new.source) (g.R.Source.has_failed c.take_line.new.source) c.take_line.new.interruptions) a.5.1 a.3;
+      counts = counts_on _ _ _ _ _ _ old.counts c.in-Whole.ensures.counts;
+      patient = subst (λ e. EndsSo e (g.R.Source.device c.take_line.new.source) c.take_line.new.interruptions) a.5.1 a.3;
       short = omega (arith, c.in-Whole.ensures.within);
       no_section = subst HasNoSection (sym a.4) (line_no_section text a.0 old.no_section a.5.0 (sym line ∙ c.if-is_line_end.false));
     }

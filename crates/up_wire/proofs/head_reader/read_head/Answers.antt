@@ -14,6 +14,7 @@ use Rattle.std.proofs.lemmas.List.Elements.{All-nil}
 use Rattle.up_wire.proofs.BlankLines.{IsEnd}
 use Rattle.up_wire.proofs.EmptyLines.{whole_head, part_no_head, line_waits, not_same}
 use Rattle.up_wire.proofs.Lines.{rest_of}
+use Rattle.up_wire.proofs.Counting.{counts_none, counts_on}
 use Rattle.up_wire.proofs.head_reader.read_head.Goals as goal
 
 -- a read failed over bytes that are no head
@@ -35,8 +36,7 @@ lines-init g c =
     let none = c.new-text.ensures.items in
     record {
       bytes = subst (Consumes _ _) (sym none) (Consumes-nil _);
-      rose = omega arith;
-      counted = refl;
+      counts = counts_none _ _;
       patient = c.requires;
       short = omega (arith, ap length none);
       no_head = subst HasNoRequest (sym none) no_head_at_first;
@@ -52,7 +52,7 @@ returns-in-Whole-parse-clause-answer g c =
     let parsed = subst (λ t. IsParsed t (Parsed.Whole c.in-Whole-parse.head)) same c.in-Whole-parse.ensures in
     let short : length (text ++ a.0) ≤ max_head = omega (arith, ap length a.4, c.in-Whole.ensures.within) in
     let alone = whole_head text a.0 parsed.0 parsed.1 old.no_head a.5.0 short parsed.2 parsed.3 in
-    (text ++ a.0, a.1, Consumes-trans _ _ _ _ _ old.bytes a.2, a.3, (parsed.0, alone, parsed.4, a.5.1))
+    (text ++ a.0, a.1, Consumes-trans _ _ _ _ _ old.bytes a.2, a.3, record { head = parsed.0; is_head = alone; keeps = parsed.4; goes_on = a.5.1 })
 
 pub returns-in-NoMemory-parse-clause-answer : goal.returns-in-NoMemory-parse-clause-answer
 returns-in-NoMemory-parse-clause-answer g c =
@@ -100,9 +100,8 @@ lines-preserved g c =
     let waits = line_waits text a.0 c.lines.is_begun c.is_line_end-is_empty.result line (not_same c.lines.is_begun c.is_line_end-is_empty.result c.if-is_begun-is_empty.false) old.no_head old.blank a.5.0 in
     record {
       bytes = subst (Consumes _ _) (sym a.4) (Consumes-trans _ _ _ _ _ old.bytes a.2);
-      rose = omega (arith, old.rose, c.in-Whole.ensures.rose);
-      counted = omega (arith, old.counted, c.in-Whole.ensures.counted);
-      patient = subst (λ e. EndsSo e (g.R.Source.left c.take_line.new.source) (g.R.Source.has_failed c.take_line.new.source) c.take_line.new.interruptions) a.5.1 a.3;
+      counts = counts_on _ _ _ _ _ _ old.counts c.in-Whole.ensures.counts;
+      patient = subst (λ e. EndsSo e (g.R.Source.device c.take_line.new.source) c.take_line.new.interruptions) a.5.1 a.3;
       short = omega (arith, c.in-Whole.ensures.within);
       no_head = subst HasNoRequest (sym a.4) waits.0;
       blank = λ not. subst (All IsEnd) (sym a.4) (waits.1 not);
@@ -123,7 +122,7 @@ returns-in-Full-clause-answer g c =
       text ++ a.0,
       open_yet,
       Consumes-trans _ _ _ _ _ old.bytes a.2,
-      subst (λ e. EndsSo e (g.R.Source.left c.take_line.new.source) (g.R.Source.has_failed c.take_line.new.source) c.take_line.new.interruptions) a.5.2 a.3,
+      subst (λ e. EndsSo e (g.R.Source.device c.take_line.new.source) c.take_line.new.interruptions) a.5.2 a.3,
       subst (IsHeadRead (text ++ a.0) open_yet) (sym c.refuse-in-Full.ensures) (standing_full (text ++ a.0) c.fault_of.result standing (part_no_head text a.0 old.no_head a.5.0) full),
     )
 
@@ -164,7 +163,7 @@ returns-in-Failed-clause-answer g c =
       text ++ a.0,
       failed,
       Consumes-trans _ _ _ _ _ old.bytes a.2,
-      subst (λ e. EndsSo e (g.R.Source.left c.take_line.new.source) (g.R.Source.has_failed c.take_line.new.source) c.take_line.new.interruptions) a.5.2 a.3,
+      subst (λ e. EndsSo e (g.R.Source.device c.take_line.new.source) c.take_line.new.interruptions) a.5.2 a.3,
       subst (IsHeadRead (text ++ a.0) failed) (sym c.refuse-in-Failed.ensures) (standing_failed (text ++ a.0) c.fault_of-in-Failed.result standing (part_no_head text a.0 old.no_head a.5.0) short),
     )
 

@@ -37,8 +37,7 @@ runs-preserved-else-ends_in_feed g c =
         run.2 ∙ ap (λ l. l ++ run.0) (c.make_room.ensures.items ∙ old.2) ∙ append_assoc c.args.text.now.items old.0 run.0,
         All-append (λ b. b ≢ 10) old.0 run.0 old.3 (open_run before run.0 run.4 ends),
       );
-      rose = omega (arith, c.in-Moved.ensures.interrupted, c.runs.invariant.rose);
-      counted = omega (arith, c.in-Moved.ensures.interrupted, c.runs.invariant.counted);
+      counts = record { rose = omega (arith, c.in-Moved.ensures.interrupted, c.runs.invariant.counts.rose); counted = omega (arith, c.in-Moved.ensures.interrupted, c.runs.invariant.counts.counted) };
       patient = c.runs.invariant.patient;
       within = omega (arith, ap length run.2, length-append before run.0, run.3, ap length c.make_room.ensures.items, c.min-room.ensures);
     }

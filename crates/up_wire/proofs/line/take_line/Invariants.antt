@@ -1,14 +1,13 @@
 use Rattle.std.proofs.Common.{◌≡◌, ◌+◌, ◌-◌, ◌<◌, ◌≤◌, List, ℕ, ◌++◌, length, vec_len}
 use Rattle.std.specs.Io.KnownBytes.{Consumes}
 use Rattle.up_wire.specs.Limits.{max_interruptions}
-use Rattle.up_wire.specs.Device.{HasNoFeed}
+use Rattle.up_wire.specs.Device.{Counts, HasNoFeed}
 use Rattle.up_wire.proofs.line.take_line.Given as goal
 
 abbrev pub invariant-runs : goal.invariant-runs
 invariant-runs g l = record {
-  line : (line : List ℕ) × Consumes (g.R.Source.left l.fn.source) (g.R.Source.left l.source) line × (l.text.items ≡ l.fn.text.items ++ line) × HasNoFeed line;
-  rose : l.fn.interruptions ≤ l.interruptions;
-  counted : l.interruptions + g.R.Source.interruptions l.fn.source ≡ l.fn.interruptions + g.R.Source.interruptions l.source;
+  line : (line : List ℕ) × Consumes (g.R.Source.device l.fn.source).bytes (g.R.Source.device l.source).bytes line × (l.text.items ≡ l.fn.text.items ++ line) × HasNoFeed line;
+  counts : Counts (g.R.Source.device l.fn.source) (g.R.Source.device l.source) l.fn.interruptions l.interruptions;
   patient : l.interruptions < max_interruptions;
   within : length l.text.items ≤ l.most;
 }

@@ -1,15 +1,14 @@
-use Rattle.std.proofs.Common.{[], ◌++◌, Ok, Err, refl, sym, ap, subst, append-nil, arith, inl}
+use Rattle.std.proofs.Common.{[], ◌++◌, Ok, Err, refl, sym, ap, ◌∙◌, subst, append-nil, arith, inl}
 use Rattle.std.proofs.KnownBytes.{Appends-nil, Consumes-trans}
 use Rattle.up_wire.specs.Message.{open_yet, fields_of, IsBody, IsCutBody}
 use Rattle.up_wire.specs.Reading.{interim_after}
-use Rattle.up_wire.specs.Device.{device}
 use Rattle.up_wire.proofs.Answering.{shows_of, head_fault, framing_error, framing_fault, fault_behind, framing_is, bare_is, due_is, parts_are, head_more, patient_of, patient_write, still_open, broke, no_write, head_written, error_written, body_written}
 use Rattle.up_wire.proofs.reader.read_message.Goals as goal
 
 pub returns-in-Fault : goal.returns-in-Fault
 returns-in-Fault g c =
     let a = c.in-Fault.ensures.answer in
-    let counted = c.in-Fault.ensures.counted in
+    let counted = c.in-Fault.ensures.counts.counted in
     let both = head_fault c.args.limits.now.max_body a.0 a.1 c.in-Fault.fault c.in-Fault.bare a.4 in
     record {
       input = a.0;
@@ -18,7 +17,7 @@ returns-in-Fault g c =
       took = a.2;
       wrote = Appends-nil _;
       shows = shows_of a.1 _ _ _ _ a.3 (omega arith) (λ often. omega (arith, counted, often));
-      is_patient = patient_of a.1 _ _ _ _ _ a.3 (omega arith);
+      is_patient = patient_of a.1 _ _ _ _ a.3 (omega arith);
       is_answer = both.0;
       is_interim = both.1;
       is_unwritten = λ failed. absurd (no_write c.in-Fault.fault c.in-Fault.bare (head_written a.0 a.1 c.in-Fault.fault c.in-Fault.bare a.4) failed);
@@ -27,18 +26,18 @@ returns-in-Fault g c =
 pub returns-in-Err : goal.returns-in-Err
 returns-in-Err g c =
     let a = c.in-Whole.ensures.answer in
-    let counted = c.in-Whole.ensures.counted in
+    let counted = c.in-Whole.ensures.counts.counted in
     let limit = c.args.limits.now.max_body in
     let h = c.in-Whole.head in
-    let head = a.4.0 in
-    let has = a.4.2 in
+    let head = a.4.head in
+    let has = a.4.keeps in
     let fault = c.in-Err.fault in
     let framed = framing_is limit h head c.as_slice.result.now (Err fault) has c.as_slice.ensures c.in-Err.ensures in
     let bare = bare_is h head c.is_bare-bare.result has c.is_bare-bare.ensures in
     let both = framing_fault limit a.0 open_yet fault c.is_bare-bare.result []
     (framing_error limit head.minor (fields_of head) fault framed)
-    (record { head = head; behind = []; is_head = a.4.1; is_fault = inl (framed, refl); bare_is = bare })
-    (head, [], a.4.1, sym (ap (λ r. interim_after r head) framed)) in
+    (record { head = head; behind = []; is_head = a.4.is_head; is_fault = inl (framed, refl); bare_is = bare })
+    (head, [], a.4.is_head, sym (ap (λ r. interim_after r head) framed)) in
     record {
       input = a.0;
       ending = open_yet;
@@ -46,7 +45,7 @@ returns-in-Err g c =
       took = a.2;
       wrote = Appends-nil _;
       shows = tt;
-      is_patient = inl (omega (arith, still_open a.1 _ _ _ a.4.3 a.3, c.in-Whole.ensures.counted));
+      is_patient = inl (omega (arith, still_open a.1 _ _ a.4.goes_on a.3, c.in-Whole.ensures.counts.counted));
       is_answer = both.0;
       is_interim = both.1;
       is_unwritten = λ failed. absurd (no_write fault c.is_bare-bare.result (error_written fault (framing_error limit head.minor (fields_of head) fault framed)) failed);
@@ -57,8 +56,8 @@ returns-then-not-continue_if_asked g c =
     let a = c.in-Whole.ensures.answer in
     let limit = c.args.limits.now.max_body in
     let h = c.in-Whole.head in
-    let head = a.4.0 in
-    let has = a.4.2 in
+    let head = a.4.head in
+    let has = a.4.keeps in
     let framed = framing_is limit h head c.as_slice.result.now (Ok c.in-Ok.framing) has c.as_slice.ensures c.in-Ok.ensures in
     let written = c.continue_if_asked.ensures.written in
     record {
@@ -68,15 +67,15 @@ returns-then-not-continue_if_asked g c =
       took = a.2;
       wrote = written.2;
       shows = tt;
-      is_patient = patient_write open_yet c.is_bare-bare.result _ _ c.continue_if_asked.ensures.bounded (omega (arith, c.in-Whole.ensures.counted, c.continue_if_asked.ensures.counted));
-      is_answer = (head, a.4.1, bare_is h head c.is_bare-bare.result has c.is_bare-bare.ensures);
-      is_interim = (_, (head, [], a.4.1, due_is limit h head c.in-Ok.framing _ has framed refl), c.continue_if_asked.ensures.due c.if-not-continue_if_asked.true, written.1);
+      is_patient = patient_write open_yet c.is_bare-bare.result _ _ c.continue_if_asked.ensures.tries.bounded (omega (arith, c.in-Whole.ensures.counts.counted, c.continue_if_asked.ensures.tries.counts.counted));
+      is_answer = (head, a.4.is_head, bare_is h head c.is_bare-bare.result has c.is_bare-bare.ensures);
+      is_interim = (_, (head, [], a.4.is_head, due_is limit h head c.in-Ok.framing _ has framed refl), c.continue_if_asked.ensures.due c.if-not-continue_if_asked.true, written.1);
       is_unwritten = λ failed. broke
-          (device (g.W.Sink.written c.args.sink.now) (g.W.Sink.has_failed c.args.sink.now) (g.W.Sink.interruptions c.args.sink.now))
-          (device (g.W.Sink.written c.continue_if_asked.new.sink) (g.W.Sink.has_failed c.continue_if_asked.new.sink) (g.W.Sink.interruptions c.continue_if_asked.new.sink))
-          _ _ (c.continue_if_asked.ensures.failed c.if-not-continue_if_asked.true) c.continue_if_asked.ensures.bounded
-          (omega (arith, c.in-Whole.ensures.counted, c.continue_if_asked.ensures.counted))
-          (λ often. omega (arith, often, still_open a.1 _ _ _ a.4.3 a.3, c.continue_if_asked.ensures.counted));
+          (g.W.Sink.device c.args.sink.now)
+          (g.W.Sink.device c.continue_if_asked.new.sink)
+          _ _ (c.continue_if_asked.ensures.tries.failed c.if-not-continue_if_asked.true) c.continue_if_asked.ensures.tries.bounded
+          (omega (arith, c.in-Whole.ensures.counts.counted, c.continue_if_asked.ensures.tries.counts.counted))
+          (λ often. omega (arith, often, still_open a.1 _ _ a.4.goes_on a.3, c.continue_if_asked.ensures.tries.counts.counted));
     }
 
 pub returns-in-Whole-read_body : goal.returns-in-Whole-read_body
@@ -84,23 +83,23 @@ returns-in-Whole-read_body g c =
     let a = c.in-Whole.ensures.answer in
     let limit = c.args.limits.now.max_body in
     let h = c.in-Whole.head in
-    let head = a.4.0 in
-    let has = a.4.2 in
+    let head = a.4.head in
+    let has = a.4.keeps in
     let framed = framing_is limit h head c.as_slice.result.now (Ok c.in-Ok.framing) has c.as_slice.ensures c.in-Ok.ensures in
     let written = c.continue_if_asked.ensures.written in
     let all = written.3 c.if-not-continue_if_asked.false in
     let b = c.in-Whole-read_body.ensures.answer in
-    let counted = c.in-Whole-read_body.ensures.counted in
+    let counted = c.in-Whole-read_body.ensures.counts.counted in
     let m = c.into_message in
-    let whole = head_more a.0 head b.0 a.4.1 in
+    let whole = head_more a.0 head b.0 a.4.is_head in
     record {
       input = a.0 ++ b.0;
       ending = b.1;
       line = written.0;
       took = Consumes-trans _ _ _ _ _ a.2 b.2;
       wrote = written.2;
-      shows = shows_of b.1 _ _ _ _ b.3 (omega arith) (λ often. omega (arith, often, counted, c.in-Whole.ensures.counted, c.continue_if_asked.ensures.patient c.if-not-continue_if_asked.false));
-      is_patient = patient_of b.1 _ _ _ _ _ b.3 (omega arith);
+      shows = shows_of b.1 _ _ _ _ b.3 (omega arith) (λ often. omega (arith, often, counted, c.in-Whole.ensures.counts.counted, c.continue_if_asked.ensures.tries.patient c.if-not-continue_if_asked.false));
+      is_patient = patient_of b.1 _ _ _ _ b.3 (omega arith);
       is_answer = record {
         head = head;
         behind = b.0;
@@ -108,7 +107,7 @@ returns-in-Whole-read_body g c =
         framing = c.in-Ok.framing;
         is_framed = framed;
         text = b.0;
-        is_body = subst (λ bytes. IsBody limit c.in-Ok.framing bytes b.0) (sym m.ensures.body) b.4.0;
+        is_body = subst (λ bytes. IsBody limit c.in-Ok.framing bytes b.0) (sym (m.ensures.body ∙ c.from_vec.ensures)) b.4.0;
         behind_is = sym (append-nil b.0);
         parts = parts_are h head m.result has m.ensures.method m.ensures.target m.ensures.fields m.ensures.bare m.ensures.close;
       };
@@ -121,23 +120,23 @@ returns-in-Cut g c =
     let a = c.in-Whole.ensures.answer in
     let limit = c.args.limits.now.max_body in
     let h = c.in-Whole.head in
-    let head = a.4.0 in
-    let has = a.4.2 in
+    let head = a.4.head in
+    let has = a.4.keeps in
     let framed = framing_is limit h head c.as_slice.result.now (Ok c.in-Ok.framing) has c.as_slice.ensures c.in-Ok.ensures in
     let written = c.continue_if_asked.ensures.written in
     let all = written.3 c.if-not-continue_if_asked.false in
     let b = c.in-Cut.ensures.answer in
-    let counted = c.in-Cut.ensures.counted in
+    let counted = c.in-Cut.ensures.counts.counted in
     let m = c.into_message-in-Cut in
-    let whole = head_more a.0 head b.0 a.4.1 in
+    let whole = head_more a.0 head b.0 a.4.is_head in
     record {
       input = a.0 ++ b.0;
       ending = b.1;
       line = written.0;
       took = Consumes-trans _ _ _ _ _ a.2 b.2;
       wrote = written.2;
-      shows = shows_of b.1 _ _ _ _ b.3 (omega arith) (λ often. omega (arith, often, counted, c.in-Whole.ensures.counted, c.continue_if_asked.ensures.patient c.if-not-continue_if_asked.false));
-      is_patient = patient_of b.1 _ _ _ _ _ b.3 (omega arith);
+      shows = shows_of b.1 _ _ _ _ b.3 (omega arith) (λ often. omega (arith, often, counted, c.in-Whole.ensures.counts.counted, c.continue_if_asked.ensures.tries.patient c.if-not-continue_if_asked.false));
+      is_patient = patient_of b.1 _ _ _ _ b.3 (omega arith);
       is_answer = (
         record {
           head = head;
@@ -145,7 +144,7 @@ returns-in-Cut g c =
           is_head = whole;
           framing = c.in-Ok.framing;
           is_framed = framed;
-          is_cut = subst (λ bytes. IsCutBody limit c.in-Ok.framing bytes b.0) (sym m.ensures.body) b.4.0;
+          is_cut = subst (λ bytes. IsCutBody limit c.in-Ok.framing bytes b.0) (sym (m.ensures.body ∙ c.from_vec-in-Cut.ensures)) b.4.0;
           parts = parts_are h head m.result has m.ensures.method m.ensures.target m.ensures.fields m.ensures.bare m.ensures.close;
         },
         b.4.1,
@@ -159,14 +158,14 @@ returns-in-Fault-read_body g c =
     let a = c.in-Whole.ensures.answer in
     let limit = c.args.limits.now.max_body in
     let h = c.in-Whole.head in
-    let head = a.4.0 in
-    let has = a.4.2 in
+    let head = a.4.head in
+    let has = a.4.keeps in
     let framed = framing_is limit h head c.as_slice.result.now (Ok c.in-Ok.framing) has c.as_slice.ensures c.in-Ok.ensures in
     let written = c.continue_if_asked.ensures.written in
     let all = written.3 c.if-not-continue_if_asked.false in
     let b = c.in-Fault-read_body.ensures.answer in
-    let counted = c.in-Fault-read_body.ensures.counted in
-    let whole = head_more a.0 head b.0 a.4.1 in
+    let counted = c.in-Fault-read_body.ensures.counts.counted in
+    let whole = head_more a.0 head b.0 a.4.is_head in
     let bare = bare_is h head c.is_bare-bare.result has c.is_bare-bare.ensures in
     let due = due_is limit h head c.in-Ok.framing written.0 has framed all in
     let both = fault_behind limit (a.0 ++ b.0) b.1 c.in-Fault-read_body.fault c.is_bare-bare.result written.0 head b.0 c.in-Ok.framing whole framed bare due b.4 in
@@ -176,8 +175,8 @@ returns-in-Fault-read_body g c =
       line = written.0;
       took = Consumes-trans _ _ _ _ _ a.2 b.2;
       wrote = written.2;
-      shows = shows_of b.1 _ _ _ _ b.3 (omega arith) (λ often. omega (arith, often, counted, c.in-Whole.ensures.counted, c.continue_if_asked.ensures.patient c.if-not-continue_if_asked.false));
-      is_patient = patient_of b.1 _ _ _ _ _ b.3 (omega arith);
+      shows = shows_of b.1 _ _ _ _ b.3 (omega arith) (λ often. omega (arith, often, counted, c.in-Whole.ensures.counts.counted, c.continue_if_asked.ensures.tries.patient c.if-not-continue_if_asked.false));
+      is_patient = patient_of b.1 _ _ _ _ b.3 (omega arith);
       is_answer = both.0;
       is_interim = both.1;
       is_unwritten = λ failed. absurd (no_write c.in-Fault-read_body.fault c.is_bare-bare.result (body_written limit c.in-Ok.framing b.0 c.in-Fault-read_body.fault b.4) failed);

@@ -10,4 +10,4 @@ pieces-preserved-in-Took g c =
     let rest = c.pieces.rest.now in
     let split : c.args.bytes.now ≡ (front.0 ++ take count rest) ++ drop count rest =
     front.1 ∙ ap (λ r. front.0 ++ r) (sym (take-append-drop count rest)) ∙ sym (append_assoc front.0 (take count rest) (drop count rest)) in
-    ((front.0 ++ take count rest, simp take_rest split, Appends-trans _ _ _ _ _ front.2 c.in-Took.ensures.bytes), omega (arith, c.in-Took.ensures.interrupted), c.pieces.invariant.2, c.pieces.invariant.3)
+    ((front.0 ++ take count rest, simp take_rest split, Appends-trans _ _ _ _ _ front.2 c.in-Took.ensures.bytes), c.pieces.invariant.1, record { rose = omega (arith, c.pieces.invariant.2.rose); counted = omega (arith, c.in-Took.ensures.interrupted, c.pieces.invariant.2.counted) })

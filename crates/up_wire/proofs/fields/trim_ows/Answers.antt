@@ -1,6 +1,6 @@
 use Rattle.std.proofs.Common.{rules}
 use Rattle.httparse.specs.Grammar.{trim_ows}
-use Rattle.up_wire.proofs.fields.trim.Goals as goal
+use Rattle.up_wire.proofs.fields.trim_ows.Goals as goal
 
 pub returns : goal.returns
 unfolding trim_ows
