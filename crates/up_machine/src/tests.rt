@@ -1,62 +1,45 @@
 //! What the proofs can't see: whether the clauses say what the rules mean, and that calls succeed.
-ghost use Rattle.std.specs.Prelude.{◌≤◌, ◌<◌, ◌^◌, IfOk};
+//!
+//! A course of requests is a text. Its rows say what is done and, behind an arrow, what must come of it:
+//!
+//! ```text
+//! book 11                     a new book of two lanes, whose uploads have at most 11 bytes
+//! said allowed                said before each commit from here on; at first it is `finish`
+//! close                       the book is closed
+//! 1 plain 5 => 201 ..         a request of the upload 1 is planned, and committed
+//! plan 1 delete => ..         a request is planned alone
+//! uploads => ..               the uploads that are there, and the ids of those that are gone
+//! accepted => ..              the changes
+//! events 0 => ..              the events of a lane
+//! ```
+//!
+//! The requests are `options`, `plain LENGTH METADATA`, `partial LENGTH`, `final PARTS CONCAT`, `head`, `get`, `delete`, and `patch OFFSET
+//! BYTES LENGTH`, or `text` in place of `patch` where the media type is wrong. A dash stands for what isn't sent.
+ghost use Rattle.std.specs.Prelude.{◌≤◌, IfOk};
 ghost use Rattle.up_headers.specs.Creations.{IsWithin};
 ghost use Rattle.up_headers.specs.Table.{FitsWithin};
 
-mod answers;
-mod asks;
-mod concatenation;
-mod deferred;
-mod drawn;
-mod events;
-mod plain;
-mod rows;
+mod courses;
+mod values;
+mod words;
 
-use crate::ask::Ask;
 use crate::book::Book;
-use crate::plan::{Asked, Done, Plan};
+use crate::plan::Asked;
 use crate::reason::Reason;
-use crate::refusal::{Refusal, response_of};
-use crate::view::View;
-use plain::{Plain, PlainUpload};
-use std::alloc::{AllocError, Global};
+use std::alloc::Global;
 use std::process::Abort;
 use std::test::Fail;
-use up_events::{Accepted, Event, Hook, Id, Kind};
+use up_events::{Accepted, Id, Kind, MOST_BYTES};
 use up_headers::{NewUpload, NotDigits, Patch, Request, pairs_of};
-use up_wire::{Response, Sequence};
+use up_wire::Sequence;
 
-/// The ids of these tests are the numbers below this one.
-const ID_COUNT: u64 = 8;
-
-/// A request in short, of the upload whose id is given beside it.
-#[derive(Clone, Copy)]
-enum Short<'a> {
-    Options,
-    /// A plain upload, with this length and metadata text.
-    Create(u8, &'a str),
-    /// A plain upload whose length comes later.
-    Deferred,
-    /// A partial one, with this length and the metadata text "part".
-    Partial(u8),
-    /// A final one of the uploads with these numbers, with this text of `Upload-Concat` and the metadata text "whole".
-    Final(&'a [u128], &'a str),
-    Head,
-    /// With a right or a wrong media type, this offset and these bytes.
-    Patch(bool, Option<u64>, &'a [u8]),
-    /// With all that a PATCH must have, at this offset, with these bytes and this length.
-    Declare(u64, &'a [u8], Result<u64, NotDigits>),
-    Delete,
-    Get,
-}
-
-/// A PATCH with all that it must have.
-fn patch(offset: u64, bytes: &[u8]) -> Short {
-    Short::Patch(true, Some(offset), bytes)
+/// The first word of a text, and what stands behind it.
+fn cut(text: &str) -> (&str, &str) {
+    text.split_once(' ').unwrap_or((text, ""))
 }
 
 /// A text as bytes. One that is empty is none.
-fn text_of(alloc: Global, text: &str) -> Result<Option<Sequence<u8>>, AllocError> {
+fn text_of(alloc: Global, text: &str) -> Result<Option<Sequence<u8>>, Fail> {
     if text.is_empty() {
         return Ok(None);
     }
@@ -64,263 +47,202 @@ fn text_of(alloc: Global, text: &str) -> Result<Option<Sequence<u8>>, AllocError
 }
 
 /// The ids that have these numbers, in the same order.
-fn ids_of(alloc: Global, numbers: &[u128]) -> Result<Sequence<Id>, AllocError> {
+fn ids_of(alloc: Global, numbers: &str) -> Result<Sequence<Id>, Fail> {
     let mut ids = Sequence::new(alloc);
-    for number in numbers {
-        ids.push(Id::new(*number))?;
+    for number in numbers.split(',') {
+        if !number.is_empty() {
+            ids.push(Id::new(number.parse::<u128>()?))?;
+        }
     }
     Ok(ids)
 }
 
-/// A new upload without parts, with this metadata text and the pairs of it.
-fn upload_of(
-    alloc: Global,
-    kind: Kind,
-    length: Option<u8>,
-    metadata: &str,
-) -> Result<NewUpload, Fail>
-    ensures { IfOk result (λ new. IsWithin (2 ^ 30) new.length) }
+/// A size that an upload may have.
+fn size_of(word: &str) -> Result<u64, Fail>
+    ensures { IfOk result (λ size. size ≤ MOST_BYTES) }
 {
+    let size = word.parse::<u64>()?;
+    if size > MOST_BYTES {
+        return Err(Fail::from("no upload is so long"));
+    }
+    Ok(size)
+}
+
+/// The new upload of this kind that the words tell of.
+fn upload_of(alloc: Global, kind: Kind, words: &str) -> Result<NewUpload, Fail>
+    ensures { IfOk result (λ new. IsWithin MOST_BYTES new.length) }
+{
+    let (first, rest) = cut(words);
+    let (length, parts, metadata, concat) = match kind {
+        Kind::Plain => (first, "", rest, ""),
+        Kind::Partial => (first, "", "part", "partial"),
+        Kind::Final => ("0", first, "whole", rest),
+    };
+    let length = if length == "-" {
+        None
+    } else {
+        Some(size_of(length)?)
+    };
     Ok(NewUpload {
         kind,
-        length: length.map(|length| u64::from(length)),
-        parts: Sequence::new(alloc),
+        length,
+        parts: ids_of(alloc, parts)?,
         pairs: pairs_of(alloc, metadata.as_bytes())?,
         metadata: text_of(alloc, metadata)?,
-        concat: None,
+        concat: text_of(alloc, concat)?,
     })
 }
 
-/// The request in full.
-fn request_of(alloc: Global, id: Id, short: Short) -> Result<Request, Fail>
-    ensures { IfOk result (FitsWithin (2 ^ 30)) }
+/// The PATCH that the words tell of.
+fn patch_of(alloc: Global, id: Id, media: bool, words: &str) -> Result<Patch, Fail> {
+    let (offset, rest) = cut(words);
+    let (bytes, length) = cut(rest);
+    let bytes = if bytes == "-" { "" } else { bytes };
+    let length = match length {
+        "" => None,
+        "x" => Some(Err(NotDigits)),
+        _ => Some(Ok(length.parse::<u64>()?)),
+    };
+    Ok(Patch {
+        id,
+        media,
+        offset: offset.parse::<u64>().ok(),
+        length,
+        bytes: Sequence::from_slice(alloc, bytes.as_bytes())?,
+    })
+}
+
+/// The request that the words tell of.
+fn request_of(alloc: Global, id: Id, words: &str) -> Result<Request, Fail>
+    ensures { IfOk result (FitsWithin MOST_BYTES) }
 {
-    Ok(match short {
-        Short::Options => Request::Options,
-        Short::Create(length, metadata) => {
-            Request::Create(upload_of(alloc, Kind::Plain, Some(length), metadata)?)
-        }
-        Short::Deferred => Request::Create(upload_of(alloc, Kind::Plain, None, "")?),
-        Short::Partial(length) => Request::Create(NewUpload {
-            concat: text_of(alloc, "partial")?,
-            ..upload_of(alloc, Kind::Partial, Some(length), "part")?
-        }),
-        Short::Final(parts, concat) => Request::Create(NewUpload {
-            parts: ids_of(alloc, parts)?,
-            concat: text_of(alloc, concat)?,
-            ..upload_of(alloc, Kind::Final, Some(0), "whole")?
-        }),
-        Short::Head => Request::Head(id),
-        Short::Patch(media, offset, bytes) => Request::Patch(Patch {
-            id,
-            media,
-            offset,
-            length: None,
-            bytes: Sequence::from_slice(alloc, bytes)?,
-        }),
-        Short::Declare(offset, bytes, length) => Request::Patch(Patch {
-            id,
-            media: true,
-            offset: Some(offset),
-            length: Some(length),
-            bytes: Sequence::from_slice(alloc, bytes)?,
-        }),
-        Short::Delete => Request::Delete(id),
-        Short::Get => Request::Get(id),
+    let (name, rest) = cut(words);
+    Ok(match name {
+        "options" => Request::Options,
+        "plain" => Request::Create(upload_of(alloc, Kind::Plain, rest)?),
+        "partial" => Request::Create(upload_of(alloc, Kind::Partial, rest)?),
+        "final" => Request::Create(upload_of(alloc, Kind::Final, rest)?),
+        "head" => Request::Head(id),
+        "patch" => Request::Patch(patch_of(alloc, id, true, rest)?),
+        "text" => Request::Patch(patch_of(alloc, id, false, rest)?),
+        "delete" => Request::Delete(id),
+        "get" => Request::Get(id),
+        _ => return Err(Fail::from("no such request")),
     })
 }
 
-/// Adds bytes, each as one character.
-fn push_bytes(words: &mut String, bytes: &[u8]) -> Result<(), AllocError> {
-    for byte in bytes {
-        words.push(char::from(*byte))?;
-    }
-    Ok(())
-}
-
-/// Adds pairs, as "name: value; " each.
-fn push_pairs(
-    words: &mut String,
-    pairs: &[(Sequence<u8>, Sequence<u8>)],
-) -> Result<(), AllocError> {
-    for pair in pairs {
-        push_bytes(words, pair.0.as_slice())?;
-        words.push_str(": ")?;
-        push_bytes(words, pair.1.as_slice())?;
-        words.push_str("; ")?;
-    }
-    Ok(())
-}
-
-/// A response in words, as "200 Upload-Offset: 0; Upload-Length: 5; []": status, fields in order, and body.
-fn response_words(alloc: Global, response: &Response) -> Result<String, Fail> {
-    let status = response.status;
-    let mut words = format!(in alloc; "{status} ")?;
-    push_pairs(&mut words, response.fields.as_slice())?;
-    words.push_str("[")?;
-    push_bytes(&mut words, response.body.as_slice())?;
-    words.push_str("]")?;
-    Ok(words)
-}
-
-/// What is answered to a refusal, in words.
-fn refusal_words(alloc: Global, refusal: &Refusal) -> Result<String, Fail> {
-    response_words(alloc, &response_of(alloc, refusal)?)
-}
-
-/// A length in words: "-" where it isn't known.
-fn length_words(alloc: Global, length: Option<u64>) -> Result<String, Fail> {
-    match length {
-        Some(length) => Ok(format!(in alloc; "{length}")?),
-        None => Ok(String::from_str(alloc, "-")?),
-    }
-}
-
-/// What closures are asked, in words, as "Create None Plain 0/5 [name: ab; ]": point, target, kind, offset and length, and pairs.
-fn ask_words(alloc: Global, ask: &Ask) -> Result<String, Fail> {
-    let (point, target, kind) = (ask.point, ask.target, ask.kind);
-    let (offset, length) = (ask.offset, length_words(alloc, ask.length)?);
-    let mut words = format!(in alloc; "{point:?} {target:?} {kind:?} {offset}/{length} [")?;
-    push_pairs(&mut words, ask.pairs.as_slice())?;
-    words.push_str("]")?;
-    Ok(words)
-}
-
-/// What is said at planning, in words. A request of which nobody is to be asked before it is committed is "ready".
-fn plan_words(alloc: Global, planned: &Result<Plan, Refusal>) -> Result<String, Fail> {
-    match planned {
-        Ok(Plan::Answer(response)) => response_words(alloc, response),
-        Ok(Plan::Ask(ask)) => ask_words(alloc, ask),
-        Ok(Plan::AskBoth(first, second)) => {
-            let first = ask_words(alloc, first)?;
-            let second = ask_words(alloc, second)?;
-            Ok(format!(in alloc; "{first}, {second}")?)
+/// What is said before a request is committed.
+fn asked_of(words: &str) -> Result<Asked, Fail> {
+    let (word, rest) = cut(words);
+    Ok(match word {
+        "skipped" => Asked::Skipped,
+        "allowed" => Asked::Allowed,
+        "finish" => Asked::AllowedFinish,
+        _ => {
+            let (status, text) = cut(rest);
+            let status = status.parse::<u16>()?;
+            let reason = Reason::new(text.as_bytes()).ok_or("no reason")?;
+            Asked::Refused { status, reason }
         }
-        Ok(Plan::Ready) => Ok(String::from_str(alloc, "ready")?),
-        Err(refusal) => refusal_words(alloc, refusal),
-    }
+    })
 }
 
-/// What came of a request: what is answered, in words, and the change.
+/// Holds that a book shows this.
+fn assert_shows(
+    rt: &impl Abort,
+    alloc: Global,
+    book: &Book,
+    wanted: &str,
+    row: &str,
+) -> Result<(), Fail> {
+    let found = words::state(alloc, book)?;
+    assert_eq!(rt; found.as_str(), wanted, "{row}");
+    Ok(())
+}
+
+/// Holds that a change is the last one of the journal, behind so many others.
+fn assert_last(rt: &impl Abort, book: &Book, change: Accepted, before: usize, row: &str) {
+    let changes = book.journal().accepted();
+    assert_eq!(rt; changes.len(), before.saturating_add(1), "{row}");
+    assert_eq!(rt; changes.last(), Some(&change), "{row}");
+}
+
+/// Whether words are a response.
+fn is_response(words: &str) -> bool {
+    matches!(words.as_bytes(), [b'0'..=b'9', ..])
+}
+
+/// A book, and what is said before each commit.
 #[derive(Drop)]
-struct Reply {
-    words: String,
-    change: Option<Accepted>,
-}
-
-/// What the book says came of a request.
-fn reply_of(alloc: Global, decided: &Result<Done, Refusal>) -> Result<Reply, Fail> {
-    match decided {
-        Ok(done) => Ok(Reply {
-            words: response_words(alloc, &done.response)?,
-            change: done.change,
-        }),
-        Err(refusal) => Ok(Reply {
-            words: refusal_words(alloc, refusal)?,
-            change: None,
-        }),
-    }
-}
-
-fn assert_same_upload(rt: &impl Abort, view: View, upload: &PlainUpload) {
-    assert_eq!(rt; view.kind, upload.kind);
-    assert_eq!(rt; view.length, upload.length);
-    assert_eq!(rt; view.offset, upload.bytes.len() as u64);
-    assert_eq!(rt; view.bytes, upload.bytes.as_slice());
-    assert_eq!(rt; view.metadata, upload.metadata.as_deref());
-    assert_eq!(rt; view.concat, upload.concat.as_deref());
-}
-
-/// A book, and the plain program beside it.
-#[derive(Drop)]
-struct Both {
+struct Course {
     book: Book,
-    plain: Plain,
+    asked: Asked,
 }
 
-impl Both {
-    fn new(alloc: Global, lanes: u64, max_size: u64) -> Result<Both, Fail>
-        requires some_lane { 0 < lanes }
-        requires few_lanes { lanes ≤ 16 }
-        requires small { max_size ≤ 2 ^ 30 }
-    {
-        Ok(Both {
-            book: Book::new(alloc, lanes, max_size)?,
-            plain: Plain::new(alloc, max_size),
-        })
-    }
-
-    fn close(&mut self) {
-        self.book.close();
-        self.plain.closed = true;
-    }
-
-    /// Holds that both have the same uploads, ids and changes.
-    fn assert_same(&self, rt: &impl Abort) {
-        let journal = self.book.journal();
-        assert_eq!(rt; journal.accepted(), self.plain.accepted.as_slice());
-        for number in 0..ID_COUNT {
-            let id = Id::new(u128::from(number));
-            assert_eq!(rt; journal.knows(id), self.plain.given.contains(&id));
-            match (self.book.upload(id), self.plain.find(id)) {
-                (Some(view), Some(upload)) => assert_same_upload(rt, view, upload),
-                (None, None) => {}
-                _ => panic!(rt; "one of them alone has the upload {number}"),
-            }
-        }
-    }
-
-    /// Holds that both plan the same, in these words, and that planning changes nothing.
-    fn plan(&self, rt: &impl Abort, alloc: Global, request: &Request) -> Result<String, Fail> {
-        let planned = plan_words(alloc, &self.book.plan(alloc, request))?;
-        let expected = self.plain.plan(alloc, request)?;
-        assert_eq!(rt; planned.as_str(), expected.as_str());
-        self.assert_same(rt);
+impl Course {
+    /// What is said of a request at planning, in words, which changes nothing.
+    fn plan(&self, rt: &impl Abort, alloc: Global, row: &str) -> Result<String, Fail> {
+        let (number, rest) = cut(row);
+        let request = request_of(alloc, Id::new(number.parse::<u128>()?), rest)?;
+        let before = words::state(alloc, &self.book)?;
+        let planned = words::of_plan(alloc, &self.book.plan(alloc, &request))?;
+        assert_shows(rt, alloc, &self.book, before.as_str(), row)?;
         Ok(planned)
     }
 
-    /// Holds that both plan the same and decide the same.
-    fn step(
-        &mut self,
-        rt: &impl Abort,
-        alloc: Global,
-        id: Id,
-        short: Short,
-        asked: &Asked,
-    ) -> Result<Reply, Fail> {
-        let request = request_of(alloc, id, short)?;
-        self.plan(rt, alloc, &request)?;
-        let expected = self.plain.decide(alloc, &request, id, asked)?;
-        let decided = self.book.commit(alloc, request, id, asked);
-        let found = reply_of(alloc, &decided)?;
-        assert_eq!(rt; found.words.as_str(), expected.words.as_str());
-        assert_eq!(rt; found.change, expected.change);
-        self.assert_same(rt);
+    /// What comes of a request, in words. Without a change the book is as it was.
+    fn commit(&mut self, rt: &impl Abort, alloc: Global, row: &str) -> Result<String, Fail> {
+        let (number, rest) = cut(row);
+        let id = Id::new(number.parse::<u128>()?);
+        let request = request_of(alloc, id, rest)?;
+        let before = words::state(alloc, &self.book)?;
+        let count = self.book.journal().accepted().len();
+        let decided = self.book.commit(alloc, request, id, &self.asked);
+        match words::change_of(&decided) {
+            Some(change) => assert_last(rt, &self.book, change, count, row),
+            None => assert_shows(rt, alloc, &self.book, before.as_str(), row)?,
+        }
+        words::of_done(alloc, &decided)
+    }
+
+    /// What comes of a request, in words, which is what the plan says where that is a response.
+    fn step(&mut self, rt: &impl Abort, alloc: Global, row: &str) -> Result<String, Fail> {
+        let planned = self.plan(rt, alloc, row)?;
+        let found = self.commit(rt, alloc, row)?;
+        if is_response(planned.as_str()) {
+            assert_eq!(rt; found.as_str(), planned.as_str(), "{row}");
+        }
         Ok(found)
     }
 
-    /// Holds that both answer these requests so, where this was said to them before.
-    fn hold_asked(
-        &mut self,
-        rt: &impl Abort,
-        alloc: Global,
-        asked: &Asked,
-        rows: &[(u128, Short, &str)],
-    ) -> Result<(), Fail> {
-        for (number, short, wanted) in rows {
-            let reply = self.step(rt, alloc, Id::new(*number), *short, asked)?;
-            assert_eq!(rt; reply.words.as_str(), *wanted);
+    /// What comes of a row, in words.
+    fn take(&mut self, rt: &impl Abort, alloc: Global, row: &str) -> Result<String, Fail> {
+        let (word, rest) = cut(row);
+        match word {
+            "" | "#" => {}
+            "book" => self.book = Book::new(alloc, 2, size_of(rest)?)?,
+            "close" => self.book.close(),
+            "said" => self.asked = asked_of(rest)?,
+            "plan" => return self.plan(rt, alloc, rest),
+            "uploads" => return words::of_uploads(alloc, &self.book),
+            "accepted" => return words::of_changes(alloc, &self.book),
+            "events" => return words::of_events(alloc, &self.book, rest.parse::<u64>()?),
+            _ => return self.step(rt, alloc, row),
         }
-        Ok(())
+        Ok(String::new(alloc))
     }
+}
 
-    /// Holds that both answer these requests so, which the closures allow.
-    fn hold(
-        &mut self,
-        rt: &impl Abort,
-        alloc: Global,
-        rows: &[(u128, Short, &str)],
-    ) -> Result<(), Fail> {
-        self.hold_asked(rt, alloc, &Asked::AllowedFinish, rows)
+#[test]
+fn courses_come_to_what_they_must(rt: HostRuntime) -> Result<(), Fail> {
+    let mut course = Course {
+        book: Book::new(rt.alloc(), 2, 1)?,
+        asked: Asked::AllowedFinish,
+    };
+    for row in courses::COURSES.lines() {
+        let (done, wanted) = row.split_once(" =>").unwrap_or((row, ""));
+        let found = course.take(&rt, rt.alloc(), done)?;
+        assert_eq!(rt; found.trim(), wanted.trim(), "{done}");
     }
+    Ok(())
 }

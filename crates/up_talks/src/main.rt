@@ -1,7 +1,8 @@
-//! Holds whole conversations with the server, as standard input has them, to what must come of them.
+//! Holds whole conversations with the server, as standard input has them and then the files that the command line names, to what
+//! must come of them.
 //!
 //! Each talk is served by `replay` on a server of its own, and has one line of output: its name and `same`, or `differs`
-//! with the first line that is not as it must be. A line of input that can't be read is told in place of them.
+//! with the first line that is not as it must be. A line that can't be read is told in place of all talks of its text.
 //!
 //! A line of input that is empty or begins with `#` says nothing. A talk begins with its name, and ends where the next one
 //! begins:
@@ -38,7 +39,7 @@ use crate::comparison::compare;
 use crate::reading::talks_of;
 use crate::serving::serve;
 use crate::talk::Talk;
-use std::io;
+use std::{fs, io};
 
 /// Serves a talk, and prints how it stands.
 fn hold(rt: &(impl Print + AllocGlobal), mut talk: Talk) -> io::Result<()> {
@@ -49,15 +50,25 @@ fn hold(rt: &(impl Print + AllocGlobal), mut talk: Talk) -> io::Result<()> {
     println!(rt; "{name}: {comparison}")
 }
 
-fn main(rt: HostRuntime) -> io::Result<()> {
-    let text = io::read_to_string(rt.alloc(), rt.reader())?;
-    match talks_of(rt.alloc(), text.as_str()) {
+/// Holds the talks of a text in their order, or prints which of its lines can't be read.
+fn hold_all(rt: &(impl Print + AllocGlobal), text: &str) -> io::Result<()> {
+    match talks_of(rt.alloc(), text) {
         Ok(talks) => {
             for talk in talks {
-                hold(&rt, talk)?;
+                hold(rt, talk)?;
             }
             Ok(())
         }
         Err(bad) => println!(rt; "{bad}"),
     }
+}
+
+fn main(rt: HostRuntime) -> io::Result<()> {
+    let text = io::read_to_string(rt.alloc(), rt.reader())?;
+    hold_all(&rt, text.as_str())?;
+    for name in std::env::args(&rt)?.skip(1) {
+        let text = fs::read_to_string(&rt, name.as_str())?;
+        hold_all(&rt, text.as_str())?;
+    }
+    Ok(())
 }
