@@ -1,9 +1,9 @@
--- The front of a lawful list is lawful.
+-- The front of a lawful list is lawful, and so is no event.
 use Rattle.std.proofs.Common.{◌≡◌, ℕ, ◌+◌, cond, List, [], ◌∷◌, ◌++◌, filter, count_by, arith, refl, ap, ◌∙◌, subst, append_assoc}
 use Rattle.std.proofs.lemmas.List.Elements.{filter-append}
 use Rattle.std.proofs.lemmas.List.Sums.{sum_by-append}
 use Rattle.up_events.specs.declared.event.Event.{Event}
-use Rattle.up_events.specs.Log.{is_of, is_finish, CountsFrom, IsLawfulRun, FrontsAreLawful}
+use Rattle.up_events.specs.Log.{is_of, is_finish, CountsFrom, IsLawfulRun, IsLawful, FrontsAreLawful}
 
 nothing_before : (xs ys : List Event) → xs ++ ys ≡ [] → xs ≡ []
 nothing_before [] ys h = refl
@@ -29,3 +29,13 @@ run_before xs ys r = record {
 
 pub fronts_lawful : FrontsAreLawful
 fronts_lawful xs ys l = λ u. run_before (filter (is_of u) xs) (filter (is_of u) ys) (subst IsLawfulRun (filter-append (is_of u) xs ys) (l u))
+
+none_split : (front back : List Event) (e : Event) → [] ≡ front ++ e ∷ back → ⊥
+none_split [] back e is = cc
+none_split (f ∷ front) back e is = cc
+
+no_run : IsLawfulRun []
+no_run = record { numbers = tt; first = λ e rest is. absurd (cc); one_finish = omega arith; last = λ front back e is end. absurd (none_split front back e is) }
+
+pub nothing_lawful : IsLawful []
+nothing_lawful = λ u. no_run

@@ -1,0 +1,4 @@
+pub mod HowOf
+pub mod LaneSides
+pub mod LawfulOnce
+pub mod StepsTo

@@ -1,0 +1,177 @@
+//! A lane, and its steps.
+ghost use Rattle.std.specs.Prelude.{◌≡◌, [], false};
+ghost use Rattle.up_events.specs.Delivery.{IsPrefix};
+ghost use Rattle.up_events.specs.Log.{IsLawful};
+ghost use Rattle.up_lanes.specs.HowOf.{is_drained};
+ghost use Rattle.up_lanes.specs.LaneSides.{lane_side, StaysAlike};
+ghost use Rattle.up_lanes.specs.StepsTo.{StepsTo};
+
+use crate::lane_end::{How, LaneEnd};
+use crate::refill::Refill;
+use std::marker::Model;
+use std::sync::Wait;
+use up_hooks::PostHook;
+use up_queue::{Item, TakeEnd};
+
+/// What came of a step.
+#[derive(Clone, Copy, Debug, PartialEq, Eq)]
+pub enum StepEnd {
+    /// One event was taken and handed over.
+    Handed,
+    /// The queue was empty at one moment of the step.
+    Nothing,
+    /// The end was taken, in this step or in an earlier one. No step does anything any more.
+    Ended,
+    /// The post-hook had no memory for one more event, so nothing was taken.
+    NoMemory,
+}
+
+/// The end of a queue at which items are taken, and the post-hook to which the events are handed.
+#[derive(Drop)]
+pub struct Lane<H: PostHook> {
+    lane: u64,
+    take_end: TakeEnd,
+    hook: H,
+    /// Whether the end was taken.
+    ended: bool,
+    /// How many items were taken, modulo 2^64.
+    taken: u64,
+}
+
+impl<H: PostHook> Model for Lane<H> {
+    ghost use Rattle.up_lanes.specs.LaneSides.{LaneSide};
+
+    ghost Value = { LaneSide H };
+
+    ghost use Rattle.std.specs.Prelude.{◌≡◌, ◌%◌, ◌^◌, length};
+    ghost use Rattle.up_events.specs.Log.{IsLawful};
+    ghost use Rattle.up_queue.specs.Line.{items_if};
+    ghost use Rattle.up_lanes.specs.LaneSides.{lane_side};
+
+    ghost view = { λ l. lane_side l.lane l.take_end.queue (H.handed l.hook) l.ended l.hook };
+
+    ghost invariant = { λ l. record {
+      sound : H.is_sound l.hook;
+      kept : l.take_end.taken ≡ items_if (H.handed l.hook) l.ended;
+      lawful : IsLawful (H.handed l.hook);
+      counted : l.taken ≡ length l.take_end.taken % 2 ^ 64;
+    } };
+}
+
+impl<H: PostHook> Lane<H> {
+    /// A lane that has handed nothing to its post-hook, over a queue of which nothing was taken. Takes no memory.
+    pub fn new(lane: u64, take_end: TakeEnd, hook: H) -> Lane<H>
+        requires sound { H.is_sound hook }
+        requires taken { take_end.taken ≡ [] }
+        requires handed { H.handed hook ≡ [] }
+        ensures { result ≡ lane_side lane take_end.queue [] false hook }
+    {
+        Lane {
+            lane,
+            take_end,
+            hook,
+            ended: false,
+            taken: 0,
+        }
+    }
+
+    /// The lane as it stood when it ended, with the same post-hook: what was taken and handed over stays, and a lane that was
+    /// drained takes nothing more. Takes no memory.
+    pub fn resume(end: LaneEnd<H>) -> Lane<H>
+        requires sound { H.is_sound end.hook }
+        ensures { result ≡ lane_side end.lane end.take_end.queue (H.handed end.hook) (is_drained end.how) end.hook }
+    {
+        let LaneEnd {
+            lane,
+            hook,
+            take_end,
+            how,
+            taken,
+        } = end;
+        Lane {
+            lane,
+            take_end,
+            hook,
+            ended: how.is_drained(),
+            taken,
+        }
+    }
+
+    /// Takes one item once the post-hook has room for an event, and hands the event over. It doesn't sleep.
+    pub fn step<R: Wait>(&mut self, rt: &R) -> StepEnd
+        ensures step { StepsTo result self.old self.new }
+        ensures lawful { IsLawful self.new.handed }
+        ensures alike { StaysAlike H.may_answer self.old.hook self.new.hook }
+    {
+        if self.ended {
+            return StepEnd::Ended;
+        }
+        if self.hook.ready().is_err() {
+            return StepEnd::NoMemory;
+        }
+        let Some(item) = self.take_end.take(rt) else {
+            return StepEnd::Nothing;
+        };
+        self.taken = self.taken.wrapping_add(1);
+        match item {
+            Item::End => {
+                self.ended = true;
+                StepEnd::Ended
+            }
+            Item::Event(event) => {
+                self.hook.hand(&event);
+                StepEnd::Handed
+            }
+        }
+    }
+
+    /// Steps until the end was taken, or until the post-hook has no memory for one more event. Where the queue is empty it is
+    /// refilled, and where it is empty again the lane sleeps until there may be something.
+    pub fn run<R: Wait, T: Refill>(mut self, rt: &R, refill: &T) -> LaneEnd<H>
+        ensures sound { H.is_sound result.hook }
+        ensures same { (result.lane ≡ self.lane) × (result.take_end.queue ≡ self.queue) }
+        ensures handed { IsPrefix self.handed (H.handed result.hook) }
+        ensures lawful { IsLawful (H.handed result.hook) }
+        ensures alike { StaysAlike H.may_answer self.hook result.hook }
+    {
+        let mut is_refilled = false;
+        for _ in rt.forever() {
+            match self.step(rt) {
+                StepEnd::Handed => is_refilled = false,
+                StepEnd::Nothing if is_refilled => {
+                    refill.wait(rt, self.lane, self.taken);
+                    is_refilled = false;
+                }
+                StepEnd::Nothing => {
+                    refill.refill(rt, self.lane);
+                    is_refilled = true;
+                }
+                StepEnd::Ended | StepEnd::NoMemory => break,
+            }
+        }
+        self.into_end()
+    }
+
+    /// What the lane leaves where it stands.
+    fn into_end(self) -> LaneEnd<H>
+        ensures sound { H.is_sound result.hook }
+        ensures same { (result.lane ≡ self.lane) × (result.take_end.queue ≡ self.queue) }
+        ensures hook { result.hook ≡ self.hook }
+        ensures handed { H.handed result.hook ≡ self.handed }
+        ensures lawful { IsLawful (H.handed result.hook) }
+        ensures how { is_drained result.how ≡ self.ended }
+    {
+        let how = if self.ended {
+            How::Drained
+        } else {
+            How::Stopped
+        };
+        LaneEnd {
+            lane: self.lane,
+            hook: self.hook,
+            take_end: self.take_end,
+            how,
+            taken: self.taken,
+        }
+    }
+}

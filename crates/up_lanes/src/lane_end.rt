@@ -1,0 +1,46 @@
+//! What a lane leaves when it ends.
+ghost use Rattle.std.specs.Prelude.{◌≡◌, ◌%◌, ◌^◌, length};
+ghost use Rattle.up_events.specs.Log.{IsLawful};
+ghost use Rattle.up_queue.specs.Line.{items_if};
+ghost use Rattle.up_lanes.specs.HowOf.{is_drained};
+ghost use Rattle.up_lanes.specs.LawfulOnce.{lawful_once};
+
+use up_hooks::PostHook;
+use up_queue::TakeEnd;
+
+/// How a lane ended.
+#[derive(Clone, Copy, Debug, PartialEq, Eq)]
+pub enum How {
+    /// It took the end that was put behind its last event.
+    Drained,
+    /// Its post-hook had no memory for one more event.
+    Stopped,
+}
+
+impl How {
+    /// Whether the lane took the end.
+    pub fn is_drained(&self) -> bool
+        ensures { result ≡ is_drained self.now }
+    {
+        match self {
+            How::Drained => true,
+            How::Stopped => false,
+        }
+    }
+}
+
+/// What a lane leaves. What it took from its queue is what it handed to its post-hook, and the end behind that just where it
+/// is drained.
+#[derive(Drop)]
+pub struct LaneEnd<H: PostHook> {
+    /// The lane, from 0 on.
+    pub lane: u64,
+    pub hook: H,
+    pub take_end: TakeEnd,
+    pub how: How,
+    /// How many items the lane took, modulo 2^64.
+    pub(crate) taken: u64,
+    pub ghost kept: { take_end.taken ≡ items_if (H.handed hook) (is_drained how) },
+    pub ghost lawful: { IsLawful (H.handed hook) } by { lawful_once (H.handed hook) },
+    pub ghost counted: { taken ≡ length take_end.taken % 2 ^ 64 },
+}

@@ -1,0 +1,13 @@
+//! Lanes. A lane takes the events of its uploads out of a queue, one after another, and hands them to its post-hook, in the
+//! thread that runs it.
+#![tactic(auto)]
+
+mod lane;
+mod lane_end;
+mod refill;
+#[cfg(test)]
+mod tests;
+
+pub use lane::{Lane, StepEnd};
+pub use lane_end::{How, LaneEnd};
+pub use refill::Refill;

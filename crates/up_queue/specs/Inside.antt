@@ -1,0 +1,29 @@
+-- What an end keeps, and what contracts see of it.
+use Rattle.std.specs.Prelude.{◌≡◌, ◌%◌, ◌^◌, length}
+use Rattle.std.specs.Arc.{arc_value}
+use Rattle.crossbeam_queue.specs.Passes.{view, IsPassOf, ruled_capacity}
+use Rattle.up_queue.specs.declared.ends.PutEnd.TheInside.{Inside as PutInside}
+use Rattle.up_queue.specs.declared.ends.TakeEnd.TheInside.{Inside as TakeInside}
+use Rattle.up_queue.specs.Line.{IsOrderly}
+use Rattle.up_queue.specs.Rule.{putting, taking}
+use Rattle.up_queue.specs.Sides.{PutSide, TakeSide}
+
+abbrev pub put_side : PutInside → PutSide
+put_side e = record { queue = e.pass.table_id; capacity = (view e.pass).capacity; put = (view e.pass).put }
+
+-- its pass is of its line, and puts; what was put is orderly, and counted
+pub record IsPutEnd (e : PutInside) : Type 0 where
+  pub line : IsPassOf (arc_value e.line) e.pass
+  pub role : view e.pass ≡ putting (ruled_capacity (arc_value e.line)) (view e.pass).put
+  pub orderly : IsOrderly (view e.pass).put
+  pub counted : e.count ≡ length (view e.pass).put % 2 ^ 64
+
+abbrev pub take_side : TakeInside → TakeSide
+take_side e = record { queue = e.pass.table_id; capacity = (view e.pass).capacity; taken = (view e.pass).taken }
+
+-- its pass is of its line, and takes; what was taken is orderly, and counted
+pub record IsTakeEnd (e : TakeInside) : Type 0 where
+  pub line : IsPassOf (arc_value e.line) e.pass
+  pub role : view e.pass ≡ taking (ruled_capacity (arc_value e.line)) (view e.pass).taken
+  pub orderly : IsOrderly (view e.pass).taken
+  pub counted : e.count ≡ length (view e.pass).taken % 2 ^ 64

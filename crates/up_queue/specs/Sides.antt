@@ -1,0 +1,51 @@
+-- What contracts see of the two ends of a queue.
+use Rattle.std.specs.Prelude.{◌≡◌, ℕ, List, [], ◌∷◌, ◌++◌, length}
+use Rattle.atomic_table.specs.Seated.{TableId}
+use Rattle.up_queue.specs.declared.item.Item.{Item}
+use Rattle.up_queue.specs.Line.{IsLine, IsFullAfter, IsEmptyAfter}
+
+-- which queue it is: no other one has the same
+abbrev pub QueueId : Type 0
+QueueId = TableId
+
+-- an end that puts: its queue, how many items that holds at most, and what was put, in order
+pub record PutSide : Type 0 where
+  pub queue : QueueId
+  pub capacity : ℕ
+  pub put : List Item
+
+-- an end that takes: its queue, how many items that holds at most, and what was taken, in order
+pub record TakeSide : Type 0 where
+  pub queue : QueueId
+  pub capacity : ℕ
+  pub taken : List Item
+
+-- the two ends of one queue, through which nothing went yet
+pub record AreNewEnds (capacity : ℕ) (put_end : PutSide) (take_end : TakeSide) : Type 0 where
+  pub one_queue : take_end.queue ≡ put_end.queue
+  pub capacities : (put_end.capacity ≡ capacity) × (take_end.capacity ≡ capacity)
+  pub empty : (put_end.put ≡ []) × (take_end.taken ≡ [])
+
+-- the end after one item more
+abbrev pub with_put : PutSide → Item → PutSide
+with_put end item = record end { put = end.put ++ item ∷ [] }
+
+abbrev pub with_taken : TakeSide → Item → TakeSide
+with_taken end item = record end { taken = end.taken ++ item ∷ [] }
+
+-- at one moment the queue held as many items as its capacity
+abbrev pub WasFull : PutSide → Type 0
+WasFull end = IsFullAfter end.capacity end.put
+
+-- at one moment the queue held nothing
+abbrev pub WasEmpty : TakeSide → Type 0
+WasEmpty end = IsEmptyAfter end.capacity end.taken
+
+-- what was put is what was taken, followed by that many items
+abbrev pub AreLeft : PutSide → TakeSide → ℕ → Type 0
+AreLeft put_end take_end left =
+    (held : List Item) × IsLine put_end.capacity put_end.put take_end.taken held × (left ≡ length held)
+
+-- the name of a queue that there is not
+abbrev pub no_queue : QueueId
+no_queue = record { words = 0; slots = 0; views_name = 0; atom = 0; block = 0; offset = 0; slot_names = [] }

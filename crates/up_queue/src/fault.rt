@@ -1,0 +1,22 @@
+//! Why there is no queue, and why an item was not put.
+use crate::item::Item;
+use thiserror::Error;
+
+/// Why no queue was made.
+#[derive(Clone, Copy, Debug, PartialEq, Eq, Error)]
+pub enum QueueFault {
+    /// It would hold nothing.
+    #[error("a queue for no item")]
+    ZeroCapacity,
+    /// Memory for it was refused.
+    #[error("out of memory")]
+    NoMemory,
+}
+
+/// Why an item was not put.
+#[derive(Clone, Copy, Debug, PartialEq, Eq, Error)]
+pub enum PutFault {
+    /// The queue was full. The item comes back.
+    #[error("the queue is full")]
+    Full(Item),
+}

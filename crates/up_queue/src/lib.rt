@@ -1,0 +1,15 @@
+//! A bounded queue from one thread to another, whose two ends know what went through it: what was put is what was taken,
+//! followed by what is held. No put waits for a take, and no take for a put.
+#![tactic(auto)]
+
+mod ends;
+mod fault;
+mod item;
+mod line;
+mod rule;
+#[cfg(test)]
+mod tests;
+
+pub use ends::{PutEnd, TakeEnd, compare, lane_queue};
+pub use fault::{PutFault, QueueFault};
+pub use item::Item;

@@ -1,0 +1,107 @@
+//! The rule of a queue, and what each step tells the end that makes it. Proofs alone use these types: no value of them is made.
+ghost use Rattle.std.specs.Prelude.{ℕ};
+
+use crate::item::Item;
+use crossbeam_queue::protocol::{Join, Lesson, Outcome, Protocol, Split};
+use std::collections::LinkedList;
+use std::marker::{Brand, PhantomData};
+
+/// What an end knows: what it may do, the capacity of its queue, and what it has put or taken.
+pub struct EndView {
+    pub puts: bool,
+    pub takes: bool,
+    pub capacity: u64,
+    pub put: LinkedList<Item>,
+    pub taken: LinkedList<Item>,
+}
+
+/// The rule. A queue begins with one pass that may do both, of a capacity that isn't told yet.
+pub struct InOrder;
+
+impl Protocol<Item, EndView> for InOrder {
+    ghost use Rattle.std.specs.Prelude.{true, []};
+    ghost use Rattle.up_queue.specs.Rule.{end_view, IsInOrder};
+
+    ghost holds = { IsInOrder };
+
+    ghost first = { end_view true true 0 [] [] };
+}
+
+/// The capacity of a queue that is being made, which the rule can't know in any other way.
+pub trait Room {
+    ghost room: { ℕ };
+}
+
+impl Room for Brand {
+    ghost room = { 0 };
+}
+
+/// The first pass is told its capacity, and is cut into that of the put end and that of the take end.
+pub struct Roles<N: Room> {
+    named: PhantomData<N>,
+}
+
+impl<N: Room> Split<EndView> for Roles<N> {
+    ghost use Rattle.up_queue.specs.Rule.{putting, taking};
+
+    ghost left = { λ v. putting N.room v.put };
+
+    ghost right = { λ v. taking N.room v.taken };
+}
+
+/// What both ends know, put together. The take end's pass is used up.
+pub struct Both;
+
+impl Join<EndView> for Both {
+    ghost use Rattle.std.specs.Prelude.{true, false, []};
+    ghost use Rattle.up_queue.specs.Rule.{end_view};
+
+    ghost both = { λ v w. end_view true true v.capacity v.put w.taken };
+
+    ghost spent = { end_view false false 0 [] [] };
+}
+
+impl Lesson<Item, EndView> for Both {
+    ghost use Rattle.up_queue.specs.Line.{IsLine};
+
+    ghost fact = { λ v items. IsLine v.capacity v.put v.taken items };
+}
+
+/// A put: one item more was put. Where the queue is full, the put end learns that what it put is what was taken, followed
+/// by as many items as the capacity.
+pub struct Puts;
+
+impl Outcome<Item, EndView> for Puts {
+    ghost use Rattle.std.specs.Prelude.{◌≡◌, [], ◌∷◌, ◌++◌};
+    ghost use Rattle.up_queue.specs.Rule.{end_view};
+
+    ghost then = { λ v x w. w ≡ end_view v.puts v.takes v.capacity (v.put ++ x ∷ []) v.taken };
+}
+
+impl Lesson<Item, EndView> for Puts {
+    ghost use Rattle.std.specs.Prelude.{List};
+    ghost use Rattle.up_queue.specs.declared.item.Item.{Item};
+    ghost use Rattle.up_queue.specs.Line.{IsLine};
+
+    ghost fact = { λ v items. (taken : List Item) × IsLine v.capacity v.put taken items };
+}
+
+/// A take: one item more was taken, and what was taken is orderly. Where the queue is empty, the take end learns that what
+/// it took is what was put.
+pub struct Takes;
+
+impl Outcome<Item, EndView> for Takes {
+    ghost use Rattle.std.specs.Prelude.{◌≡◌, [], ◌∷◌, ◌++◌};
+    ghost use Rattle.up_queue.specs.Rule.{end_view};
+    ghost use Rattle.up_queue.specs.Line.{IsOrderly};
+
+    ghost then = { λ v x w. (w ≡ end_view v.puts v.takes v.capacity v.put (v.taken ++ x ∷ [])) × IsOrderly w.taken };
+}
+
+impl Lesson<Item, EndView> for Takes {
+    ghost use Rattle.std.specs.Prelude.{List};
+    ghost use Rattle.up_queue.specs.declared.item.Item.{Item};
+    ghost use Rattle.up_queue.specs.Line.{IsLine};
+
+    ghost fact = { λ v items. (put : List Item) × IsLine v.capacity put v.taken items };
+}
