@@ -1,4 +1,4 @@
-// Lanes over queues of several sizes, and events that come early or again.
+//! Lanes over queues of several sizes, and events that come early or again.
 ghost use Rattle.std.specs.Prelude.{◌≡◌, []};
 
 use super::*;
