@@ -13,8 +13,6 @@ mod metadata_fault;
 mod patch;
 mod place;
 mod request;
-#[cfg(test)]
-mod tests;
 mod verb;
 mod words;
 

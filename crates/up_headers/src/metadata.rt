@@ -80,6 +80,3 @@ pub fn pairs_of(alloc: Global, text: &[u8]) -> Result<Pairs, MetadataFault>
 {
     read_pairs(alloc, text)
 }
-
-#[cfg(test)]
-mod tests;

@@ -19,8 +19,6 @@ mod response;
 mod room;
 mod sequence;
 mod step;
-#[cfg(test)]
-mod tests;
 mod text;
 mod wire_fault;
 mod write;

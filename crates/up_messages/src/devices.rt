@@ -2,28 +2,40 @@
 ghost use Rattle.up_wire.specs.Device.{device_of};
 ghost use Rattle.std.specs.Prelude.{None};
 
-use super::*;
+use std::alloc::Global;
+use std::cell::Cell;
+use up_wire::{NextByte, Sink, Source, WriteSome};
+
+/// How often a device is interrupted before its first byte, and before each byte behind that.
+#[derive(Clone, Copy, PartialEq, Eq)]
+pub struct Waits {
+    pub before: u32,
+    pub each: u32,
+}
+
+impl Waits {
+    pub const NONE: Waits = Waits { before: 0, each: 0 };
+}
 
 /// Gives its bytes one at a time, and then ends or fails.
 #[derive(Drop)]
-pub(crate) struct Tape<'a> {
-    pub(crate) bytes: &'a [u8],
-    pub(crate) fails: bool,
-    /// How often it is interrupted before the next byte.
-    pub(crate) waits: u32,
-    /// How often it is interrupted before each byte behind that.
-    pub(crate) each: u32,
+pub struct Tape<'a> {
+    pub bytes: &'a [u8],
+    fails: bool,
+    waits: Waits,
+    /// How often it was asked for a byte, but for interruptions.
+    asks: &'a Cell<u64>,
     interruptions: u64,
     has_failed: bool,
 }
 
 impl<'a> Tape<'a> {
-    pub(crate) fn new(bytes: &'a [u8], fails: bool) -> Tape<'a> {
+    pub fn new(bytes: &'a [u8], fails: bool, waits: Waits, asks: &'a Cell<u64>) -> Tape<'a> {
         Tape {
             bytes,
             fails,
-            waits: 0,
-            each: 0,
+            waits,
+            asks,
             interruptions: 0,
             has_failed: false,
         }
@@ -37,14 +49,15 @@ impl<'a> Source for Tape<'a> {
         if self.has_failed {
             return NextByte::Failed;
         }
-        if self.waits > 0 && self.interruptions < u64::MAX {
-            self.waits -= 1;
+        if self.waits.before > 0 && self.interruptions < u64::MAX {
+            self.waits.before -= 1;
             self.interruptions += 1;
             return NextByte::Interrupted;
         }
+        self.asks.set(self.asks.get().saturating_add(1));
         if let [first, rest @ ..] = self.bytes {
             self.bytes = rest;
-            self.waits = self.each;
+            self.waits.before = self.waits.each;
             return NextByte::Byte(*first);
         }
         if self.fails {
@@ -57,39 +70,40 @@ impl<'a> Source for Tape<'a> {
 
 /// Takes so many bytes, one at a time, and then fails.
 #[derive(Drop)]
-pub(crate) struct Slot {
-    pub(crate) taken: Vec<u8>,
-    pub(crate) room: usize,
-    /// How often it is interrupted before the next byte.
-    pub(crate) waits: u32,
-    /// How often it is interrupted before each byte behind that.
-    pub(crate) each: u32,
+pub struct Slot<'a> {
+    pub taken: Vec<u8>,
+    room: usize,
+    waits: Waits,
+    asks: &'a Cell<u64>,
+    /// How often the source had been asked when all was sent on, where it was.
+    pub sent: Option<u64>,
     interruptions: u64,
     has_failed: bool,
 }
 
-impl Slot {
-    pub(crate) fn new(alloc: Global) -> Slot {
+impl<'a> Slot<'a> {
+    pub fn new(alloc: Global, room: usize, waits: Waits, asks: &'a Cell<u64>) -> Slot<'a> {
         Slot {
             taken: Vec::new(alloc),
-            room: 1000,
-            waits: 0,
-            each: 0,
+            room,
+            waits,
+            asks,
+            sent: None,
             interruptions: 0,
             has_failed: false,
         }
     }
 }
 
-impl Sink for Slot {
+impl<'a> Sink for Slot<'a> {
     ghost device = { λ s. device_of None s.has_failed s.interruptions };
 
     fn write_some(&mut self, bytes: &[u8]) -> WriteSome {
         if self.has_failed {
             return WriteSome::Failed;
         }
-        if self.waits > 0 && self.interruptions < u64::MAX {
-            self.waits -= 1;
+        if self.waits.before > 0 && self.interruptions < u64::MAX {
+            self.waits.before -= 1;
             self.interruptions += 1;
             return WriteSome::Interrupted;
         }
@@ -101,15 +115,16 @@ impl Sink for Slot {
             return WriteSome::Failed;
         }
         self.room -= 1;
-        self.waits = self.each;
+        self.sent = None;
+        self.waits.before = self.waits.each;
         WriteSome::Took(1)
     }
 
     fn flush(&mut self) -> WriteSome {
         if self.has_failed {
-            WriteSome::Failed
-        } else {
-            WriteSome::Took(0)
+            return WriteSome::Failed;
         }
+        self.sent = Some(self.asks.get());
+        WriteSome::Took(0)
     }
 }

@@ -1,0 +1,172 @@
+//! What messages are, in words: "POST / Host: a; [body] close asked rest [GET]", where `100 Continue` was sent on and bytes stay
+//! unread, "cut POST / [bo]", "3 BadFraming bare", or "end".
+use crate::bench::Bench;
+use crate::devices::{Slot, Tape};
+use crate::row_fault::RowFault;
+use std::alloc::{AllocError, Global};
+use std::cell::Cell;
+use std::fmt::Write;
+use up_wire::{Input, Limits, Message, Source, Taken, read_message};
+
+/// The most bytes of a body in these rows.
+const LIMIT: u64 = 20;
+
+/// What is written where the client waits for it.
+const CONTINUE: &[u8] = b"HTTP/1.1 100 Continue\r\n\r\n";
+
+fn push_if(words: &mut String, word: &str, stands: bool) -> Result<(), AllocError> {
+    if stands {
+        words.push_str(word)?;
+    }
+    Ok(())
+}
+
+fn push_message(words: &mut String, message: &Message) -> Result<(), AllocError> {
+    let target = message.target.as_slice().escape_ascii();
+    write!(words, "{} {target}", message.method.as_str())?;
+    for (name, value) in message.fields.as_slice() {
+        let (name, value) = (
+            name.as_slice().escape_ascii(),
+            value.as_slice().escape_ascii(),
+        );
+        write!(words, " {name}: {value};")?;
+    }
+    let body = message.body.as_slice().escape_ascii();
+    write!(words, " [{body}]")?;
+    push_if(words, " bare", message.bare)?;
+    push_if(words, " close", message.close)
+}
+
+/// What was written meanwhile. With `at`, also how often the source had been asked when it was sent on.
+fn push_written(words: &mut String, slot: &Slot, at: bool) -> Result<(), AllocError> {
+    if slot.taken.is_empty() {
+        return Ok(());
+    }
+    match slot.sent {
+        Some(asks) if slot.taken.as_slice() == CONTINUE => {
+            words.push_str(" asked")?;
+            if at {
+                write!(words, " at {asks}")?;
+            }
+            Ok(())
+        }
+        _ => write!(words, " wrote [{}]", slot.taken.escape_ascii()),
+    }
+}
+
+fn push_rest(words: &mut String, rest: &[u8]) -> Result<(), AllocError> {
+    if !rest.is_empty() {
+        write!(words, " rest [{}]", rest.escape_ascii())?;
+    }
+    Ok(())
+}
+
+/// Puts what one call of `read_message` gives, and answers whether it is a whole message.
+fn read<R: Source>(
+    alloc: Global,
+    source: &mut R,
+    slot: &mut Slot,
+    words: &mut String,
+) -> Result<bool, AllocError> {
+    let limits = Limits { max_body: LIMIT };
+    match read_message(alloc, source, slot, &limits) {
+        Taken::Message(message) => {
+            push_message(words, &message)?;
+            return Ok(true);
+        }
+        Taken::Cut(message) => {
+            words.push_str("cut ")?;
+            push_message(words, &message)?;
+        }
+        Taken::Fault { fault, bare } => {
+            words.push_str(fault.text().trim_end())?;
+            push_if(words, " bare", bare)?;
+        }
+        Taken::End => words.push_str("end")?,
+    }
+    Ok(false)
+}
+
+/// Puts what so many calls of `read_message` give, and answers whether the last is a whole message.
+fn read_all<R: Source>(
+    alloc: Global,
+    bench: &Bench,
+    source: &mut R,
+    asks: &Cell<u64>,
+    calls: usize,
+    at: bool,
+    words: &mut String,
+) -> Result<bool, AllocError> {
+    let mut is_whole = false;
+    for call in 0..calls {
+        push_if(words, " | ", call > 0)?;
+        let mut slot = Slot::new(alloc, bench.room, bench.writes, asks);
+        is_whole = read(alloc, source, &mut slot, words)?;
+        push_written(words, &slot, at)?;
+    }
+    Ok(is_whole)
+}
+
+/// What is read byte by byte. With `all`, what a fault leaves unread is told too, and when `100 Continue` was sent on.
+pub fn by_bytes(
+    alloc: Global,
+    bench: &Bench,
+    input: &[u8],
+    fails: bool,
+    calls: usize,
+    all: bool,
+) -> Result<String, RowFault> {
+    let mut words = String::new(alloc);
+    let asks = Cell::new(0);
+    let mut tape = Tape::new(input, fails, bench.reads, &asks);
+    let is_whole = read_all(alloc, bench, &mut tape, &asks, calls, all, &mut words)?;
+    if is_whole || all {
+        push_rest(&mut words, tape.bytes)?;
+    }
+    Ok(words)
+}
+
+/// What is read of a slice.
+fn by_slice(alloc: Global, bench: &Bench, input: &[u8], calls: usize) -> Result<String, RowFault> {
+    let mut words = String::new(alloc);
+    let asks = Cell::new(0);
+    let mut reader = input;
+    let mut source = Input::new(&mut reader);
+    if read_all(alloc, bench, &mut source, &asks, calls, false, &mut words)? {
+        push_rest(&mut words, reader)?;
+    }
+    Ok(words)
+}
+
+/// The words of two ways, once where they are the same.
+fn joined(mut one: String, other: &str) -> Result<String, RowFault> {
+    if one.as_str() != other {
+        one.push_str(" or else ")?;
+        one.push_str(other)?;
+    }
+    Ok(one)
+}
+
+/// What is read byte by byte and of a slice.
+pub fn either_way(
+    alloc: Global,
+    bench: &Bench,
+    input: &[u8],
+    calls: usize,
+) -> Result<String, RowFault> {
+    let by_slice = by_slice(alloc, bench, input, calls)?;
+    let by_bytes = by_bytes(alloc, bench, input, false, calls, false)?;
+    joined(by_bytes, by_slice.as_str())
+}
+
+/// What is read where the input ends, and where a read fails.
+pub fn at_both_ends(
+    alloc: Global,
+    bench: &Bench,
+    input: &[u8],
+    calls: usize,
+) -> Result<String, RowFault> {
+    let at_end = either_way(alloc, bench, input, calls)?;
+    let where_it_fails = by_bytes(alloc, bench, input, true, calls, false)?;
+    joined(where_it_fails, at_end.as_str())
+}

@@ -1,0 +1,121 @@
+//! What is written.
+use crate::bench::{Bench, cut};
+use crate::devices::Slot;
+use crate::escape::put_bytes;
+use crate::row_fault::RowFault;
+use bytes::Bytes;
+use std::alloc::{AllocError, Global};
+use std::cell::Cell;
+use std::fmt::Write;
+use std::io::BufWriter;
+use up_wire::{Output, Response, WriteFailed, flush, write_pieces, write_response};
+
+/// A response, whether it is bare, and whether it closes.
+#[derive(Drop)]
+struct Reply {
+    response: Response,
+    bare: bool,
+    closes: bool,
+}
+
+/// A response with two fields.
+fn reply_of(alloc: Global, text: &str) -> Result<Reply, RowFault> {
+    let (status, rest) = cut(text);
+    let (flags, text) = cut(rest);
+    let mut body = Vec::new(alloc);
+    put_bytes(&mut body, text)?;
+    let status = status.parse::<u16>().map_err(|_| RowFault::Number)?;
+    let made = Response::new(alloc, status)
+        .with_field(alloc, b"X", b"1")?
+        .with_field(alloc, b"Y", b"")?;
+    Ok(Reply {
+        response: made.with_body(Bytes::copy_from_slice(alloc, &body)?),
+        bare: flags.contains('b'),
+        closes: flags.contains('c'),
+    })
+}
+
+/// What was written, and whether that failed.
+fn words_of(
+    alloc: Global,
+    ended: Result<(), WriteFailed>,
+    bytes: &[u8],
+) -> Result<String, AllocError> {
+    let mut words = String::new(alloc);
+    if ended.is_err() {
+        words.push_str("failed ")?;
+    }
+    write!(words, "[{}]", bytes.escape_ascii())?;
+    Ok(words)
+}
+
+/// What a sink has that takes one byte at a time.
+fn told(alloc: Global, bench: &Bench, reply: &Reply) -> Result<String, RowFault> {
+    let asks = Cell::new(0);
+    let mut slot = Slot::new(alloc, bench.room, bench.writes, &asks);
+    let ended = write_response(&mut slot, &reply.response, reply.bare, reply.closes);
+    let mut words = words_of(alloc, ended, &slot.taken)?;
+    if slot.sent.is_none() {
+        words.push_str(" unsent")?;
+    }
+    Ok(words)
+}
+
+pub fn written(alloc: Global, bench: &Bench, text: &str) -> Result<String, RowFault> {
+    told(alloc, bench, &reply_of(alloc, text)?)
+}
+
+/// A writer that holds back what it is given until it is flushed.
+fn holding(alloc: Global) -> Result<Output<BufWriter<Vec<u8>>>, RowFault> {
+    match BufWriter::new(alloc, Vec::new(alloc)) {
+        Ok(writer) => Ok(Output::new(writer)),
+        Err(_) => Err(RowFault::Memory(AllocError)),
+    }
+}
+
+/// What such a writer has sent on of a response.
+pub fn sent(alloc: Global, text: &str) -> Result<String, RowFault> {
+    let reply = reply_of(alloc, text)?;
+    let mut sink = holding(alloc)?;
+    let ended = write_response(&mut sink, &reply.response, reply.bare, reply.closes);
+    Ok(words_of(alloc, ended, sink.into_inner().get_ref())?)
+}
+
+/// What such a writer has sent on of three pieces.
+pub fn pieces_sent(alloc: Global, flushes: bool) -> Result<String, RowFault> {
+    let mut sink = holding(alloc)?;
+    let mut ended = write_pieces(&mut sink, &[b"ab", b"", b"c"]);
+    if flushes && ended.is_ok() {
+        ended = flush(&mut sink);
+    }
+    Ok(words_of(alloc, ended, sink.into_inner().get_ref())?)
+}
+
+/// A body, and whether the response shares it with another owner.
+pub fn shared(alloc: Global, text: &[u8]) -> Result<String, RowFault> {
+    let body = Bytes::copy_from_slice(alloc, text)?;
+    let made = Response::new(alloc, 200).with_body(body.clone()?);
+    let mut words = words_of(alloc, Ok(()), made.body.as_slice())?;
+    if !body.is_unique() {
+        words.push_str(" shared")?;
+    }
+    Ok(words)
+}
+
+pub fn refused(alloc: Global, bench: &Bench) -> Result<String, RowFault> {
+    let reply = Reply {
+        response: Response::refused(alloc, 404, "no such path\n")?,
+        bare: false,
+        closes: false,
+    };
+    told(alloc, bench, &reply)
+}
+
+pub fn lost(alloc: Global, bench: &Bench) -> Result<String, RowFault> {
+    let reply = Reply {
+        response: Response::out_of_memory(alloc),
+        bare: false,
+        closes: false,
+    };
+    told(alloc, bench, &reply)
+}

@@ -1,0 +1,117 @@
+//! Readers and writers of std as devices.
+use crate::escape::put_bytes;
+use crate::row_fault::RowFault;
+use std::alloc::{AllocError, Global};
+use std::fmt::Write as _;
+use std::io::{self, BufReader, ErrorKind, Read, Write};
+use up_wire::{Input, NextByte, Output, Run, Sink, Source};
+
+/// At each call gives or takes so many bytes, is interrupted or fails, as the next letter says, and nothing behind the last.
+#[derive(Drop)]
+struct Turns<'a> {
+    turns: &'a [u8],
+}
+
+impl<'a> Turns<'a> {
+    /// How many bytes this call gives or takes.
+    fn turn(&mut self) -> io::Result<usize> {
+        let Some((turn, rest)) = self.turns.split_first() else {
+            return Ok(0);
+        };
+        self.turns = rest;
+        match turn {
+            b'i' => Err(io::Error::from(ErrorKind::Interrupted)),
+            b'f' => Err(io::Error::from(ErrorKind::BrokenPipe)),
+            digit => Ok(usize::from(digit.saturating_sub(b'0'))),
+        }
+    }
+}
+
+impl<'a> Read for Turns<'a> {
+    fn read(&mut self, buf: &mut [u8]) -> io::Result<usize> {
+        let count = self.turn()?.min(buf.len());
+        buf[..count].fill(b'x');
+        Ok(count)
+    }
+}
+
+impl<'a> Write for Turns<'a> {
+    fn write(&mut self, buf: &[u8]) -> io::Result<usize> {
+        Ok(self.turn()?.min(buf.len()))
+    }
+
+    fn flush(&mut self) -> io::Result<()> {
+        Ok(())
+    }
+}
+
+/// Puts what a source answers to these steps, each of which asks for three bytes at most.
+fn push_steps<R: Source>(
+    alloc: Global,
+    source: &mut R,
+    steps: &str,
+    words: &mut String,
+) -> Result<(), RowFault> {
+    for step in steps.split(' ') {
+        let mut into = Vec::with_capacity(alloc, 8)?;
+        match step {
+            "byte" => {
+                let byte: NextByte = source.next_byte();
+                write!(words, "{byte:?} ")?;
+            }
+            "run" => {
+                let run: Run = source.take_run(&mut into, 3);
+                write!(words, "{run:?} [{}] ", into.escape_ascii())?;
+            }
+            "line" => {
+                let run = source.take_in_line(&mut into, 3);
+                write!(words, "{run:?} [{}] ", into.escape_ascii())?;
+            }
+            _ => return Err(RowFault::Mark),
+        }
+    }
+    Ok(())
+}
+
+/// What a slice as a source answers, and what is left of it.
+pub fn of_slice(alloc: Global, text: &str) -> Result<String, RowFault> {
+    let (steps, text) = text.split_once(" : ").ok_or(RowFault::Text)?;
+    let mut bytes = Vec::new(alloc);
+    put_bytes(&mut bytes, text)?;
+    let mut words = String::new(alloc);
+    let mut reader = bytes.as_slice();
+    let mut source = Input::new(&mut reader);
+    push_steps(alloc, &mut source, steps, &mut words)?;
+    write!(words, "rest [{}]", reader.escape_ascii())?;
+    Ok(words)
+}
+
+/// What a reader as a source answers.
+pub fn of_reader(alloc: Global, text: &str) -> Result<String, RowFault> {
+    let (steps, turns) = text.split_once(" : ").ok_or(RowFault::Text)?;
+    let turns = Turns {
+        turns: turns.as_bytes(),
+    };
+    let Ok(reader) = BufReader::new(alloc, turns) else {
+        return Err(RowFault::Memory(AllocError));
+    };
+    let mut words = String::new(alloc);
+    push_steps(alloc, &mut Input::new(reader), steps, &mut words)?;
+    words.push_str("told")?;
+    Ok(words)
+}
+
+/// What a writer as a sink answers to five writes of two bytes and one of none.
+pub fn of_writer(alloc: Global, turns: &str) -> Result<String, RowFault> {
+    let mut sink = Output::new(Turns {
+        turns: turns.as_bytes(),
+    });
+    let mut words = String::new(alloc);
+    for _ in 0..5 {
+        let took = sink.write_some(b"ab");
+        write!(words, "{took:?} ")?;
+    }
+    let took = sink.write_some(b"");
+    write!(words, "{took:?}")?;
+    Ok(words)
+}
