@@ -3,7 +3,7 @@ use crate::devices::Waits;
 use crate::escape::put_bytes;
 use crate::row_fault::RowFault;
 use crate::{reading, requests, responses, turns};
-use std::alloc::Global;
+use std::alloc::{AllocError, Global};
 
 /// How the next row's text begins, and how its devices are.
 #[derive(Drop)]
@@ -20,12 +20,19 @@ pub fn cut(text: &str) -> (&str, &str) {
     text.split_once(' ').unwrap_or((text, ""))
 }
 
+fn number_of(word: &str) -> Result<u32, RowFault> {
+    match word.parse::<u32>() {
+        Ok(number) => Ok(number),
+        Err(_) => Err(RowFault::Number),
+    }
+}
+
 /// The two numbers of a text.
 fn waits_of(text: &str) -> Result<Waits, RowFault> {
     let (before, each) = cut(text);
     Ok(Waits {
-        before: before.parse::<u32>().map_err(|_| RowFault::Number)?,
-        each: each.parse::<u32>().map_err(|_| RowFault::Number)?,
+        before: number_of(before)?,
+        each: number_of(each)?,
     })
 }
 
@@ -45,8 +52,26 @@ impl Bench {
         self.reads != Waits::NONE || self.writes != Waits::NONE || self.room != 1000
     }
 
-    /// Takes what a line says of the rows behind it.
-    pub fn note(&mut self, line: &str) -> Result<(), RowFault> {
+    /// Takes what a line says of the rows behind it, and answers what is wrong with it.
+    pub fn note(&mut self, alloc: Global, line: &str) -> Result<Option<String>, AllocError> {
+        if line.is_empty() || line.starts_with('#') {
+            return Ok(None);
+        }
+        match self.set(line) {
+            Ok(()) => Ok(None),
+            Err(fault) => Ok(Some(fault.to_string(alloc)?)),
+        }
+    }
+
+    fn put_times(&mut self, text: &str) -> Result<(), RowFault> {
+        let (count, text) = cut(text);
+        for _ in 0..number_of(count)? {
+            put_bytes(&mut self.text, text)?;
+        }
+        Ok(())
+    }
+
+    fn set(&mut self, line: &str) -> Result<(), RowFault> {
         let (mark, text) = cut(line);
         match mark {
             "start" => {
@@ -54,22 +79,15 @@ impl Bench {
                 put_bytes(&mut self.start, text)
             }
             "put" => put_bytes(&mut self.text, text),
-            "times" => {
-                let (count, text) = cut(text);
-                let count = count.parse::<u32>().map_err(|_| RowFault::Number)?;
-                for _ in 0..count {
-                    put_bytes(&mut self.text, text)?;
-                }
-                Ok(())
-            }
+            "times" => self.put_times(text),
             "reads" => {
                 self.reads = waits_of(text)?;
                 Ok(())
             }
             "writes" => {
                 let (room, waits) = cut(text);
-                self.room = room.parse::<usize>().map_err(|_| RowFault::Number)?;
                 self.writes = waits_of(waits)?;
+                self.room = number_of(room)? as usize;
                 Ok(())
             }
             _ => Err(RowFault::Mark),

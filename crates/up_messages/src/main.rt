@@ -42,30 +42,39 @@ mod row_fault;
 mod turns;
 
 use crate::bench::Bench;
+use std::alloc::{AllocError, Global};
 use std::{fs, io};
+
+/// What is printed of a row that is not as it must be.
+fn difference(
+    alloc: Global,
+    bench: &mut Bench,
+    row: &str,
+    wanted: &str,
+) -> Result<Option<String>, AllocError> {
+    match bench.take(alloc, row, wanted) {
+        Ok(found) if found.as_str() == wanted => Ok(None),
+        Ok(found) => Ok(Some(format!(in alloc; "wanted {wanted}, found {found}")?)),
+        Err(fault) => Ok(Some(fault.to_string(alloc)?)),
+    }
+}
 
 /// Holds the rows of a text to what they must come to, and prints those that differ.
 fn hold_all(rt: &(impl Print + AllocGlobal), text: &str) -> io::Result<()> {
     let mut bench = Bench::new(rt.alloc());
     let (mut rows, mut differing) = (0u64, 0u64);
     for (before, line) in text.lines().enumerate() {
-        if line.is_empty() || line.starts_with('#') {
-            continue;
-        }
-        let number = before.saturating_add(1);
-        let Some((row, wanted)) = line.split_once(" => ") else {
-            if let Err(fault) = bench.note(line) {
-                return println!(rt; "line {number}: {fault}");
+        let found = match line.split_once(" => ") {
+            Some((row, wanted)) => {
+                rows = rows.saturating_add(1);
+                difference(rt.alloc(), &mut bench, row, wanted)?
             }
-            continue;
+            None => bench.note(rt.alloc(), line)?,
         };
-        rows = rows.saturating_add(1);
-        match bench.take(rt.alloc(), row, wanted) {
-            Ok(found) if found.as_str() == wanted => continue,
-            Ok(found) => println!(rt; "line {number}: wanted {wanted}, found {found}")?,
-            Err(fault) => println!(rt; "line {number}: {fault}")?,
+        if let Some(found) = found {
+            differing = differing.saturating_add(1);
+            println!(rt; "line {}: {found}", before.saturating_add(1))?;
         }
-        differing = differing.saturating_add(1);
     }
     println!(rt; "{rows} rows, of which {differing} differ")
 }

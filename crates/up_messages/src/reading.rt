@@ -61,30 +61,19 @@ fn push_rest(words: &mut String, rest: &[u8]) -> Result<(), AllocError> {
     Ok(())
 }
 
-/// Puts what one call of `read_message` gives, and answers whether it is a whole message.
-fn read<R: Source>(
-    alloc: Global,
-    source: &mut R,
-    slot: &mut Slot,
-    words: &mut String,
-) -> Result<bool, AllocError> {
-    let limits = Limits { max_body: LIMIT };
-    match read_message(alloc, source, slot, &limits) {
-        Taken::Message(message) => {
-            push_message(words, &message)?;
-            return Ok(true);
-        }
+fn push_taken(words: &mut String, taken: &Taken) -> Result<(), AllocError> {
+    match taken {
+        Taken::Message(message) => push_message(words, message),
         Taken::Cut(message) => {
             words.push_str("cut ")?;
-            push_message(words, &message)?;
+            push_message(words, message)
         }
         Taken::Fault { fault, bare } => {
             words.push_str(fault.text().trim_end())?;
-            push_if(words, " bare", bare)?;
+            push_if(words, " bare", *bare)
         }
-        Taken::End => words.push_str("end")?,
+        Taken::End => words.push_str("end"),
     }
-    Ok(false)
 }
 
 /// Puts what so many calls of `read_message` give, and answers whether the last is a whole message.
@@ -97,11 +86,14 @@ fn read_all<R: Source>(
     at: bool,
     words: &mut String,
 ) -> Result<bool, AllocError> {
+    let limits = Limits { max_body: LIMIT };
     let mut is_whole = false;
     for call in 0..calls {
         push_if(words, " | ", call > 0)?;
         let mut slot = Slot::new(alloc, bench.room, bench.writes, asks);
-        is_whole = read(alloc, source, &mut slot, words)?;
+        let taken = read_message(alloc, source, &mut slot, &limits);
+        is_whole = matches!(taken, Taken::Message(_));
+        push_taken(words, &taken)?;
         push_written(words, &slot, at)?;
     }
     Ok(is_whole)

@@ -6,31 +6,36 @@ use std::fmt::Write;
 use up_headers::{
     HeaderFault, MetadataFault, NewUpload, Pairs, Patch, Request, pairs_of, request_of,
 };
-use up_wire::{Message, Sequence, WireFault};
+use up_wire::{Field, Message, Sequence, WireFault};
 
 /// The most bytes of an upload in these rows.
 const MAX_SIZE: u64 = 10;
 
-/// A message of a line with method and target, and a line for each field. Its body is "abc".
-fn message_of(alloc: Global, text: &str) -> Result<Message, RowFault> {
-    let mut lines = text.split('\n');
-    let (method, target) = lines
-        .next()
-        .unwrap_or("")
-        .split_once(' ')
-        .ok_or(RowFault::Text)?;
+/// The field of a line, "Name: value".
+fn field_of(alloc: Global, line: &str) -> Option<Field> {
+    let (name, value) = line.split_once(':')?;
+    let value = value.strip_prefix(" ").unwrap_or(value);
+    let name = Sequence::from_slice(alloc, name.as_bytes()).ok()?;
+    Some((name, Sequence::from_slice(alloc, value.as_bytes()).ok()?))
+}
+
+fn fields_of(alloc: Global, lines: &str) -> Option<Sequence<Field>> {
     let mut fields = Sequence::new(alloc);
-    for line in lines {
-        let (name, value) = line.split_once(':').ok_or(RowFault::Text)?;
-        let value = value.strip_prefix(" ").unwrap_or(value);
-        let name = Sequence::from_slice(alloc, name.as_bytes())?;
-        fields.push((name, Sequence::from_slice(alloc, value.as_bytes())?))?;
+    for line in lines.lines() {
+        fields.push(field_of(alloc, line)?).ok()?;
     }
-    Ok(Message {
-        method: Method::from_bytes(alloc, method.as_bytes()).map_err(|_| RowFault::Text)?,
-        target: Sequence::from_slice(alloc, target.as_bytes())?,
-        fields,
-        body: Sequence::from_slice(alloc, b"abc")?,
+    Some(fields)
+}
+
+/// A message of a line with method and target, and a line for each field. Its body is "abc".
+fn message_of(alloc: Global, text: &str) -> Option<Message> {
+    let (first, lines) = text.split_once('\n').unwrap_or((text, ""));
+    let (method, target) = first.split_once(' ')?;
+    Some(Message {
+        method: Method::from_bytes(alloc, method.as_bytes()).ok()?,
+        target: Sequence::from_slice(alloc, target.as_bytes()).ok()?,
+        fields: fields_of(alloc, lines)?,
+        body: Sequence::from_slice(alloc, b"abc").ok()?,
         bare: false,
         close: false,
     })
@@ -100,14 +105,14 @@ fn push_fault(words: &mut String, fault: HeaderFault) -> Result<(), AllocError> 
 
 /// What a message asks for.
 pub fn asked(alloc: Global, text: &[u8]) -> Result<String, RowFault> {
-    let Ok(text) = str::from_utf8(text) else {
+    let text = str::from_utf8(text).unwrap_or("");
+    let Some(message) = message_of(alloc, text) else {
         return Err(RowFault::Text);
     };
-    let message = message_of(alloc, text)?;
     let mut words = String::new(alloc);
-    match request_of(alloc, message, MAX_SIZE) {
-        Ok(request) => push_request(&mut words, &request)?,
-        Err(fault) => push_fault(&mut words, fault)?,
+    match &request_of(alloc, message, MAX_SIZE) {
+        Ok(request) => push_request(&mut words, request)?,
+        Err(fault) => push_fault(&mut words, *fault)?,
     }
     Ok(words)
 }

@@ -19,17 +19,22 @@ struct Reply {
 }
 
 /// A response with two fields.
+fn response_of(alloc: Global, status: u16, text: &str) -> Result<Response, RowFault> {
+    let mut body = Vec::new(alloc);
+    put_bytes(&mut body, text)?;
+    let body = Bytes::copy_from_slice(alloc, &body)?;
+    let made = Response::new(alloc, status).with_field(alloc, b"X", b"1")?;
+    Ok(made.with_field(alloc, b"Y", b"")?.with_body(body))
+}
+
 fn reply_of(alloc: Global, text: &str) -> Result<Reply, RowFault> {
     let (status, rest) = cut(text);
     let (flags, text) = cut(rest);
-    let mut body = Vec::new(alloc);
-    put_bytes(&mut body, text)?;
-    let status = status.parse::<u16>().map_err(|_| RowFault::Number)?;
-    let made = Response::new(alloc, status)
-        .with_field(alloc, b"X", b"1")?
-        .with_field(alloc, b"Y", b"")?;
+    let Ok(status) = status.parse::<u16>() else {
+        return Err(RowFault::Number);
+    };
     Ok(Reply {
-        response: made.with_body(Bytes::copy_from_slice(alloc, &body)?),
+        response: response_of(alloc, status, text)?,
         bare: flags.contains('b'),
         closes: flags.contains('c'),
     })

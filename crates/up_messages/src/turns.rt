@@ -4,7 +4,7 @@ use crate::row_fault::RowFault;
 use std::alloc::{AllocError, Global};
 use std::fmt::Write as _;
 use std::io::{self, BufReader, ErrorKind, Read, Write};
-use up_wire::{Input, NextByte, Output, Run, Sink, Source};
+use up_wire::{Input, Output, Sink, Source};
 
 /// At each call gives or takes so many bytes, is interrupted or fails, as the next letter says, and nothing behind the last.
 #[derive(Drop)]
@@ -45,29 +45,35 @@ impl<'a> Write for Turns<'a> {
     }
 }
 
-/// Puts what a source answers to these steps, each of which asks for three bytes at most.
+/// What a source answers to a step that asks for three bytes at most.
+fn push_run<R: Source>(
+    alloc: Global,
+    source: &mut R,
+    in_line: bool,
+    words: &mut String,
+) -> Result<(), AllocError> {
+    let mut into = Vec::with_capacity(alloc, 8)?;
+    let run = if in_line {
+        source.take_in_line(&mut into, 3)
+    } else {
+        source.take_run(&mut into, 3)
+    };
+    write!(words, "{run:?} [{}] ", into.escape_ascii())
+}
+
+/// Puts what a source answers to these steps.
 fn push_steps<R: Source>(
     alloc: Global,
     source: &mut R,
     steps: &str,
     words: &mut String,
-) -> Result<(), RowFault> {
+) -> Result<(), AllocError> {
     for step in steps.split(' ') {
-        let mut into = Vec::with_capacity(alloc, 8)?;
-        match step {
-            "byte" => {
-                let byte: NextByte = source.next_byte();
-                write!(words, "{byte:?} ")?;
-            }
-            "run" => {
-                let run: Run = source.take_run(&mut into, 3);
-                write!(words, "{run:?} [{}] ", into.escape_ascii())?;
-            }
-            "line" => {
-                let run = source.take_in_line(&mut into, 3);
-                write!(words, "{run:?} [{}] ", into.escape_ascii())?;
-            }
-            _ => return Err(RowFault::Mark),
+        if step == "byte" {
+            let byte = source.next_byte();
+            write!(words, "{byte:?} ")?;
+        } else {
+            push_run(alloc, source, step == "line", words)?;
         }
     }
     Ok(())
@@ -75,7 +81,7 @@ fn push_steps<R: Source>(
 
 /// What a slice as a source answers, and what is left of it.
 pub fn of_slice(alloc: Global, text: &str) -> Result<String, RowFault> {
-    let (steps, text) = text.split_once(" : ").ok_or(RowFault::Text)?;
+    let (steps, text) = text.split_once(" : ").unwrap_or(("", text));
     let mut bytes = Vec::new(alloc);
     put_bytes(&mut bytes, text)?;
     let mut words = String::new(alloc);
@@ -88,7 +94,7 @@ pub fn of_slice(alloc: Global, text: &str) -> Result<String, RowFault> {
 
 /// What a reader as a source answers.
 pub fn of_reader(alloc: Global, text: &str) -> Result<String, RowFault> {
-    let (steps, turns) = text.split_once(" : ").ok_or(RowFault::Text)?;
+    let (steps, turns) = text.split_once(" : ").unwrap_or(("", text));
     let turns = Turns {
         turns: turns.as_bytes(),
     };
