@@ -36,7 +36,8 @@ pub trait PostHook: Send {
         requires { is_sound self.old }
         ensures sound { is_sound self.new }
         ensures same { handed self.new ≡ handed self.old }
-        ensures alike { (event : Event) (outcome : Outcome) → may_answer self.new event outcome → may_answer self.old event outcome }
+        ensures alike { (event : Event) (outcome : Outcome)
+            → may_answer self.new event outcome → may_answer self.old event outcome }
         ensures room { OnOk result (has_room self.new ≡ true) };
 
     /// Hands over an event, for which `ready` has made room. Takes no memory.
@@ -45,6 +46,7 @@ pub trait PostHook: Send {
         requires room { has_room self.old ≡ true }
         ensures sound { is_sound self.new }
         ensures added { handed self.new ≡ handed self.old ++ event.now ∷ [] }
-        ensures alike { (event : Event) (outcome : Outcome) → may_answer self.new event outcome → may_answer self.old event outcome }
+        ensures alike { (event : Event) (outcome : Outcome)
+            → may_answer self.new event outcome → may_answer self.old event outcome }
         ensures answer { may_answer self.old event.now result };
 }

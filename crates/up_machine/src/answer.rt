@@ -14,7 +14,8 @@ use up_wire::Response;
 
 /// With a field whose value is a number.
 fn with_number(response: Response, alloc: Global, name: &[u8], n: u64) -> Result<Response, NoMemory>
-    ensures { IfOk result (λ made. made ≡ record response { fields = response.fields ++ (name.now, decimal n) ∷ [] }) }
+    ensures { IfOk result (λ made. made
+        ≡ record response { fields = response.fields ++ (name.now, decimal n) ∷ [] }) }
 {
     let mut digits = Buffer::new();
     Ok(response.with_field(alloc, name, digits.format(n).as_bytes())?)
@@ -27,7 +28,9 @@ fn with_text(
     name: &[u8],
     sent: Option<&[u8]>,
 ) -> Result<Response, NoMemory>
-    ensures { IfOk result (λ made. made ≡ record response { fields = response.fields ++ field_of name.now (option_copied sent.entry) }) }
+    ensures { IfOk result (λ made. made ≡ record response {
+      fields = response.fields ++ field_of name.now (option_copied sent.entry);
+    }) }
 {
     match sent {
         Some(text) => Ok(response.with_field(alloc, name, text)?),
@@ -61,7 +64,8 @@ pub fn to_create(alloc: Global, id: Id) -> Result<Response, NoMemory>
 
 /// With the length, or that it is to come later.
 fn with_size(response: Response, alloc: Global, size: Option<u64>) -> Result<Response, NoMemory>
-    ensures { IfOk result (λ made. made ≡ record response { fields = response.fields ++ size_field size ∷ [] }) }
+    ensures { IfOk result (λ made. made
+        ≡ record response { fields = response.fields ++ size_field size ∷ [] }) }
 {
     match size {
         Some(n) => with_number(response, alloc, b"Upload-Length", n),

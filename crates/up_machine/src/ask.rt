@@ -121,7 +121,8 @@ impl Ask {
         step: Step,
     ) -> Result<Ask, NoMemory>
         requires { step ≡ step_of patch.now (Some upload.now) }
-        ensures { IfOk result (λ ask. ask ≡ ask_of Finish (Some patch.now.id) (patched patch.now upload.now)) }
+        ensures { IfOk result (λ ask. ask
+            ≡ ask_of Finish (Some patch.now.id) (patched patch.now upload.now)) }
     {
         Ok(Ask {
             point: Point::Finish,

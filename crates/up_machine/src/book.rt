@@ -36,9 +36,19 @@ impl Model for Book {
 
     ghost use Rattle.up_machine.specs.Fits.{IsSoundBook};
 
-    ghost view = { λ a. record { content = a.uploads; journal = a.journal; closed = a.closed; max_size = a.max_size } };
+    ghost view = { λ a. record {
+      content = a.uploads;
+      journal = a.journal;
+      closed = a.closed;
+      max_size = a.max_size;
+    } };
 
-    ghost invariant = { λ a. IsSoundBook (record { content = a.uploads; journal = a.journal; closed = a.closed; max_size = a.max_size }) };
+    ghost invariant = { λ a. IsSoundBook (record {
+      content = a.uploads;
+      journal = a.journal;
+      closed = a.closed;
+      max_size = a.max_size;
+    }) };
 }
 
 impl Book {
@@ -163,7 +173,8 @@ impl Book {
     ) -> Result<Done, Refusal>
         requires bounded { IsWithin MOST_BYTES new.length }
         ensures answer { Answers result (decide self.old (request.Create new) id asked.now) }
-        ensures ok { IfOk result (λ done. self.new ≡ after self.old (request.Create new) id done.change) }
+        ensures ok { IfOk result (λ done.
+            self.new ≡ after self.old (request.Create new) id done.change) }
         ensures err { OnErr result (self.new ≡ self.old) }
     {
         self.check_create(&new, id, asked)?;
@@ -181,7 +192,8 @@ impl Book {
     /// Takes bytes at the end of an upload (tus 1.0.0, PATCH).
     fn patch(&mut self, alloc: Global, patch: Patch, asked: &Asked) -> Result<Done, Refusal>
         ensures answer { Answers result (decide self.old (request.Patch patch) 0 asked.now) }
-        ensures ok { IfOk result (λ done. self.new ≡ after self.old (request.Patch patch) 0 done.change) }
+        ensures ok { IfOk result (λ done.
+            self.new ≡ after self.old (request.Patch patch) 0 done.change) }
         ensures err { OnErr result (self.new ≡ self.old) }
     {
         let step = check_take(&self.uploads, self.closed, self.max_size, &patch, asked)?;
@@ -200,8 +212,10 @@ impl Book {
 
     /// What refuses a removal at planning, or else the upload.
     fn check_delete(&self, id: Id) -> Result<&Upload, Refusal>
-        ensures ok { IfOk result (λ upload. (self.now.closed ≡ false) × (map.get self.now.content id ≡ Some upload.now)) }
-        ensures err { IfErr result (λ refused. first_that_holds (planned_rows self.now (request.Delete id)) ≡ Some refused) }
+        ensures ok { IfOk result (λ upload. (self.now.closed ≡ false)
+            × (map.get self.now.content id ≡ Some upload.now)) }
+        ensures err { IfErr result (λ refused.
+            first_that_holds (planned_rows self.now (request.Delete id)) ≡ Some refused) }
     {
         if self.closed {
             return Err(Refusal::Closed);
@@ -225,7 +239,8 @@ impl Book {
     /// What closures are asked before bytes are taken.
     fn plan_patch(&self, alloc: Global, patch: &Patch) -> Result<Plan, Refusal>
         ensures answer { Answers result (decide_plan self.now (request.Patch patch.now)) }
-        ensures ready { decide_plan self.now (request.Patch patch.now) ≡ Ok is_ready → result ≡ Ok is_ready }
+        ensures ready { decide_plan self.now (request.Patch patch.now) ≡ Ok is_ready
+            → result ≡ Ok is_ready }
     {
         if self.closed {
             return Err(Refusal::Closed);
@@ -251,7 +266,8 @@ impl Book {
     /// Removes an upload (tus 1.0.0, Termination). Its id is never given again.
     fn delete(&mut self, alloc: Global, id: Id, asked: &Asked) -> Result<Done, Refusal>
         ensures answer { Answers result (decide self.old (request.Delete id) 0 asked.now) }
-        ensures ok { IfOk result (λ done. self.new ≡ after self.old (request.Delete id) 0 done.change) }
+        ensures ok { IfOk result (λ done.
+            self.new ≡ after self.old (request.Delete id) 0 done.change) }
         ensures err { OnErr result (self.new ≡ self.old) }
     {
         self.check_delete(id)?;
@@ -268,7 +284,8 @@ impl Book {
     /// nothing else refuses, and not to other bytes.
     pub fn plan(&self, alloc: Global, request: &Request) -> Result<Plan, Refusal>
         ensures answer { Answers result (decide_plan self.now request.now) }
-        ensures ready { decide_plan self.now request.now ≡ Ok is_ready → result ≡ Ok is_ready }
+        ensures ready { decide_plan self.now request.now ≡ Ok is_ready
+            → result ≡ Ok is_ready }
     {
         match request {
             Request::Options => Ok(Plan::Answer(self.options(alloc)?)),
@@ -296,7 +313,8 @@ impl Book {
         ensures ok { IfOk result (λ done. self.new ≡ after self.old request id done.change) }
         ensures err { OnErr result (self.new ≡ self.old) }
         ensures open { IfOk result (λ done. IsSome done.change → self.old.closed ≡ false) }
-        ensures closure_refuses { is_asked request ≡ true → is_refusal asked.now ≡ true → IsErr result × (self.new ≡ self.old) }
+        ensures closure_refuses { is_asked request ≡ true → is_refusal asked.now ≡ true
+            → IsErr result × (self.new ≡ self.old) }
     {
         match request {
             Request::Options => Ok(Done::unchanged(self.options(alloc)?)),

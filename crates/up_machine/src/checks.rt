@@ -35,7 +35,8 @@ pub fn check_take(
 ) -> Result<Step, Refusal>
     ensures { let found = map.get uploads.now patch.now.id in
         result ≡ checked
-        (take_rows closed max_size patch.now found ++ asked_rows (patch_completes patch.now found) asked.now)
+        (take_rows closed max_size patch.now found
+        ++ asked_rows (patch_completes patch.now found) asked.now)
         (step_of patch.now found) }
 {
     if closed {
@@ -51,7 +52,8 @@ pub fn check_take(
 fn check_said(upload: &Upload, max_size: u64, patch: &Patch, asked: &Asked) -> Result<Step, Refusal>
     ensures { let found = Some upload.now in
         result ≡ checked
-        (patch_rows max_size patch.now upload.now ++ asked_rows (patch_completes patch.now found) asked.now)
+        (patch_rows max_size patch.now upload.now
+        ++ asked_rows (patch_completes patch.now found) asked.now)
         (step_of patch.now found) }
 {
     let step = check_bytes(upload, max_size, patch)?;
@@ -61,7 +63,8 @@ fn check_said(upload: &Upload, max_size: u64, patch: &Patch, asked: &Asked) -> R
 
 /// What refuses a PATCH of this upload at planning, or else what it comes to.
 pub fn check_bytes(upload: &Upload, max_size: u64, patch: &Patch) -> Result<Step, Refusal>
-    ensures { result ≡ checked (patch_rows max_size patch.now upload.now) (step_of patch.now (Some upload.now)) }
+    ensures { result ≡ checked (patch_rows max_size patch.now upload.now)
+        (step_of patch.now (Some upload.now)) }
 {
     if upload.kind() == Kind::Final {
         return Err(Refusal::FinalUpload);

@@ -12,8 +12,6 @@ mod plan;
 mod reason;
 mod refusal;
 mod store;
-#[cfg(test)]
-mod tests;
 mod upload;
 mod uploads;
 mod view;

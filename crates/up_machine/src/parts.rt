@@ -44,13 +44,15 @@ fn any_missing(uploads: &Uploads, parts: &[Id]) -> bool
 }
 
 fn any_not_partial(uploads: &Uploads, parts: &[Id]) -> bool
-    ensures { result ≡ list_any (λ part. not (passes (λ x. is_partial x.kind) (map.get uploads.now part))) parts.now }
+    ensures { result ≡ list_any (λ part.
+        not (passes (λ x. is_partial x.kind) (map.get uploads.now part))) parts.now }
 {
     parts.iter().any(|part| !is_partial(uploads, *part))
 }
 
 fn any_incomplete(uploads: &Uploads, parts: &[Id]) -> bool
-    ensures { result ≡ list_any (λ part. not (passes is_complete (map.get uploads.now part))) parts.now }
+    ensures { result ≡ list_any (λ part.
+        not (passes is_complete (map.get uploads.now part))) parts.now }
 {
     parts.iter().any(|part| !is_complete(uploads, *part))
 }
@@ -67,7 +69,8 @@ fn bytes_of(uploads: &Uploads, id: Id) -> &[u8]
 
 /// How many bytes the parts have together, where these are at most so many.
 fn sum_within(uploads: &Uploads, parts: &[Id], most: u64) -> Option<u64>
-    ensures { result ≡ (if nat_lt most (length (joined uploads.now parts.now)) then None else Some (length (joined uploads.now parts.now))) }
+    ensures { result ≡ (if nat_lt most (length (joined uploads.now parts.now)) then None
+        else Some (length (joined uploads.now parts.now))) }
 {
     let mut sum = 0;
     for part in parts {
@@ -82,7 +85,8 @@ fn sum_within(uploads: &Uploads, parts: &[Id], most: u64) -> Option<u64>
 
 /// What refuses these parts, or else how many bytes they have together.
 fn check_parts(uploads: &Uploads, max_size: u64, parts: &[Id]) -> Result<u64, Refusal>
-    ensures { result ≡ checked (part_rows uploads.now max_size parts.now) (length (joined uploads.now parts.now)) }
+    ensures { result ≡ checked (part_rows uploads.now max_size parts.now)
+        (length (joined uploads.now parts.now)) }
 {
     if any_missing(uploads, parts) {
         return Err(Refusal::PartUnknown);
@@ -101,7 +105,8 @@ fn check_parts(uploads: &Uploads, max_size: u64, parts: &[Id]) -> Result<u64, Re
 
 /// What refuses a new upload because of its parts, or else how many bytes it begins with.
 pub fn check_first_bytes(uploads: &Uploads, max_size: u64, new: &NewUpload) -> Result<u64, Refusal>
-    ensures { result ≡ checked (create_rows uploads.now max_size new.now) (length (first_bytes uploads.now new.now)) }
+    ensures { result ≡ checked (create_rows uploads.now max_size new.now)
+        (length (first_bytes uploads.now new.now)) }
 {
     if new.kind == Kind::Final {
         check_parts(uploads, max_size, new.parts.as_slice())
@@ -126,7 +131,8 @@ fn join(alloc: Global, uploads: &Uploads, parts: &[Id]) -> Result<Vec<u8>, NoMem
 /// takes no room.
 pub fn first_bytes(alloc: Global, uploads: &Uploads, new: &NewUpload) -> Result<Vec<u8>, NoMemory>
     ensures bytes { IfOk result (λ bytes. bytes.items ≡ first_bytes uploads.now new.now) }
-    ensures room { IfOk result (λ bytes. is_final_kind new.now.kind ≡ false → vec_capacity bytes ≡ 0) }
+    ensures room { IfOk result (λ bytes.
+        is_final_kind new.now.kind ≡ false → vec_capacity bytes ≡ 0) }
 {
     if new.kind == Kind::Final {
         join(alloc, uploads, new.parts.as_slice())

@@ -63,9 +63,11 @@ pub fn grow(bytes: &mut Vec<u8>, count: usize, length: u64) -> Result<(), AllocE
     ensures items { bytes.new.items ≡ bytes.old.items }
     ensures len { vec_len bytes.new ≡ vec_len bytes.old }
     ensures enough { OnOk result (vec_len bytes.new + count ≤ vec_capacity bytes.new) }
-    ensures doubled { vec_capacity bytes.old < vec_len bytes.old + count → OnOk result (min (2 * vec_capacity bytes.old) length ≤ vec_capacity bytes.new) }
+    ensures doubled { vec_capacity bytes.old < vec_len bytes.old + count
+        → OnOk result (min (2 * vec_capacity bytes.old) length ≤ vec_capacity bytes.new) }
     ensures within { vec_capacity bytes.new ≤ max (vec_capacity bytes.old) length }
-    ensures bounded { vec_capacity bytes.new ≤ max (vec_capacity bytes.old) (2 * (vec_len bytes.old + count)) }
+    ensures bounded { vec_capacity bytes.new
+        ≤ max (vec_capacity bytes.old) (2 * (vec_len bytes.old + count)) }
 {
     let needed = bytes.len() + count;
     if needed <= bytes.capacity() {

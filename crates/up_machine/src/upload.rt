@@ -31,7 +31,14 @@ impl Model for Upload {
 
     ghost coded = { content_code };
 
-    ghost view = { λ a. record { kind = a.kind; length = a.length; bytes = stored a.bytes; metadata = a.metadata; pairs = a.pairs; concat = a.concat } };
+    ghost view = { λ a. record {
+      kind = a.kind;
+      length = a.length;
+      bytes = stored a.bytes;
+      metadata = a.metadata;
+      pairs = a.pairs;
+      concat = a.concat;
+    } };
 
     ghost invariant = { λ a. IsStored a.bytes a.length };
 }

@@ -88,7 +88,8 @@ impl Uploads {
     ) -> Result<(), NoMemory>
         requires room { IsSomeAnd (map.get self.old id) (CanTake size (length more.now)) }
         requires follows { CanFollow journal.old.accepted change }
-        ensures ok { OnOk result (IfSome (map.get self.old id) (λ x. self.new ≡ map.insert self.old id (with_more x size more.now))) }
+        ensures ok { OnOk result (IfSome (map.get self.old id) (λ x.
+            self.new ≡ map.insert self.old id (with_more x size more.now))) }
         ensures noted { OnOk result (journal.new ≡ noted journal.old change) }
         ensures err { OnErr result (self.new ≡ self.old) }
         ensures not_noted { OnErr result (journal.new ≡ journal.old) }

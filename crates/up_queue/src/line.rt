@@ -44,8 +44,10 @@ pub fn push<R: Wait>(
     requires orderly { IsOrderly ((view pass.old).put ++ item ∷ []) }
     ensures line { IsPassOf line.now pass.new }
     ensures queue { pass.new.table_id ≡ pass.old.table_id }
-    ensures put { OnOk result (view pass.new ≡ putting (ruled_capacity line.now) ((view pass.old).put ++ item ∷ [])) }
-    ensures unchanged { IfErr result (λ back. (back ≡ item) × (view pass.new ≡ view pass.old)) }
+    ensures put { OnOk result (view pass.new
+        ≡ putting (ruled_capacity line.now) ((view pass.old).put ++ item ∷ [])) }
+    ensures unchanged { IfErr result (λ back.
+        (back ≡ item) × (view pass.new ≡ view pass.old)) }
     ensures full { IfErr result (λ _. IsFullAfter (ruled_capacity line.now) (view pass.old).put) }
 {
     line.push_as::<Puts, R>(rt, pass, item)
@@ -57,10 +59,12 @@ pub fn pop<R: Wait>(rt: &R, line: &Line, pass: &mut Pass<Item, EndView>) -> Opti
     requires takes { view pass.old ≡ taking (ruled_capacity line.now) (view pass.old).taken }
     ensures line { IsPassOf line.now pass.new }
     ensures queue { pass.new.table_id ≡ pass.old.table_id }
-    ensures taken { IfSome result (λ item. view pass.new ≡ taking (ruled_capacity line.now) ((view pass.old).taken ++ item ∷ [])) }
+    ensures taken { IfSome result (λ item. view pass.new
+        ≡ taking (ruled_capacity line.now) ((view pass.old).taken ++ item ∷ [])) }
     ensures orderly { IfSome result (λ _. IsOrderly (view pass.new).taken) }
     ensures unchanged { result ≡ None → view pass.new ≡ view pass.old }
-    ensures empty { result ≡ None → IsEmptyAfter (ruled_capacity line.now) (view pass.old).taken }
+    ensures empty { result ≡ None
+        → IsEmptyAfter (ruled_capacity line.now) (view pass.old).taken }
 {
     line.pop_as::<Takes, R>(rt, pass)
 }
@@ -70,7 +74,8 @@ pub fn join(line: &Line, mut putter: Pass<Item, EndView>, taker: Pass<Item, EndV
     requires passes { IsPassOf line.now putter × IsPassOf line.now taker }
     requires puts { (view putter).puts ≡ true }
     requires takes { (view taker).takes ≡ true }
-    ensures { (held : List Item) × IsLine (view putter).capacity (view putter).put (view taker).taken held }
+    ensures { (held : List Item)
+        × IsLine (view putter).capacity (view putter).put (view taker).taken held }
 {
     line.absorb::<Both>(&mut putter, taker);
     line.learn_as::<Both>(&mut putter);

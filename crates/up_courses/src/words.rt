@@ -1,29 +1,27 @@
 //! What a book answers and shows, in words.
-use crate::ask::Ask;
-use crate::book::Book;
-use crate::plan::{Done, Plan};
-use crate::refusal::{Refusal, response_of};
+use crate::row_fault::RowFault;
 use std::alloc::Global;
-use std::test::Fail;
+use std::fmt::Write;
 use up_events::{Accepted, Id};
+use up_machine::{Ask, Book, Done, Plan, Refusal, response_of};
 use up_wire::{Response, Sequence};
 
-/// The ids of these tests are the numbers below this one.
+/// The ids of these rows are the numbers below this one.
 const ID_COUNT: u64 = 10;
 
 /// Pairs as "name: value; " each.
-fn of_pairs(alloc: Global, pairs: &[(Sequence<u8>, Sequence<u8>)]) -> Result<String, Fail> {
+fn of_pairs(alloc: Global, pairs: &[(Sequence<u8>, Sequence<u8>)]) -> Result<String, RowFault> {
     let mut words = String::new(alloc);
     for (name, value) in pairs {
         let name = name.as_slice().escape_ascii();
         let value = value.as_slice().escape_ascii();
-        words.push_str(&format!(in alloc; "{name}: {value}; ")?)?;
+        write!(words, "{name}: {value}; ")?;
     }
     Ok(words)
 }
 
 /// A response as "200 Upload-Offset: 0; Upload-Length: 5; []": status, fields in order, and body.
-pub(super) fn of_response(alloc: Global, response: &Response) -> Result<String, Fail> {
+pub fn of_response(alloc: Global, response: &Response) -> Result<String, RowFault> {
     let status = response.status;
     let fields = of_pairs(alloc, response.fields.as_slice())?;
     let body = response.body.as_slice().escape_ascii();
@@ -31,7 +29,7 @@ pub(super) fn of_response(alloc: Global, response: &Response) -> Result<String, 
 }
 
 /// What closures are asked, as "Create None Plain 0/Some(5) [name: ab; ]": point, target, kind, offset and length, and pairs.
-fn of_ask(alloc: Global, ask: &Ask) -> Result<String, Fail> {
+fn of_ask(alloc: Global, ask: &Ask) -> Result<String, RowFault> {
     let (point, target, kind, offset, length) = (
         ask.point, ask.target, ask.kind, ask.offset, ask.length,
     );
@@ -40,7 +38,7 @@ fn of_ask(alloc: Global, ask: &Ask) -> Result<String, Fail> {
 }
 
 /// What is said at planning.
-pub(super) fn of_plan(alloc: Global, planned: &Result<Plan, Refusal>) -> Result<String, Fail> {
+pub fn of_plan(alloc: Global, planned: &Result<Plan, Refusal>) -> Result<String, RowFault> {
     match planned {
         Ok(Plan::Answer(response)) => of_response(alloc, response),
         Ok(Plan::Ask(ask)) => of_ask(alloc, ask),
@@ -54,7 +52,7 @@ pub(super) fn of_plan(alloc: Global, planned: &Result<Plan, Refusal>) -> Result<
 }
 
 /// What is answered to a request.
-pub(super) fn of_done(alloc: Global, decided: &Result<Done, Refusal>) -> Result<String, Fail> {
+pub fn of_done(alloc: Global, decided: &Result<Done, Refusal>) -> Result<String, RowFault> {
     match decided {
         Ok(done) => of_response(alloc, &done.response),
         Err(refusal) => of_response(alloc, &response_of(alloc, refusal)?),
@@ -62,7 +60,7 @@ pub(super) fn of_done(alloc: Global, decided: &Result<Done, Refusal>) -> Result<
 }
 
 /// What a request changed.
-pub(super) fn change_of(decided: &Result<Done, Refusal>) -> Option<Accepted> {
+pub fn change_of(decided: &Result<Done, Refusal>) -> Option<Accepted> {
     match decided {
         Ok(done) => done.change,
         Err(_) => None,
@@ -71,7 +69,7 @@ pub(super) fn change_of(decided: &Result<Done, Refusal>) -> Option<Accepted> {
 
 /// The uploads that are there, as "1 Plain 3/Some(5) [abc] [name YWI=] [-]; " each: number, kind, offset and length, bytes, metadata and
 /// concat. Of those that are gone the numbers.
-pub(super) fn of_uploads(alloc: Global, book: &Book) -> Result<String, Fail> {
+pub fn of_uploads(alloc: Global, book: &Book) -> Result<String, RowFault> {
     let mut words = String::new(alloc);
     for number in 0..ID_COUNT {
         let id = Id::new(u128::from(number));
@@ -80,38 +78,39 @@ pub(super) fn of_uploads(alloc: Global, book: &Book) -> Result<String, Fail> {
             let bytes = view.bytes.escape_ascii();
             let metadata = view.metadata.unwrap_or(b"-".as_slice()).escape_ascii();
             let concat = view.concat.unwrap_or(b"-".as_slice()).escape_ascii();
-            words.push_str(&format!(in alloc;
+            write!(
+                words,
                 "{number} {kind:?} {offset}/{length:?} [{bytes}] [{metadata}] [{concat}]; "
-            )?)?;
+            )?;
         } else if book.journal().knows(id) {
-            words.push_str(&format!(in alloc; "{number} gone; ")?)?;
+            write!(words, "{number} gone; ")?;
         }
     }
     Ok(words)
 }
 
 /// The changes.
-pub(super) fn of_changes(alloc: Global, book: &Book) -> Result<String, Fail> {
+pub fn of_changes(alloc: Global, book: &Book) -> Result<String, RowFault> {
     let mut words = String::new(alloc);
     for change in book.journal().accepted() {
-        words.push_str(&format!(in alloc; "{change:?}; ")?)?;
+        write!(words, "{change:?}; ")?;
     }
     Ok(words)
 }
 
 /// The events of a lane, each as "ID NUMBER HOOK OFFSET/LENGTH; ".
-pub(super) fn of_events(alloc: Global, book: &Book, lane: u64) -> Result<String, Fail> {
+pub fn of_events(alloc: Global, book: &Book, lane: u64) -> Result<String, RowFault> {
     let mut words = String::new(alloc);
     for event in book.journal().lane_log(lane) {
         let (id, number, hook) = (event.id, event.number, event.hook.name());
         let (offset, length) = (event.offset, event.length);
-        words.push_str(&format!(in alloc; "{id:?} {number} {hook} {offset}/{length:?}; ")?)?;
+        write!(words, "{id:?} {number} {hook} {offset}/{length:?}; ")?;
     }
     Ok(words)
 }
 
 /// All that a book shows.
-pub(super) fn state(alloc: Global, book: &Book) -> Result<String, Fail> {
+pub fn state(alloc: Global, book: &Book) -> Result<String, RowFault> {
     let uploads = of_uploads(alloc, book)?;
     let changes = of_changes(alloc, book)?;
     let (even, odd) = (of_events(alloc, book, 0)?, of_events(alloc, book, 1)?);

@@ -1,0 +1,38 @@
+//! Why a row of the input can't be read, or what is wrong behind it.
+use std::alloc::AllocError;
+use thiserror::Error;
+use up_events::NoMemory;
+use up_machine::Refusal;
+
+/// Why a row says nothing that a row may say, or what is wrong behind it.
+#[derive(Clone, Copy, Debug, PartialEq, Eq, Error)]
+pub enum RowFault {
+    #[error("no such mark")]
+    Mark,
+    #[error("a number is wanting")]
+    Number,
+    #[error("no such text")]
+    Text,
+    #[error("the book is not as it was")]
+    Changed,
+    #[error("the change is not the last of the journal")]
+    NotLast,
+    #[error("the plan had another response")]
+    OtherPlan,
+    #[error("refused")]
+    Refused,
+    #[error(transparent)]
+    Memory(#[from(alloc)] AllocError),
+}
+
+impl From<NoMemory> for RowFault {
+    fn from(_: NoMemory) -> Self {
+        RowFault::Memory(AllocError)
+    }
+}
+
+impl From<Refusal> for RowFault {
+    fn from(_: Refusal) -> Self {
+        RowFault::Refused
+    }
+}
