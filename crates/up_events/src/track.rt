@@ -97,9 +97,12 @@ pub fn write(
 ) -> Result<u64, NoMemory>
     requires { track.events + 2 < 2 ^ 64 }
     ensures accepted { OnOk result (accepted.new.items ≡ accepted.old.items ++ change ∷ []) }
-    ensures log { OnOk result (log.new.items ≡ log.old.items ++ numbered (id_of change) track.events (steps_at change track.offset track.length)) }
-    ensures tracks { IfOk result (λ count. Updates nat_cmp tracks.old tracks.new (id_of change) (Some (record track { events = track.events + count }))) }
-    ensures count { IfOk result (λ count. count ≡ length (steps_at change track.offset track.length)) }
+    ensures log { OnOk result (log.new.items ≡ log.old.items
+        ++ numbered (id_of change) track.events (steps_at change track.offset track.length)) }
+    ensures tracks { IfOk result (λ count. Updates nat_cmp tracks.old tracks.new (id_of change)
+        (Some (record track { events = track.events + count }))) }
+    ensures count { IfOk result (λ count.
+        count ≡ length (steps_at change track.offset track.length)) }
     ensures same_list { OnErr result (accepted.new.items ≡ accepted.old.items) }
     ensures same_log { OnErr result (log.new.items ≡ log.old.items) }
     ensures same_tracks { OnErr result (IsUnchanged tracks.old tracks.new) }
