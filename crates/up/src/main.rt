@@ -8,19 +8,22 @@ ghost use Rattle.up_server.specs.Rules.{at_most, finishes_at_most, keeps, needs_
 
 use std::alloc::{AllocError, Global};
 use std::io::{self, BufReader, BufWriter};
+use std::marker::Sync;
 use std::process::ExitCode;
+use std::sync::Wait;
+use std::thread::Threads;
 use up_events::Event;
-use up_hooks::{Outcome, PreHook, PreHooks};
+use up_hooks::{Outcome, PreHook, PreHooks, new_recorders};
 use up_machine::{Ask, Point, Verdict};
 use up_server::{
-    ServerFault, Words, WordsFault, at_most, finishes_at_most, keeps, needs_key, new_recorders,
-    replay, words,
+    ServerFault, Words, WordsFault, at_most, finishes_at_most, keeps, needs_key, replay, words,
 };
-use up_wire::{Input, Output, Sink, Source};
+use up_wire::{Output, Sink, Source};
 
 /// Serves one conversation as the words ask for it: the closures of their rules are asked in the order in which the help names them, and
 /// the post-hooks answer that they are done. An error is want of memory for the closures.
-fn serve<R: Source, W: Sink>(
+fn serve<R: Source, W: Sink, T: Threads + Wait + Sync>(
+    rt: &T,
     alloc: Global,
     words: Words,
     source: &mut R,
@@ -67,14 +70,17 @@ fn serve<R: Source, W: Sink>(
         return Ok(Err(ServerFault::Memory));
     };
     let hooks = PreHooks::new(hooks);
-    Ok(replay(alloc, hooks, recorders, &settings, source, sink))
+    Ok(replay(rt, alloc, hooks, recorders, &settings, source, sink))
 }
 
 /// Serves standard input. An error is a standard stream that can't be had, or want of memory for it.
-fn obey(rt: &HostRuntime, words: Words) -> io::Result<Result<(), ServerFault>> {
-    let mut source = Input::new(BufReader::new(rt.alloc(), rt.reader())?);
+fn obey(
+    rt: &(impl Input + Print + AllocGlobal + Threads + Wait + Sync),
+    words: Words,
+) -> io::Result<Result<(), ServerFault>> {
+    let mut source = up_wire::Input::new(BufReader::new(rt.alloc(), rt.reader())?);
     let mut sink = Output::new(BufWriter::new(rt.alloc(), io::writer(rt))?);
-    Ok(serve(rt.alloc(), words, &mut source, &mut sink)?)
+    Ok(serve(rt, rt.alloc(), words, &mut source, &mut sink)?)
 }
 
 /// The words behind the program's name.

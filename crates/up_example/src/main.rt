@@ -7,19 +7,21 @@ ghost use Rattle.up_hooks.specs.Verdicts.{is_lawful};
 
 use std::io::{self, BufReader, BufWriter};
 use up_events::{Event, Hook};
-use up_hooks::{Outcome, PreHook, PreHooks};
+use up_hooks::{Outcome, PreHook, PreHooks, new_recorders};
 use up_machine::{Ask, Point, Verdict};
-use up_server::{Settings, finishes_at_most, needs_key, new_recorders, replay};
+use up_server::{Settings, finishes_at_most, needs_key, replay};
 use up_wire::{Input, Output};
 
-/// Has an upload scanned. This scanner takes no more than 8 bytes.
-fn scan(upload: &Event) -> Outcome
+/// Has an upload scanned, and tells of it on standard error. This scanner takes no more than 8 bytes.
+fn scan(rt: &impl Eprint, upload: &Event) -> Outcome
     ensures { IsTrue (has_code result) }
 {
     if upload.offset > 8 {
-        Outcome::Failed(1)
-    } else {
-        Outcome::Done
+        return Outcome::Failed(1);
+    }
+    match eprintln!(rt; "{} scanned", upload.id) {
+        Ok(()) => Outcome::Done,
+        Err(_) => Outcome::Failed(2),
     }
 }
 
@@ -34,11 +36,12 @@ fn main(rt: HostRuntime) -> anyhow::Result<()> {
     { finishes_at_most(ask, 16) };
     hooks.push(PreHook::new(Point::Finish, Box::new(rt.alloc(), small)?))?;
 
-    let scanned = |event: &Event| -> Outcome
+    let told = &rt;
+    let scanned = move |event: &Event| -> Outcome
         ensures { IsTrue (has_code result) }
     {
         match event.hook {
-            Hook::Finish => scan(event),
+            Hook::Finish => scan(told, event),
             _ => Outcome::Done,
         }
     };
@@ -49,6 +52,7 @@ fn main(rt: HostRuntime) -> anyhow::Result<()> {
     let mut sink = Output::new(BufWriter::new(rt.alloc(), io::writer(&rt))?);
     let hooks = PreHooks::new(hooks);
     replay(
+        &rt,
         rt.alloc(),
         hooks,
         recorders,

@@ -6,6 +6,7 @@ mod post_hook;
 mod pre_hook;
 mod pre_hooks;
 mod recorder;
+mod recorders;
 #[cfg(test)]
 mod tests;
 
@@ -13,3 +14,4 @@ pub use post_hook::{Outcome, PostHook};
 pub use pre_hook::{Judge, PreHook};
 pub use pre_hooks::PreHooks;
 pub use recorder::Recorder;
+pub use recorders::new_recorders;

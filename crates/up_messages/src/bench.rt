@@ -1,9 +1,9 @@
 //! What the next row is about, and what comes of it.
 use crate::devices::Waits;
-use crate::escape::put_bytes;
 use crate::row_fault::RowFault;
 use crate::{reading, requests, responses, turns};
 use std::alloc::{AllocError, Global};
+use up_escape::put_bytes;
 
 /// How the next row's text begins, and how its devices are.
 #[derive(Drop)]
@@ -76,9 +76,9 @@ impl Bench {
         match mark {
             "start" => {
                 self.start.clear();
-                put_bytes(&mut self.start, text)
+                Ok(put_bytes(&mut self.start, text)?)
             }
-            "put" => put_bytes(&mut self.text, text),
+            "put" => Ok(put_bytes(&mut self.text, text)?),
             "times" => self.put_times(text),
             "reads" => {
                 self.reads = waits_of(text)?;

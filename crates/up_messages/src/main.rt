@@ -34,7 +34,6 @@
 
 mod bench;
 mod devices;
-mod escape;
 mod reading;
 mod requests;
 mod responses;

@@ -1,13 +1,13 @@
 //! What is written.
 use crate::bench::{Bench, cut};
 use crate::devices::Slot;
-use crate::escape::put_bytes;
 use crate::row_fault::RowFault;
 use bytes::Bytes;
 use std::alloc::{AllocError, Global};
 use std::cell::Cell;
 use std::fmt::Write;
 use std::io::BufWriter;
+use up_escape::put_bytes;
 use up_wire::{Output, Response, WriteFailed, flush, write_pieces, write_response};
 
 /// A response, whether it is bare, and whether it closes.

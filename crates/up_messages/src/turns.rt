@@ -1,9 +1,9 @@
 //! Readers and writers of std as devices.
-use crate::escape::put_bytes;
 use crate::row_fault::RowFault;
 use std::alloc::{AllocError, Global};
 use std::fmt::Write as _;
 use std::io::{self, BufReader, ErrorKind, Read, Write};
+use up_escape::put_bytes;
 use up_wire::{Input, Output, Sink, Source};
 
 /// At each call gives or takes so many bytes, is interrupted or fails, as the next letter says, and nothing behind the last.

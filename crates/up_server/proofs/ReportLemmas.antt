@@ -5,7 +5,7 @@ use Rattle.up_server.specs.ReportText.{lane_text, lanes_text}
 use Rattle.std.proofs.KnownBytes.{Appends-trans}
 use Rattle.up_wire.specs.Response.{WritesFront}
 use Rattle.up_hooks.specs.declared.recorder.Recorder.{Recorder}
-use Rattle.up_server.specs.declared.feed.LaneReport.{LaneReport}
+use Rattle.up_dispatch.specs.declared.finish.LaneReport.{LaneReport}
 use Rattle.up_server.proofs.Writing.{front_then, front_cut}
 
 -- the lanes up to one, that one, and the others

@@ -1,39 +1,38 @@
 -- A run of the server over one input, from its first message to the report.
-use Rattle.std.specs.Prelude.{◌≡◌, ◌⊎◌, Bool, true, false, List, length, All, Result, Ok, Err}
+use Rattle.std.specs.Prelude.{◌≡◌, ◌⊎◌, ℕ, Bool, true, false, List, length, Result, Ok, Err}
 use Rattle.std.specs.Io.KnownBytes.{Appends}
 use Rattle.std.specs.List.{list_any}
-use Rattle.up_events.specs.Delivery.{IsDelivered}
-use Rattle.up_machine.specs.State.{empty_state}
+use Rattle.up_dispatch.specs.Keeps.{Gives}
+use Rattle.up_dispatch.specs.Lists.{EachAt}
+use Rattle.up_dispatch.specs.Reports.{IsHandedOver, TellsUploads}
+use Rattle.up_dispatch.specs.declared.conversation.Ended.{Ended}
+use Rattle.up_dispatch.specs.declared.conversation.Ended.TheVariants.{Closed, Cut, ReadFailed, WriteFailed}
+use Rattle.up_dispatch.specs.declared.finish.LaneReport.{LaneReport}
+use Rattle.up_events.specs.History.{IsLegal}
+use Rattle.up_events.specs.Log.{log_of}
 use Rattle.up_events.specs.declared.event.Event.{Event}
 use Rattle.up_hooks.specs.declared.recorder.Recorder.{Recorder}
-use Rattle.up_server.specs.Course.{Course, Gives, AreOfTheirLanes}
+use Rattle.up_lanes.specs.HowOf.{is_drained}
+use Rattle.up_lanes.specs.declared.lane_end.How.{How}
+use Rattle.up_lanes.specs.declared.lane_end.How.TheVariants.{Drained, Stopped}
+use Rattle.up_queue.specs.Sides.{QueueId}
 use Rattle.up_server.specs.ReportText.{report_text}
-use Rattle.up_wire.specs.Device.{Device, GaveUp}
-use Rattle.up_wire.specs.Response.{WritesFront}
-use Rattle.up_server.specs.Turn.{Converses}
-use Rattle.up_server.specs.declared.conversation.Ended.{Ended}
-use Rattle.up_server.specs.declared.conversation.Ended.TheVariants.{Closed, Cut, ReadFailed, WriteFailed}
-use Rattle.up_server.specs.declared.feed.How.{How}
-use Rattle.up_server.specs.declared.feed.How.TheVariants.{Drained, Stopped}
-use Rattle.up_server.specs.declared.feed.LaneReport.{LaneReport}
-use Rattle.up_server.specs.declared.serving.Served.{Served}
+use Rattle.up_server.specs.Seats.{IsServedFrom}
+use Rattle.up_server.specs.declared.running.Served.{Served}
 use Rattle.up_server.specs.declared.server_fault.ServerFault.{ServerFault}
 use Rattle.up_server.specs.declared.server_fault.ServerFault.TheVariants as Fault
 use Rattle.up_server.specs.declared.settings.Settings.{Settings}
+use Rattle.up_wire.specs.Device.{Device, GaveUp}
+use Rattle.up_wire.specs.Response.{WritesFront}
 
--- a new server
-abbrev pub new_server : Settings → Course
-new_server settings = record { book = empty_state settings.lanes settings.max_size; last_id = 0 }
-
--- One conversation was served on a new server whose closures may give this, and the report tells what was accepted and what each lane
--- handed over.
-pub record IsRun {H : Type 0} (handed : H → List Event) (gives : Gives) (settings : Settings) (served : Served H) (source source_after sink sink_after : Device) : Type 0 where
-  pub course : Course
-  pub converses : Converses gives settings.max_size (record { course = new_server settings; source = source; sink = sink }) (record { course = course; source = source_after; sink = sink_after }) served.ended
-  pub accepted : served.report.accepted.items ≡ course.book.journal.accepted
-  pub lanes : length served.report.lanes.items ≡ settings.lanes
-  pub own : AreOfTheirLanes handed course.book.journal served.report.lanes.items
-  pub delivered : All (λ (lane : LaneReport H). IsDelivered served.report.accepted.items (handed lane.hook)) served.report.lanes.items
+-- One conversation was served from the only seat of a new board whose closures may give this, over these queues. The report tells as many
+-- changes as were made from the seat, and what each lane handed over of them.
+pub record IsRun {H : Type 0} (handed : H → List Event) (queue : ℕ → QueueId) (gives : Gives) (settings : Settings) (served : Served H) (source source_after sink sink_after : Device) : Type 0 where
+  pub converses : IsServedFrom queue gives settings.max_size 0 (length served.report.accepted.items) source source_after sink sink_after served.ended
+  pub legal : IsLegal served.report.accepted.items
+  pub lanes_are : length served.report.lanes.items ≡ settings.lanes
+  pub handed_over : EachAt (λ k (x : LaneReport H). IsHandedOver (log_of settings.lanes served.report.accepted.items k) (handed x.hook) (is_drained x.how) x.left) served.report.lanes.items
+  pub delivered : EachAt (λ k (x : LaneReport H). TellsUploads settings.lanes served.report.accepted.items k (handed x.hook) (is_drained x.how)) served.report.lanes.items
 
 -- whether a lane stopped before its end came
 abbrev pub is_stopped : How → Bool

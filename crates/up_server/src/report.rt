@@ -4,11 +4,11 @@ ghost use Rattle.up_wire.specs.Device.{GaveUp};
 ghost use Rattle.up_wire.specs.Response.{Writes};
 ghost use Rattle.up_server.specs.ReportText.{count_line, event_line, event_text, lane_line, lane_text, lanes_text, report_text, how_of, length_text, outcome_of};
 
-use crate::dispatcher::Report;
-use crate::feed::{How, LaneReport};
 use itoa::Buffer;
+use up_dispatch::{LaneReport, Report};
 use up_events::Event;
 use up_hooks::{Outcome, Recorder};
+use up_lanes::How;
 use up_wire::{Sink, WriteFailed, flush, write_pieces};
 
 /// Writes the report, and has the sink send it on: an empty line, `accepted` and the number of accepted changes, then for

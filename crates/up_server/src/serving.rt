@@ -1,65 +1,25 @@
 //! A run of the server over one input.
-ghost use Rattle.std.specs.Prelude.{◌≡◌, ◌⊎◌, [], All, Err, length, IfOk};
+ghost use Rattle.std.specs.Prelude.{◌≡◌, ◌⊎◌, ℕ, [], All, Err, length};
 ghost use Rattle.up_hooks.specs.Gives.{ClosuresGive};
 ghost use Rattle.up_hooks.specs.declared.recorder.Recorder.{Recorder};
+ghost use Rattle.up_queue.specs.Sides.{QueueId};
 ghost use Rattle.up_wire.specs.Device.{Device};
 ghost use Rattle.up_server.specs.Run.{IsRun, IsReported, any_stopped, is_stopped};
-ghost use Rattle.up_server.specs.declared.serving.Served.{Served};
+ghost use Rattle.up_server.specs.declared.running.Served.{Served};
 
-use crate::conversation::{Ended, converse};
-use crate::dispatcher::{Dispatcher, Report};
-use crate::feed::{How, LaneReport};
 use crate::report::write_report;
+use crate::running::{Served, run};
 use crate::server_fault::ServerFault;
 use crate::settings::Settings;
 use std::alloc::Global;
-use up_events::{Event, NoMemory};
+use std::marker::{Brand, Sync};
+use std::sync::Wait;
+use std::thread::Threads;
+use up_dispatch::{BoardParts, Ended, LaneReport};
+use up_events::Event;
 use up_hooks::{Outcome, PostHook, PreHooks, Recorder};
+use up_lanes::How;
 use up_wire::{Sink, Source};
-
-/// What came of a run: the report, and how its conversation ended.
-#[derive(Drop)]
-struct Served<H> {
-    report: Report<H>,
-    ended: Ended,
-}
-
-/// Serves one conversation on a new server, and ends its lanes.
-fn run<H: PostHook + Drop, R: Source, W: Sink>(
-    alloc: Global,
-    hooks: &PreHooks,
-    lanes: Vec<H>,
-    settings: &Settings,
-    source: &mut R,
-    sink: &mut W,
-) -> Result<Served<H>, NoMemory>
-    requires one_for_each { length lanes.items ≡ settings.now.lanes }
-    requires new { All (λ hook. H.is_sound hook × (H.handed hook ≡ [])) lanes.items }
-    ensures sound { IfOk result (λ served. All (λ lane. H.is_sound lane.hook) served.report.lanes.items) }
-    ensures run { IfOk result (λ served. IsRun H.handed (ClosuresGive hooks.now) settings.now served
-        (R.device source.old)
-        (R.device source.new)
-        (W.device sink.old)
-        (W.device sink.new)) }
-{
-    let mut dispatcher = Dispatcher::new(
-        alloc,
-        settings.lanes,
-        lanes,
-        settings.capacity,
-        settings.max_size,
-    )?;
-    let ended = converse(
-        alloc,
-        &mut dispatcher,
-        hooks,
-        settings.max_size,
-        source,
-        sink,
-    );
-    let report = dispatcher.finish(alloc)?;
-    Ok(Served { report, ended })
-}
 
 /// Whether the lane stopped before its end came.
 fn is_stopped<H>(lane: &LaneReport<H>) -> bool
@@ -96,11 +56,12 @@ fn tell<F, W: Sink>(sink: &mut W, served: &Served<Recorder<F>>) -> Result<(), Se
     }
 }
 
-/// Serves the messages of `source` as one conversation, with ids counted from 1, writes the replies to `sink`, ends the
-/// lanes and writes the report. The closures of `hooks` are asked before an upload is made, completed or removed, and each lane hands its
-/// events to the recorder at its place. Of what went wrong the first in the order of `ServerFault` is answered; after `Memory` and `Write` there may
-/// be no report.
-pub fn replay<F: Fn(&Event) -> Outcome + Send + Drop, R: Source, W: Sink>(
+/// Serves the messages of `source` as one conversation on a new board, with ids counted from 1, while each lane hands its events to the
+/// recorder at its place in a thread of its own; writes the replies to `sink`, ends the lanes and writes the report. The closures of `hooks`
+/// are asked before an upload is made, completed or removed. Of what went wrong the first in the order of `ServerFault` is answered; after
+/// `Memory` and `Write` there may be no report.
+pub fn replay<F: Fn(&Event) -> Outcome + Send + Drop, R: Source, W: Sink, T: Threads + Wait + Sync>(
+    rt: &T,
     alloc: Global,
     hooks: PreHooks,
     recorders: Vec<Recorder<F>>,
@@ -110,8 +71,8 @@ pub fn replay<F: Fn(&Event) -> Outcome + Send + Drop, R: Source, W: Sink>(
 ) -> Result<(), ServerFault>
     requires one_for_each { length recorders.items ≡ settings.now.lanes }
     requires new { All (λ r. ⟦<Recorder<F> as PostHook>⟧.is_sound r × (⟦<Recorder<F> as PostHook>⟧.handed r ≡ [])) recorders.items }
-    ensures { (result ≡ Err ServerFault.Memory) ⊎ ((served : Served (Recorder F)) × (replied : Device)
-        × IsRun ⟦<Recorder<F> as PostHook>⟧.handed (ClosuresGive hooks) settings.now served
+    ensures { (result ≡ Err ServerFault.Memory) ⊎ ((queue : ℕ → QueueId) × (served : Served (Recorder F)) × (replied : Device)
+        × IsRun ⟦<Recorder<F> as PostHook>⟧.handed queue (ClosuresGive hooks) settings.now served
         (R.device source.old)
         (R.device source.new)
         (W.device sink.old)
@@ -121,7 +82,12 @@ pub fn replay<F: Fn(&Event) -> Outcome + Send + Drop, R: Source, W: Sink>(
         (W.device sink.new)
         result) }
 {
-    let Ok(served) = run(alloc, &hooks, recorders, settings, source, sink) else {
+    let Ok(parts) = BoardParts::new(alloc, settings.lanes, settings.capacity) else {
+        return Err(ServerFault::Memory);
+    };
+    let Ok(served) = run::<Brand, _, _, _, _>(
+        rt, alloc, parts, &hooks, recorders, settings, source, sink,
+    ) else {
         return Err(ServerFault::Memory);
     };
     tell(sink, &served)

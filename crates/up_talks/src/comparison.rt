@@ -1,5 +1,6 @@
 //! Whether there came of a talk what must come of it.
 ghost use Rattle.std.specs.Prelude.{◌≡◌, ◌≢◌, Ok, IsOk, IsNone, IsTrue, IfOk};
+ghost use Rattle.up_events.specs.Delivery.{IsPrefix};
 ghost use Rattle.up_talks.specs.declared.comparison.Comparison.TheVariants.{Line, Same};
 
 use crate::difference::{LineDifference, difference};
@@ -18,6 +19,8 @@ pub enum Comparison<'a> {
     Ended(Result<(), ServerFault>),
     /// The run left so many bytes unread.
     Unread(usize),
+    /// A book alone answers otherwise, or accepts another number of changes.
+    Twin,
 }
 
 impl<'a> fmt::Display for Comparison<'a> {
@@ -31,6 +34,7 @@ impl<'a> fmt::Display for Comparison<'a> {
                 "differs, since it ended with the fault {fault}"
             ),
             Comparison::Unread(count) => write!(f, "differs, since {count} bytes were left unread"),
+            Comparison::Twin => write!(f, "differs from what a book alone answers"),
         }
     }
 }
@@ -58,8 +62,15 @@ fn stops_so(talk: &Talk, unread: usize) -> bool {
     }
 }
 
+/// Whether a text begins with another.
+fn begins_with(text: &[u8], front: &[u8]) -> bool
+    ensures { IsTrue result → IsPrefix front.now text.now }
+{
+    text.starts_with(front)
+}
+
 /// How what came of a talk stands to what must come of it: the first line that differs, or else how it ended, or else how
-/// much it left unread.
+/// much it left unread, or else whether a book alone answers the same.
 pub fn compare<'a>(
     alloc: Global,
     talk: &'a Talk,
@@ -68,6 +79,7 @@ pub fn compare<'a>(
     ensures written { result ≡ Ok Same → talk.now.wanted.items ≡ served.now.written.items }
     ensures line { (line : _) → result ≡ Ok (Line line) → talk.now.wanted.items ≢ served.now.written.items }
     ensures ended { IsNone talk.now.fault → result ≡ Ok Same → IsOk served.now.ended }
+    ensures twin { result ≡ Ok Same → IsPrefix served.now.twin.items served.now.written.items }
 {
     if let Some(line) = difference(&talk.wanted, &served.written) {
         return Ok(Comparison::Line(line));
@@ -77,6 +89,9 @@ pub fn compare<'a>(
     }
     if !stops_so(talk, served.unread) {
         return Ok(Comparison::Unread(served.unread));
+    }
+    if !begins_with(&served.written, &served.twin) {
+        return Ok(Comparison::Twin);
     }
     Ok(Comparison::Same)
 }

@@ -1,6 +1,7 @@
 //! Why a line of the input can't be read.
 use std::alloc::AllocError;
 use thiserror::Error;
+use up_escape::EscapeFault;
 
 /// Why a line says nothing that a talk may have.
 #[derive(Clone, Copy, Debug, PartialEq, Eq, Error)]
@@ -13,12 +14,12 @@ pub enum LineFault {
     NoName,
     #[error("said before")]
     Twice,
-    #[error("no such escape")]
-    Escape,
     #[error("no count, or no text behind it")]
     Count,
     #[error("the command line refuses these words")]
     Words,
+    #[error(transparent)]
+    Escape(#[from] EscapeFault),
     #[error(transparent)]
     Memory(#[from(alloc)] AllocError),
 }

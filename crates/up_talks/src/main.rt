@@ -2,7 +2,8 @@
 //! must come of them.
 //!
 //! Each talk is served by `replay` on a server of its own, and has one line of output: its name and `same`, or `differs`
-//! with the first line that is not as it must be. A line that can't be read is told in place of all talks of its text.
+//! with the first line that is not as it must be. It is served once more by a book alone, with no thread, and is only then the same
+//! where the replies and the number of accepted changes are. A line that can't be read is told in place of all talks of its text.
 //!
 //! A line of input that is empty or begins with `#` says nothing. A talk begins with its name, and ends where the next one
 //! begins:
@@ -29,29 +30,32 @@
 
 mod comparison;
 mod difference;
-mod escape;
 mod line_fault;
 mod reading;
 mod serving;
 mod talk;
+mod twin;
 
 use crate::comparison::compare;
 use crate::reading::talks_of;
 use crate::serving::serve;
 use crate::talk::Talk;
+use std::marker::Sync;
+use std::sync::Wait;
+use std::thread::Threads;
 use std::{fs, io};
 
 /// Serves a talk, and prints how it stands.
-fn hold(rt: &(impl Print + AllocGlobal), mut talk: Talk) -> io::Result<()> {
+fn hold(rt: &(impl Print + AllocGlobal + Threads + Wait + Sync), mut talk: Talk) -> io::Result<()> {
     let words = talk.words.take().unwrap_or_default();
-    let served = serve(rt.alloc(), words, &talk.asked)?;
+    let served = serve(rt, rt.alloc(), words, &talk.asked)?;
     let comparison = compare(rt.alloc(), &talk, &served)?;
     let name = &talk.name;
     println!(rt; "{name}: {comparison}")
 }
 
 /// Holds the talks of a text in their order, or prints which of its lines can't be read.
-fn hold_all(rt: &(impl Print + AllocGlobal), text: &str) -> io::Result<()> {
+fn hold_all(rt: &(impl Print + AllocGlobal + Threads + Wait + Sync), text: &str) -> io::Result<()> {
     match talks_of(rt.alloc(), text) {
         Ok(talks) => {
             for talk in talks {

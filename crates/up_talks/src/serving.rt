@@ -3,13 +3,16 @@ ghost use Rattle.std.specs.Prelude.{◌≡◌, IsTrue, string_bytes};
 ghost use Rattle.up_hooks.specs.Verdicts.{is_lawful};
 ghost use Rattle.up_server.specs.Rules.{at_most, finishes_at_most, keeps, needs_key};
 
+use crate::twin::replies_of_book;
 use std::alloc::{AllocError, Global};
+use std::marker::Sync;
+use std::sync::Wait;
+use std::thread::Threads;
 use up_events::Event;
-use up_hooks::{Outcome, PreHook, PreHooks};
+use up_hooks::{Outcome, PreHook, PreHooks, new_recorders};
 use up_machine::{Ask, Point, Verdict};
 use up_server::{
-    ServerFault, Settings, Words, at_most, finishes_at_most, keeps, needs_key, new_recorders,
-    replay,
+    ServerFault, Settings, Words, at_most, finishes_at_most, keeps, needs_key, replay,
 };
 use up_wire::{Input, Output};
 
@@ -20,27 +23,50 @@ pub struct Served {
     pub written: Vec<u8>,
     /// How many of the asked bytes were not read.
     pub unread: usize,
+    /// What a book alone answers, and how many changes it accepts, as the report tells it.
+    pub twin: Vec<u8>,
 }
 
 /// Serves what is asked as one conversation, with these closures and post-hooks that answer that they are done.
-fn run(alloc: Global, hooks: PreHooks, settings: &Settings, asked: &[u8]) -> Served {
+fn run<T: Threads + Wait + Sync>(
+    rt: &T,
+    alloc: Global,
+    hooks: PreHooks,
+    settings: &Settings,
+    asked: &[u8],
+) -> Result<Served, AllocError> {
+    let twin = replies_of_book(alloc, &hooks, settings, asked)?;
     let mut source = Input::new(asked);
     let mut sink = Output::new(Vec::new(alloc));
     let answer = |_: &Event| Outcome::Done;
     let ended = match new_recorders(alloc, settings.lanes, answer) {
-        Ok(recorders) => replay(alloc, hooks, recorders, settings, &mut source, &mut sink),
+        Ok(recorders) => replay(
+            rt,
+            alloc,
+            hooks,
+            recorders,
+            settings,
+            &mut source,
+            &mut sink,
+        ),
         Err(_) => Err(ServerFault::Memory),
     };
-    Served {
+    Ok(Served {
         ended,
         written: sink.into_inner(),
         unread: source.into_inner().len(),
-    }
+        twin,
+    })
 }
 
 /// Serves what is asked as the words ask for it: the closures of their rules are asked in the order in which the help names
 /// them.
-pub fn serve(alloc: Global, words: Words, asked: &[u8]) -> Result<Served, AllocError> {
+pub fn serve<T: Threads + Wait + Sync>(
+    rt: &T,
+    alloc: Global,
+    words: Words,
+    asked: &[u8],
+) -> Result<Served, AllocError> {
     let Words {
         settings,
         require_key,
@@ -77,5 +103,5 @@ pub fn serve(alloc: Global, words: Words, asked: &[u8]) -> Result<Served, AllocE
         { finishes_at_most(ask, limit) };
         hooks.push(PreHook::new(Point::Finish, Box::new(alloc, judge)?))?;
     }
-    Ok(run(alloc, PreHooks::new(hooks), &settings, asked))
+    run(rt, alloc, PreHooks::new(hooks), &settings, asked)
 }

@@ -1,7 +1,7 @@
 //! A conversation, and what must come of it.
-use crate::escape::put_bytes;
 use crate::line_fault::LineFault;
 use std::alloc::{AllocError, Global};
+use up_escape::put_bytes;
 use up_server::{Words, WordsFault, words};
 
 /// What is asked in a conversation, of which server, and what must come of it.
@@ -42,11 +42,11 @@ impl Talk {
             "unread" => set(&mut self.read, self.asked.len()),
             ">>" => put_ask(&mut self.asked, text),
             ">" => put_line(&mut self.asked, text),
-            ">." => put_bytes(&mut self.asked, text),
+            ">." => Ok(put_bytes(&mut self.asked, text)?),
             ">*" => put_times(&mut self.asked, text),
             "<<" => put_answer(&mut self.wanted, text),
             "<" => put_line(&mut self.wanted, text),
-            "<." => put_bytes(&mut self.wanted, text),
+            "<." => Ok(put_bytes(&mut self.wanted, text)?),
             "<*" => put_times(&mut self.wanted, text),
             "|" => put_feed(&mut self.wanted, text),
             _ => Err(LineFault::Mark),

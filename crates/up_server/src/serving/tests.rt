@@ -5,10 +5,10 @@ mod failing;
 mod refusing;
 
 use super::*;
-use crate::recorders::new_recorders;
 use std::alloc::AllocError;
 use std::process::Abort;
 use std::test::Fail;
+use up_hooks::new_recorders;
 use up_wire::{Input, Output};
 
 const U1: &str = "00000000000000000000000000000001";
@@ -112,21 +112,26 @@ impl Talk {
     }
 
     /// Serves what is asked on a server without closures, and compares.
-    fn hold(&self, rt: &impl Abort, alloc: Global, settings: &Settings) -> Result<(), Fail> {
+    fn hold(
+        &self,
+        rt: &(impl Threads + Wait + Abort + Sync),
+        alloc: Global,
+        settings: &Settings,
+    ) -> Result<(), Fail> {
         self.hold_with(rt, alloc, PreHooks::new(Vec::new(alloc)), settings)
     }
 
     /// Serves what is asked on a server with these closures, and compares.
     fn hold_with(
         &self,
-        rt: &impl Abort,
+        rt: &(impl Threads + Wait + Abort + Sync),
         alloc: Global,
         hooks: PreHooks,
         settings: &Settings,
     ) -> Result<(), Fail> {
         let mut source = Input::new(self.asked.as_bytes());
         let mut sink = Output::new(Vec::new(alloc));
-        let ended = run_with(alloc, hooks, settings, &mut source, &mut sink);
+        let ended = run_with(rt, alloc, hooks, settings, &mut source, &mut sink);
         let written = sink.into_inner();
         let text = str::from_utf8(&written)?;
         assert_eq!(rt; text, self.wanted.as_str());
@@ -136,7 +141,8 @@ impl Talk {
 }
 
 /// A run with these closures, whose post-hooks answer that they are done.
-fn run_with<R: Source, W: Sink>(
+fn run_with<R: Source, W: Sink, T: Threads + Wait + Sync>(
+    rt: &T,
     alloc: Global,
     hooks: PreHooks,
     settings: &Settings,
@@ -147,17 +153,19 @@ fn run_with<R: Source, W: Sink>(
     let Ok(recorders) = new_recorders(alloc, settings.lanes, answer) else {
         return Err(ServerFault::Memory);
     };
-    replay(alloc, hooks, recorders, settings, source, sink)
+    replay(rt, alloc, hooks, recorders, settings, source, sink)
 }
 
 /// A run without closures.
-fn run_plain<R: Source, W: Sink>(
+fn run_plain<R: Source, W: Sink, T: Threads + Wait + Sync>(
+    rt: &T,
     alloc: Global,
     settings: &Settings,
     source: &mut R,
     sink: &mut W,
 ) -> Result<(), ServerFault> {
     run_with(
+        rt,
         alloc,
         PreHooks::new(Vec::new(alloc)),
         settings,

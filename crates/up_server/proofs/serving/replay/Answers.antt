@@ -1,7 +1,16 @@
-use Rattle.std.proofs.Common.{inr}
+use Rattle.std.proofs.Common.{inr, slice_index_or}
+use Rattle.up_queue.specs.Sides.{no_queue}
 use Rattle.up_server.proofs.serving.replay.Goals as goal
 
 pub returns : goal.returns
 returns g c =
+    let queues = c.in-Ok.parts.queues in
     let sink = c.run.new.sink in
-    inr (c.in-Ok.served, g.W.Sink.device sink, c.in-Ok.ensures.run, c.in-Ok.ensures.sound, c.tell.ensures)
+    inr (
+      (λ lane. slice_index_or queues lane no_queue),
+      c.in-Ok-run.served,
+      g.W.Sink.device sink,
+      c.in-Ok-run.ensures.run,
+      c.in-Ok-run.ensures.sound,
+      c.tell.ensures,
+    )

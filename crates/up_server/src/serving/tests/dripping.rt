@@ -40,7 +40,13 @@ fn takes_chunks_a_byte_at_a_time(rt: HostRuntime) -> Result<(), Fail> {
     };
     let mut source = Input::new(BufReader::new(rt.alloc(), drip)?);
     let mut sink = Output::new(Vec::new(rt.alloc()));
-    let ended = run_plain(rt.alloc(), &Settings::default(), &mut source, &mut sink);
+    let ended = run_plain(
+        &rt,
+        rt.alloc(),
+        &Settings::default(),
+        &mut source,
+        &mut sink,
+    );
     assert_eq!(rt; ended, Ok(()));
     assert_eq!(rt; str::from_utf8(&sink.into_inner())?, talk.wanted.as_str());
     Ok(())

@@ -101,7 +101,13 @@ fn keeps_what_came_before_any_read_that_fails(rt: HostRuntime) -> Result<(), Fai
         };
         let mut source = Input::new(BufReader::new(rt.alloc(), reader)?);
         let mut sink = Output::new(Vec::new(rt.alloc()));
-        let ended = run_plain(rt.alloc(), &Settings::default(), &mut source, &mut sink);
+        let ended = run_plain(
+            &rt,
+            rt.alloc(),
+            &Settings::default(),
+            &mut source,
+            &mut sink,
+        );
         let wanted = if count < 249 {
             Err(ServerFault::Read)
         } else {
@@ -124,7 +130,13 @@ fn stops_at_any_write_that_fails(rt: HostRuntime) -> Result<(), Fail> {
             taken: Vec::new(rt.alloc()),
             room,
         });
-        let ended = run_plain(rt.alloc(), &Settings::default(), &mut source, &mut sink);
+        let ended = run_plain(
+            &rt,
+            rt.alloc(),
+            &Settings::default(),
+            &mut source,
+            &mut sink,
+        );
         assert_eq!(rt; ended, Err(ServerFault::Write), "after {room} bytes");
         let taken = sink.into_inner().taken;
         assert_eq!(rt; taken.len(), room);

@@ -149,6 +149,7 @@ fn goes_on_after_a_post_hook_that_fails(rt: HostRuntime) -> Result<(), Fail> {
     let mut sink = Output::new(Vec::new(rt.alloc()));
     let hooks = PreHooks::new(Vec::new(rt.alloc()));
     let ended = replay(
+        &rt,
         rt.alloc(),
         hooks,
         recorders,

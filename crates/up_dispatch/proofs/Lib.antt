@@ -1,0 +1,14 @@
+pub mod Alike
+pub mod BookLemmas
+pub mod Borrowed
+pub mod Drops
+pub mod Each
+pub mod Feeding
+pub mod Filling
+pub mod Handing
+pub mod HistoryLemmas
+pub mod Moves
+pub mod Prefixes
+pub mod Showing
+pub mod TurnLemmas
+pub mod Uploads

@@ -1,0 +1,40 @@
+-- What callers see of a lawful board.
+use Rattle.std.proofs.Common.{◌≡◌, ℕ, zero, suc, ◌<◌, ◌≤◌, List, [], ◌∷◌, length, get_or, map, refl, sym, ◌∙◌, subst, arith}
+use Rattle.std.proofs.lemmas.List.{length-map}
+use Rattle.up_events.specs.Records.{lane_log}
+use Rattle.up_machine.specs.State.{State}
+use Rattle.up_queue.specs.Sides.{QueueId, PutSide}
+use Rattle.up_dispatch.specs.declared.feed.Feed.{Feed}
+use Rattle.up_dispatch.specs.Lists.{EachAt}
+use Rattle.up_dispatch.specs.Fed.{IsFed}
+use Rattle.up_dispatch.specs.Reports.{IsRefusedFor}
+use Rattle.up_dispatch.specs.declared.finish.FinishFault.{FinishFault}
+use Rattle.up_dispatch.specs.declared.finish.FinishFault.TheVariants as finish
+use Rattle.up_dispatch.specs.Standing.{standing, IsPutOf, IsLawfulBoard, IsLawfulStanding}
+
+at_map : {X Y : Type 0} (f : X → Y) (xs : List X) (k : ℕ) (e : Y) → k < length xs → (x : X) × (get_or (map f xs) k e ≡ f x) × ((d : X) → get_or xs k d ≡ x)
+at_map f [] k e within = absurd (omega arith)
+at_map f (x ∷ xs) zero e within = (x, refl, λ d. refl)
+at_map f (x ∷ xs) (suc k) e within = at_map f xs k e (omega arith)
+
+module _ {X Y : Type 0} (f : X → Y) (P : ℕ → X → Type 0) (Q : ℕ → Y → Type 0) where
+  pub EachAt-map : (xs : List X) → EachAt P xs → ((k : ℕ) (x : X) → P k x → Q k (f x)) → EachAt Q (map f xs)
+  EachAt-map xs all step k e within =
+      let within' : k < length xs = subst (λ (n : ℕ). k < n) (length-map xs f) within in
+      let at = at_map f xs k e within' in
+      subst (Q k) (sym at.1) (step k at.0 (subst (P k) (at.2 at.0) (all k at.0 within')))
+
+pub standing_lawful : (queue : ℕ → QueueId) (book : State) (feeds : List Feed) (given total parts amount : ℕ) → IsLawfulBoard queue book feeds given total parts amount → IsLawfulStanding queue (standing book feeds given total)
+standing_lawful queue book feeds given total parts amount lawful = record {
+  sound = lawful.sound;
+  lanes = length-map feeds (λ (f : Feed). f.put_end) ∙ lawful.lanes;
+  queues = EachAt-map (λ (f : Feed). f.put_end) (λ k (f : Feed). IsFed (queue k) (lane_log book.journal k) book.closed f) (λ k (e : PutSide). e.queue ≡ queue k) feeds lawful.fed (λ k f fed. fed.queue_is);
+  puts = EachAt-map (λ (f : Feed). f.put_end) (λ k (f : Feed). IsFed (queue k) (lane_log book.journal k) book.closed f) (λ k (e : PutSide). IsPutOf book k e) feeds lawful.fed (λ k f fed. (f.cursor, f.ended, fed.put_is, fed.within, fed.whole));
+  counted = lawful.counted;
+}
+
+pub refused_for : (fault : FinishFault) (changes made : ℕ) (LanesAreThere : Type 0) → (fault ≡ finish.SeatsOut → made < changes) → (fault ≡ finish.LanesOut → (changes ≤ made) × ¬ LanesAreThere)
+    → (fault ≡ finish.NoMemory → (changes ≤ made) × LanesAreThere) → IsRefusedFor fault changes made LanesAreThere
+refused_for finish.SeatsOut changes made LanesAreThere seats lanes memory = seats refl
+refused_for finish.LanesOut changes made LanesAreThere seats lanes memory = lanes refl
+refused_for finish.NoMemory changes made LanesAreThere seats lanes memory = memory refl

@@ -1,0 +1,42 @@
+-- What a keeper's plans and commits may be.
+use Rattle.std.specs.Prelude.{◌≡◌, ◌≤◌, ℕ, Result, Ok, Err, length}
+use Rattle.up_headers.specs.declared.request.Request.{Request}
+use Rattle.up_machine.specs.Decision.{Answers, decide, decide_plan}
+use Rattle.up_machine.specs.State.{State, after}
+use Rattle.up_machine.specs.declared.plan.Done.{Done}
+use Rattle.up_machine.specs.declared.refusal.Refusal.{Refusal}
+use Rattle.up_queue.specs.Sides.{QueueId}
+use Rattle.up_dispatch.specs.Commits.{CommitsTo}
+use Rattle.up_dispatch.specs.Keeps.{Committing, Gives, Keeping, Planning, keeping}
+use Rattle.up_dispatch.specs.Standing.{Standing, IsLawfulStanding}
+
+-- the plans of a book
+abbrev pub BookPlans : Planning State
+BookPlans s request result = Answers result (decide_plan s request)
+
+-- what a commit leaves of a book: the change is carried out, or nothing changes
+abbrev pub BookLeaves : State → Request → ℕ → State → Result Done Refusal → Type 0
+BookLeaves s request id t (Ok done) = t ≡ after s request id done.change
+BookLeaves s request id t (Err refusal) = t ≡ s
+
+-- the commits of a book
+abbrev pub BookCommits : Committing State
+BookCommits s request id asked t result = Answers result (decide s request id asked) × BookLeaves s request id t result
+
+-- a book keeps by its own decisions
+abbrev pub by_book : Gives → Keeping State
+by_book gives = keeping BookPlans BookCommits gives
+
+-- the plans of some lawful board that has all changes made from the seat
+abbrev pub SeatPlans : (ℕ → QueueId) → Planning ℕ
+SeatPlans queue count request result =
+    (s : Standing) × IsLawfulStanding queue s × (count ≤ length s.book.journal.accepted) × Answers result (decide_plan s.book request)
+
+-- the commits of such a board
+abbrev pub SeatCommits : (ℕ → QueueId) → Committing ℕ
+SeatCommits queue count request id asked after_it result =
+    (old : Standing) × (new : Standing) × CommitsTo queue old new count after_it request id asked result
+
+-- a seat keeps by the decisions of such a board
+abbrev pub by_seat : (ℕ → QueueId) → Gives → Keeping ℕ
+by_seat queue gives = keeping (SeatPlans queue) (SeatCommits queue) gives

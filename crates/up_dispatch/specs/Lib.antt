@@ -1,0 +1,15 @@
+pub mod Answering
+pub mod ByBook
+pub mod Commits
+pub mod Counts
+pub mod Fed
+pub mod Keepers
+pub mod Keeps
+pub mod Lists
+pub mod Parts
+pub mod Puts
+pub mod Replies
+pub mod Reports
+pub mod Standing
+pub mod StandingCode
+pub mod Turn

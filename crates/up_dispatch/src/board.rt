@@ -1,0 +1,146 @@
+//! The board that threads share.
+ghost use Rattle.std.specs.Prelude.{◌≡◌, ◌≤◌, ◌<◌, ◌^◌, [], length, IfOk, IfSome};
+ghost use Rattle.up_headers.specs.Table.{FitsWithin};
+ghost use Rattle.up_dispatch.specs.Lists.{EachAt};
+ghost use Rattle.up_dispatch.specs.Parts.{NamesQueues};
+ghost use Rattle.up_dispatch.specs.Keepers.{SeatPlans, SeatCommits};
+
+use crate::inside::Inside;
+use crate::naming::Naming;
+use crate::parts::BoardParts;
+use crate::seat::Seat;
+use std::alloc::Global;
+use std::sync::{Condvar, Mutex, Wait};
+use up_events::{Id, MOST_BYTES, MOST_LANES, NoMemory};
+use up_headers::Request;
+use up_lanes::Refill;
+use up_machine::{Asked, Done, Plan, Refusal};
+use up_queue::TakeEnd;
+
+/// A book that threads share. What lies under its lock is a lawful board whenever the lock is free.
+#[derive(Drop)]
+pub struct Board<B: Naming> {
+    pub(crate) inside: Mutex<Inside<B>>,
+    /// One for each lane. It wakes the lane where there may be something for it.
+    pub(crate) bells: Vec<Condvar>,
+}
+
+/// So many bells.
+fn new_bells(alloc: Global, count: usize) -> Result<Vec<Condvar>, NoMemory> {
+    let mut bells = Vec::with_capacity(alloc, count)?;
+    for _lane in 0..count {
+        bells.push(Condvar::new())?;
+    }
+    Ok(bells)
+}
+
+impl<B: Naming> Board<B> {
+    pub fn new(
+        alloc: Global,
+        parts: BoardParts,
+        max_size: u64,
+    ) -> Result<(Board<B>, Vec<TakeEnd>), NoMemory>
+        requires name { parts.name ≡ B.name }
+        requires parts { parts.parts ≡ B.parts }
+        requires queues { NamesQueues B.queue parts.queues }
+        requires some_lane { 0 < length parts.queues }
+        requires few_lanes { length parts.queues ≤ MOST_LANES }
+        requires small { max_size ≤ MOST_BYTES }
+        ensures ends { IfOk result (λ r. (length r.1.items ≡ length parts.queues) × EachAt (λ k e. (e.taken ≡ []) × (e.queue ≡ B.queue k)) r.1.items) }
+    {
+        let (inside, takes) = Inside::new(alloc, parts, max_size)?;
+        let bells = new_bells(alloc, takes.len())?;
+        let inside = Mutex::new(inside);
+        Ok((Board { inside, bells }, takes))
+    }
+
+    /// A seat from which no change was made, unless all were given out.
+    pub fn seat<R: Wait>(&self, rt: &R) -> Option<Seat<B>>
+        ensures { IfSome result (λ s. s ≡ 0) }
+    {
+        self.inside.lock(rt).seat()
+    }
+
+    /// What would come of a request, in some state of the board that has all changes made from this seat.
+    pub fn plan<R: Wait>(
+        &self,
+        rt: &R,
+        alloc: Global,
+        seat: &mut Seat<B>,
+        request: &Request,
+    ) -> Result<Plan, Refusal>
+        ensures same { seat.new ≡ seat.old }
+        ensures plan { SeatPlans B.queue seat.old request.now result }
+    {
+        let mut inside = self.inside.lock(rt);
+        inside.audit(seat);
+        inside.plan(alloc, request)
+    }
+
+    /// Decides on a request from a seat, in some state of the board that has all changes made from this seat.
+    pub fn commit<R: Wait>(
+        &self,
+        rt: &R,
+        alloc: Global,
+        seat: &mut Seat<B>,
+        request: Request,
+        id: Id,
+        asked: &Asked,
+    ) -> Result<Done, Refusal>
+        requires bounded { FitsWithin MOST_BYTES request }
+        ensures { SeatCommits B.queue seat.old request id asked.now seat.new result }
+    {
+        let mut inside = self.inside.lock(rt);
+        let lanes = inside.lanes();
+        let result = inside.commit(rt, alloc, seat, request, id, asked);
+        drop(inside);
+        if let Ok(
+            Done {
+                change: Some(change),
+                ..
+            },
+        ) = &result
+        {
+            self.ring(change.id().lane(lanes));
+        }
+        result
+    }
+
+    /// Wakes the lane, if it sleeps.
+    fn ring(&self, lane: u64) {
+        if let Some(bell) = self.bells.get(lane as usize) {
+            bell.notify_one();
+        }
+    }
+
+    /// Accepts no change from now on. Each lane is given what its queue has room for, with the end behind its last event. Closing twice is as
+    /// closing once.
+    pub fn close<R: Wait>(&self, rt: &R) {
+        self.inside.lock(rt).close(rt);
+        for bell in &self.bells {
+            bell.notify_one();
+        }
+    }
+}
+
+impl<B: Naming> Refill for Board<B> {
+    fn refill<R: Wait>(&self, rt: &R, lane: u64) {
+        let mut inside = self.inside.lock(rt);
+        if lane < inside.lanes() {
+            inside.fill(rt, lane);
+        }
+    }
+
+    fn wait<R: Wait>(&self, rt: &R, lane: u64, taken: u64) {
+        if let Some(bell) = self.bells.get(lane as usize) {
+            bell.wait_while(
+                rt,
+                self.inside.lock(rt),
+                |inside| inside.is_idle(lane, taken),
+            );
+        }
+    }
+}
+
+#[cfg(test)]
+mod tests;

@@ -1,0 +1,133 @@
+//! A board step by step, in one thread.
+ghost use Rattle.std.specs.Prelude.{◌≡◌, length, All, []};
+ghost use Rattle.up_headers.specs.Table.{FitsWithin};
+ghost use Rattle.up_events.specs.declared.limits.TheConstants.{MOST_BYTES};
+ghost use Rattle.up_dispatch.specs.Parts.{NamesQueues};
+
+use super::*;
+use crate::finish::{FinishFault, Unfinished};
+use crate::parts::MOST_SEATS;
+use std::marker::Brand;
+use std::process::Abort;
+use std::test::Fail;
+use up_events::{Event, Kind};
+use up_headers::{NewUpload, Patch};
+use up_hooks::{Outcome, PostHook, new_recorders};
+use up_lanes::{How, Lane, LaneEnd, StepEnd};
+use up_wire::Sequence;
+
+/// A plain upload without metadata.
+fn creation(alloc: Global, length: u8) -> Request
+    ensures { FitsWithin MOST_BYTES result }
+{
+    Request::Create(NewUpload {
+        kind: Kind::Plain,
+        length: Some(u64::from(length)),
+        parts: Sequence::new(alloc),
+        pairs: Sequence::new(alloc),
+        metadata: None,
+        concat: None,
+    })
+}
+
+/// Makes an upload from a seat, and tells whether it was made.
+fn makes<B: Naming, R: Wait>(
+    rt: &R,
+    alloc: Global,
+    board: &Board<B>,
+    seat: &mut Seat<B>,
+    id: u8,
+    length: u8,
+) -> Result<Done, Refusal> {
+    let id = Id::new(u128::from(id));
+    let asked = if length == 0 {
+        Asked::AllowedFinish
+    } else {
+        Asked::Allowed
+    };
+    board.commit(rt, alloc, seat, creation(alloc, length), id, &asked)
+}
+
+/// One lane over a queue of one place.
+fn stepped<B: Naming, H: PostHook + Drop, R: Wait + Abort>(
+    rt: &R,
+    alloc: Global,
+    parts: BoardParts,
+    hooks: Vec<H>,
+) -> Result<(), Fail>
+    requires name { parts.name ≡ B.name }
+    requires parts { parts.parts ≡ B.parts }
+    requires queues { NamesQueues B.queue parts.queues }
+    requires lanes { length parts.queues ≡ 1 }
+    requires new { All (λ h. H.is_sound h × (H.handed h ≡ [])) hooks.items }
+{
+    let (board, takes) = Board::<B>::new(alloc, parts, 1_048_576)?;
+    let Some(mut seat) = board.seat(rt) else {
+        return Err("a seat".into());
+    };
+    assert!(rt; makes(rt, alloc, &board, &mut seat, 1, 0).is_ok());
+    for (take_end, hook) in takes.into_iter().zip(hooks) {
+        let mut lane = Lane::new(0, take_end, hook);
+        assert_eq!(rt; lane.step(rt), StepEnd::Handed);
+        assert_eq!(rt; lane.step(rt), StepEnd::Nothing);
+        board.refill(rt, 0);
+        assert_eq!(rt; lane.step(rt), StepEnd::Handed);
+        board.close(rt);
+        assert_eq!(rt; lane.step(rt), StepEnd::Ended);
+    }
+    assert_eq!(rt; seat.count(), 1);
+    Ok(())
+}
+
+#[test]
+fn a_refill_moves_what_found_no_room(rt: HostRuntime) -> Result<(), Fail> {
+    let parts = BoardParts::new(rt.alloc(), 1, 1)?;
+    let hooks = new_recorders(rt.alloc(), 1, |_: &Event| Outcome::Done)?;
+    stepped::<Brand, _, _>(&rt, rt.alloc(), parts, hooks)
+}
+
+/// A board of two lanes that is closed over one upload, and all its seats.
+fn closed<B: Naming, R: Wait + Abort>(rt: &R, alloc: Global, parts: BoardParts) -> Result<(), Fail>
+    requires name { parts.name ≡ B.name }
+    requires parts { parts.parts ≡ B.parts }
+    requires queues { NamesQueues B.queue parts.queues }
+    requires lanes { length parts.queues ≡ 2 }
+{
+    let (board, takes) = Board::<B>::new(alloc, parts, 3)?;
+    assert_eq!(rt; takes.len(), 2);
+    let Some(mut seat) = board.seat(rt) else {
+        return Err("a seat".into());
+    };
+    assert!(rt; makes(rt, alloc, &board, &mut seat, 1, 3).is_ok());
+    board.close(rt);
+    assert!(rt;
+        matches!(
+            makes(rt, alloc, &board, &mut seat, 2, 3),
+            Err(Refusal::Closed)
+        )
+    );
+    let bytes = Patch {
+        id: Id::new(1),
+        media: true,
+        offset: Some(0),
+        length: None,
+        bytes: Sequence::from_slice(alloc, b"abc")?,
+    };
+    let planned = board.plan(rt, alloc, &mut seat, &Request::Patch(bytes));
+    assert!(rt; matches!(planned, Err(Refusal::Closed)));
+    match board.plan(rt, alloc, &mut seat, &Request::Head(Id::new(1))) {
+        Ok(Plan::Answer(response)) => assert_eq!(rt; response.status, 200),
+        _ => return Err("an answer".into()),
+    }
+    for _seat in 1..MOST_SEATS {
+        assert!(rt; board.seat(rt).is_some());
+    }
+    assert!(rt; board.seat(rt).is_none());
+    Ok(())
+}
+
+#[test]
+fn a_closed_board_answers_and_changes_nothing(rt: HostRuntime) -> Result<(), Fail> {
+    let parts = BoardParts::new(rt.alloc(), 2, 1)?;
+    closed::<Brand, _>(&rt, rt.alloc(), parts)
+}

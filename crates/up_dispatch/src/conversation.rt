@@ -1,0 +1,193 @@
+//! One conversation: each message is read, decided and answered before the next.
+ghost use Rattle.std.specs.Prelude.{◌≡◌, ◌≤◌};
+ghost use Rattle.up_hooks.specs.Gives.{ClosuresGive};
+ghost use Rattle.up_wire.specs.Response.{response_text};
+ghost use Rattle.up_dispatch.specs.Answering.{Serves, TakesId, course};
+ghost use Rattle.up_dispatch.specs.Keeps.{keeping};
+ghost use Rattle.up_dispatch.specs.Turn.{IsTurn, IsCutTurn, Converses, Sends, TakesTurn, stand, unanswered};
+
+use crate::answering::answer;
+use crate::ids::Ids;
+use crate::keeper::Keeper;
+use crate::reply::{reply_to_header_fault, reply_to_wire_fault};
+use std::alloc::Global;
+use up_events::{Id, MOST_BYTES};
+use up_headers::{Request, request_of};
+use up_hooks::PreHooks;
+use up_wire::{
+    Limits, Message, Response, Sink, Source, Taken, WireFault, WriteFailed, read_message,
+    write_response,
+};
+
+/// The most messages of a conversation.
+pub const MOST_MESSAGES: u64 = 10_000;
+
+/// How a conversation ended.
+#[derive(Clone, Copy, Debug, PartialEq, Eq)]
+pub enum Ended {
+    /// The input was at its end, or an answer closed the conversation.
+    Closed,
+    /// The input ended, or a read failed, inside a body. An append was carried out with the bytes that came; the
+    /// message has no answer.
+    Cut,
+    /// A read failed before a head was whole.
+    ReadFailed,
+    /// A write failed. Changes made before it stay.
+    WriteFailed,
+}
+
+/// The id that a request takes: each creation the next one, and any other request 0.
+fn id_for<I: Ids>(ids: &mut I, request: &Request) -> Id
+    ensures { TakesId I.draws ids.old request.now result ids.new }
+{
+    match request {
+        Request::Create(_) => ids.next_id(),
+        _ => Id::new(0),
+    }
+}
+
+/// What is answered to a message, after what it asks for was carried out.
+fn answer_to<K: Keeper, I: Ids>(
+    alloc: Global,
+    keeper: &mut K,
+    hooks: &PreHooks,
+    ids: &mut I,
+    message: Message,
+    max_size: u64,
+) -> Response
+    requires small { max_size ≤ MOST_BYTES }
+    ensures turn { IsTurn (Serves (keeping K.plans K.commits (ClosuresGive hooks.now)) I.draws) message max_size
+        (course (K.state keeper.old) ids.old) (course (K.state keeper.new) ids.new) result }
+    ensures lender { K.lender keeper.new ≡ K.lender keeper.old }
+{
+    match request_of(alloc, message, max_size) {
+        Ok(request) => {
+            let id = id_for(ids, &request);
+            answer(alloc, keeper, hooks, request, id)
+        }
+        Err(fault) => reply_to_header_fault(alloc, fault),
+    }
+}
+
+/// Carries out an append whose body broke off, with the bytes that came. Any other message that broke off does nothing.
+fn carry_out_cut<K: Keeper, I: Ids>(
+    alloc: Global,
+    keeper: &mut K,
+    hooks: &PreHooks,
+    ids: &mut I,
+    message: Message,
+    max_size: u64,
+)
+    requires small { max_size ≤ MOST_BYTES }
+    ensures turn { IsCutTurn (Serves (keeping K.plans K.commits (ClosuresGive hooks.now)) I.draws) message max_size
+        (course (K.state keeper.old) ids.old) (course (K.state keeper.new) ids.new) }
+    ensures lender { K.lender keeper.new ≡ K.lender keeper.old }
+{
+    match request_of(alloc, message, max_size) {
+        Ok(request) => match request {
+            Request::Patch(patch) => {
+                answer(alloc, keeper, hooks, Request::Patch(patch), Id::new(0));
+            }
+            Request::Options => {}
+            Request::Create(_) => {}
+            Request::Head(_) => {}
+            Request::Delete(_) => {}
+            Request::Get(_) => {}
+        },
+        Err(_) => {}
+    }
+}
+
+/// How the conversation ended, where a fault has no answer.
+fn unanswered(fault: WireFault) -> Option<Ended>
+    ensures { result ≡ unanswered fault }
+{
+    match fault {
+        WireFault::ReadFailed => Some(Ended::ReadFailed),
+        WireFault::WriteFailed => Some(Ended::WriteFailed),
+        _ => None,
+    }
+}
+
+/// Writes a response, and tells how the conversation ended if it did.
+fn send<W: Sink>(sink: &mut W, response: &Response, bare: bool, close: bool) -> Option<Ended>
+    ensures { Sends (W.device sink.old) (W.device sink.new)
+        (response_text response.now bare close) close result }
+{
+    match write_response(sink, response, bare, close) {
+        Ok(()) => { if close { Some(Ended::Closed) } else { None } }
+        Err(WriteFailed) => Some(Ended::WriteFailed),
+    }
+}
+
+/// Reads a message and answers it, and tells how the conversation ended if it did. A message that can't be read is
+/// answered and closes the conversation; after a failed read or write, or where a body broke off, nothing is answered.
+fn take_turn<K: Keeper, I: Ids, R: Source, W: Sink>(
+    alloc: Global,
+    keeper: &mut K,
+    hooks: &PreHooks,
+    ids: &mut I,
+    max_size: u64,
+    source: &mut R,
+    sink: &mut W,
+    is_last: bool,
+) -> Option<Ended>
+    requires small { max_size ≤ MOST_BYTES }
+    ensures turn { TakesTurn (Serves (keeping K.plans K.commits (ClosuresGive hooks.now)) I.draws) max_size is_last
+        (stand (course (K.state keeper.old) ids.old) (R.device source.old) (W.device sink.old))
+        (stand (course (K.state keeper.new) ids.new) (R.device source.new) (W.device sink.new))
+        result }
+    ensures lender { K.lender keeper.new ≡ K.lender keeper.old }
+{
+    let limits = Limits { max_body: max_size };
+    match read_message(alloc, source, sink, &limits) {
+        Taken::End => Some(Ended::Closed),
+        Taken::Cut(message) => {
+            carry_out_cut(alloc, keeper, hooks, ids, message, max_size);
+            Some(Ended::Cut)
+        }
+        Taken::Fault { fault, bare } => match unanswered(fault) {
+            Some(ended) => Some(ended),
+            None => {
+                let response = reply_to_wire_fault(alloc, fault);
+                send(sink, &response, bare, true)
+            }
+        },
+        Taken::Message(message) => {
+            let bare = message.bare;
+            let close = is_last | message.close;
+            let response = answer_to(alloc, keeper, hooks, ids, message, max_size);
+            send(sink, &response, bare, close)
+        }
+    }
+}
+
+/// Serves the messages of an input in turn. The 10,000th is the last, and its answer closes the conversation; so does
+/// the answer to a message that asks for it (RFC 9112, section 9.6), and to one of HTTP/1.0.
+pub fn converse<K: Keeper, I: Ids, R: Source, W: Sink>(
+    alloc: Global,
+    keeper: &mut K,
+    hooks: &PreHooks,
+    ids: &mut I,
+    max_size: u64,
+    source: &mut R,
+    sink: &mut W,
+) -> Ended
+    requires small { max_size ≤ MOST_BYTES }
+    ensures turns { Converses (Serves (keeping K.plans K.commits (ClosuresGive hooks.now)) I.draws) max_size
+        (stand (course (K.state keeper.old) ids.old) (R.device source.old) (W.device sink.old))
+        (stand (course (K.state keeper.new) ids.new) (R.device source.new) (W.device sink.new))
+        result }
+    ensures lender { K.lender keeper.new ≡ K.lender keeper.old }
+{
+    for turn in 0..MOST_MESSAGES {
+        let is_last = turn + 1 == MOST_MESSAGES;
+        if let Some(ended) = take_turn(alloc, keeper, hooks, ids, max_size, source, sink, is_last) {
+            return ended;
+        }
+    }
+    Ended::Closed
+}
+
+#[cfg(test)]
+mod tests;

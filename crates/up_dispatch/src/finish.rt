@@ -1,0 +1,287 @@
+//! The end of a board, and what it reports.
+ghost use Rattle.std.specs.Prelude.{◌≡◌, ◌≢◌, Some, IfNone, ℕ, ◌-◌, ◌<◌, ◌≤◌, slice_index_or, vec_capacity, length, sum, All, IfOk, IfErr, IsTrue, ◌↔◌, vec_len, []};
+ghost use Rattle.up_events.specs.History.{IsLegal};
+ghost use Rattle.up_events.specs.Records.{lane_log};
+ghost use Rattle.up_lanes.specs.HowOf.{is_drained};
+ghost use Rattle.up_dispatch.specs.Lists.{EachAt, EachPair};
+ghost use Rattle.up_dispatch.specs.Fed.{IsFed};
+ghost use Rattle.up_dispatch.specs.Reports.{HandOver, IsHandedOver, IsInOrder, IsRefusedFor, TellEachUpload};
+ghost use Rattle.up_dispatch.specs.Standing.{IsLawfulStanding, Standing};
+
+use crate::board::Board;
+use crate::feed::Feed;
+use crate::inside::Inside;
+use crate::naming::Naming;
+use crate::seat::Seat;
+use std::alloc::Global;
+use std::sync::Mutex;
+use std::sync::ledger::Share;
+use up_events::{Accepted, NoMemory};
+use up_hooks::PostHook;
+use up_lanes::{How, LaneEnd};
+use up_machine::Book;
+use up_queue::compare;
+
+/// Why a board was not finished.
+#[derive(Clone, Copy, Debug, PartialEq, Eq)]
+pub enum FinishFault {
+    /// The seats that came made fewer changes than were accepted.
+    SeatsOut,
+    /// Not each lane came once, in ascending order.
+    LanesOut,
+    /// Memory for the report was refused.
+    NoMemory,
+}
+
+/// All that was given, and why it comes back.
+#[derive(Drop)]
+pub struct Unfinished<T, B: Naming, H: PostHook> {
+    pub fault: FinishFault,
+    pub board: T,
+    pub seats: Vec<Seat<B>>,
+    pub lanes: Vec<LaneEnd<H>>,
+}
+
+/// What a lane handed over.
+#[derive(Drop)]
+pub struct LaneReport<H> {
+    /// The lane, from 0 on.
+    pub lane: u64,
+    pub hook: H,
+    pub how: How,
+    /// How many events of the lane's log were not handed over.
+    pub left: u64,
+}
+
+/// The accepted changes in order, and what each lane handed over of them, in the order of the lanes.
+#[derive(Drop)]
+pub struct Report<H> {
+    pub accepted: Vec<Accepted>,
+    pub lanes: Vec<LaneReport<H>>,
+}
+
+// What a lane handed over, by its queue's two ends.
+fn report_of<H: PostHook + Drop>(book: &Book, feed: Feed, end: LaneEnd<H>) -> LaneReport<H>
+    requires fed { IsFed end.take_end.queue (lane_log book.now.journal end.lane) book.now.closed feed }
+    ensures same { (result.lane ≡ end.lane) × (result.hook ≡ end.hook) × (result.how ≡ end.how) }
+    ensures handed { IsHandedOver (lane_log book.now.journal end.lane) (H.handed result.hook) (is_drained result.how) result.left }
+{
+    let LaneEnd {
+        lane,
+        hook,
+        take_end,
+        how,
+        ..
+    } = end;
+    let Feed {
+        put_end,
+        cursor,
+        ended,
+    } = feed;
+    let log = book.journal().lane_log(lane);
+    let held = compare(put_end, take_end);
+    let taken = cursor as u64 + u64::from(ended) - held;
+    let handed = taken - u64::from(how.is_drained());
+    let left = log.len() as u64 - handed;
+    LaneReport {
+        lane,
+        hook,
+        how,
+        left,
+    }
+}
+
+// What each lane handed over, in the order of the lanes.
+fn settle<H: PostHook + Drop>(
+    book: &Book,
+    mut reports: Vec<LaneReport<H>>,
+    feeds: Vec<Feed>,
+    lanes: Vec<LaneEnd<H>>,
+) -> Vec<LaneReport<H>>
+    requires none { reports.items ≡ [] }
+    requires room { vec_len lanes ≤ vec_capacity reports }
+    requires counts { (vec_len feeds ≡ book.now.journal.lanes) × (vec_len lanes ≡ book.now.journal.lanes) }
+    requires order { EachAt (λ k e. e.lane ≡ k) lanes.items }
+    requires fed { (k : ℕ) (f : _) (e : _) → k < vec_len lanes → IsFed (slice_index_or lanes.items k e).take_end.queue (lane_log book.now.journal k) book.now.closed (slice_index_or feeds.items k f) }
+    ensures count { vec_len result ≡ vec_len lanes }
+    ensures same { EachPair (λ e x. (x.lane ≡ e.lane) × (x.hook ≡ e.hook) × (x.how ≡ e.how)) lanes.items result.items }
+    ensures handed { EachAt (λ k r. IsHandedOver (lane_log book.now.journal k) (H.handed r.hook) (is_drained r.how) r.left) result.items }
+{
+    for (feed, end) in feeds.into_iter().zip(lanes) {
+        reports.push_reserved(report_of(book, feed, end));
+    }
+    reports
+}
+
+// How many of the changes were made from no seat that came.
+fn missing<B: Naming>(changes: usize, seats: &[Seat<B>]) -> u64
+    ensures { result ≡ changes - sum seats.now }
+{
+    let mut missing = changes as u64;
+    for seat in seats {
+        missing = missing.saturating_sub(seat.count());
+    }
+    missing
+}
+
+// The shares of all seats, put together.
+fn gathered<B: Naming>(mut all: Share<B>, seats: Vec<Seat<B>>) -> Share<B>
+    requires { all.amount ≡ 0 }
+    ensures { result.amount ≡ sum seats.items }
+{
+    for seat in seats {
+        let Seat { share, count: _ } = seat;
+        all.merge(share);
+    }
+    all
+}
+
+// Whether each lane came once, in ascending order.
+fn in_order<H: PostHook + Drop>(lanes: &[LaneEnd<H>], count: usize) -> bool
+    ensures { IsTrue result ↔ IsInOrder (λ e. e.lane) count lanes.now }
+{
+    if lanes.len() != count {
+        return false;
+    }
+    for (k, end) in lanes.iter().enumerate() {
+        if end.lane != k as u64 {
+            return false;
+        }
+    }
+    true
+}
+
+// The accepted changes, once more.
+fn accepted_by(alloc: Global, book: &Book) -> Result<Vec<Accepted>, NoMemory>
+    ensures { IfOk result (λ v. v.items ≡ book.now.journal.accepted) }
+{
+    Ok(book.journal().accepted().to_vec(alloc)?)
+}
+
+impl<B: Naming> Inside<B> {
+    // What keeps the board from being finished with these.
+    fn fault<H: PostHook + Drop>(
+        &self,
+        seats: &[Seat<B>],
+        lanes: &[LaneEnd<H>],
+    ) -> Option<FinishFault>
+        ensures none { IfNone result ((length self.now.book.journal.accepted ≤ sum seats.now) × IsInOrder (λ e. e.lane) self.now.book.journal.lanes lanes.now) }
+        ensures seats_out { result ≡ Some FinishFault.SeatsOut → sum seats.now < length self.now.book.journal.accepted }
+        ensures lanes_out { result ≡ Some FinishFault.LanesOut → (length self.now.book.journal.accepted ≤ sum seats.now)
+            × ¬ IsInOrder (λ e. e.lane) self.now.book.journal.lanes lanes.now }
+        ensures memory { result ≢ Some FinishFault.NoMemory }
+    {
+        if missing(self.book.journal().accepted().len(), seats) > 0 {
+            return Some(FinishFault::SeatsOut);
+        }
+        if !in_order(lanes, self.feeds.len()) {
+            return Some(FinishFault::LanesOut);
+        }
+        None
+    }
+
+    /// As `Board::finish`, without a lock.
+    pub fn finish<H: PostHook + Drop>(
+        self,
+        alloc: Global,
+        seats: Vec<Seat<B>>,
+        lanes: Vec<LaneEnd<H>>,
+    ) -> Result<Report<H>, Unfinished<Inside<B>, B, H>>
+        requires { All (λ e. e.take_end.queue ≡ B.queue e.lane) lanes.items }
+        ensures back { IfErr result (λ u. (u.board ≡ self) × (u.seats ≡ seats) × (u.lanes ≡ lanes)) }
+        ensures seats_out { IfErr result (λ u. u.fault ≡ FinishFault.SeatsOut → sum seats.items < length self.book.journal.accepted) }
+        ensures lanes_out { IfErr result (λ u. u.fault ≡ FinishFault.LanesOut → (length self.book.journal.accepted ≤ sum seats.items)
+            × ¬ IsInOrder (λ e. e.lane) self.book.journal.lanes lanes.items) }
+        ensures no_memory { IfErr result (λ u. u.fault ≡ FinishFault.NoMemory → (length self.book.journal.accepted ≤ sum seats.items)
+            × IsInOrder (λ e. e.lane) self.book.journal.lanes lanes.items) }
+        ensures accepted { IfOk result (λ r. r.accepted.items ≡ self.book.journal.accepted) }
+        ensures legal { IfOk result (λ r. IsLegal r.accepted.items) }
+        ensures counts { IfOk result (λ r. vec_len r.accepted ≡ sum seats.items) }
+        ensures lanes { IfOk result (λ r. (vec_len r.lanes ≡ vec_len lanes) × EachPair (λ e x. (x.lane ≡ e.lane) × (x.hook ≡ e.hook) × (x.how ≡ e.how)) lanes.items r.lanes.items) }
+        ensures handed { IfOk result (λ r. HandOver H.handed (vec_len r.lanes) r.accepted.items r.lanes.items) }
+        ensures delivered { IfOk result (λ r. TellEachUpload H.handed (vec_len r.lanes) r.accepted.items r.lanes.items) }
+    {
+        if let Some(fault) = self.fault(seats.as_slice(), lanes.as_slice()) {
+            return Err(Unfinished {
+                fault,
+                board: self,
+                seats,
+                lanes,
+            });
+        }
+        let Ok(accepted) = accepted_by(alloc, &self.book) else {
+            return Err(Unfinished {
+                fault: FinishFault::NoMemory,
+                board: self,
+                seats,
+                lanes,
+            });
+        };
+        let Ok(reports) = Vec::with_capacity(alloc, lanes.len()) else {
+            return Err(Unfinished {
+                fault: FinishFault::NoMemory,
+                board: self,
+                seats,
+                lanes,
+            });
+        };
+        let Inside {
+            book,
+            feeds,
+            given: _,
+            rest,
+            mut total,
+        } = self;
+        let mut all = gathered(rest, seats);
+        total.audit(&mut all);
+        let lanes = settle(&book, reports, feeds, lanes);
+        Ok(Report { accepted, lanes })
+    }
+}
+
+impl<B: Naming> Board<B> {
+    /// Ends the board, once all its seats and the ends of its lanes are brought back, and reports. What a lane's post-hook was handed is the
+    /// first of the lane's log of the accepted changes: of each upload the first of its events, each once and in order, and none
+    /// after its end; all of them where the lane is drained. Where something is missing, or memory is, all that was given
+    /// comes back with the reason, the first that holds in the order of `FinishFault`. It waits for nobody.
+    pub fn finish<H: PostHook + Drop>(
+        self,
+        alloc: Global,
+        seats: Vec<Seat<B>>,
+        lanes: Vec<LaneEnd<H>>,
+    ) -> Result<Report<H>, Unfinished<Board<B>, B, H>>
+        requires { All (λ e. e.take_end.queue ≡ B.queue e.lane) lanes.items }
+        ensures back { IfErr result (λ u. (u.seats ≡ seats) × (u.lanes ≡ lanes)) }
+        ensures refused { IfErr result (λ u. (s : Standing) × IsLawfulStanding B.queue s
+            × IsRefusedFor u.fault (length s.book.journal.accepted) (sum seats.items)
+            (IsInOrder (λ e. e.lane) s.book.journal.lanes lanes.items)) }
+        ensures legal { IfOk result (λ r. IsLegal r.accepted.items) }
+        ensures counts { IfOk result (λ r. vec_len r.accepted ≡ sum seats.items) }
+        ensures lanes { IfOk result (λ r. (vec_len r.lanes ≡ vec_len lanes) × EachPair (λ e x. (x.lane ≡ e.lane) × (x.hook ≡ e.hook) × (x.how ≡ e.how)) lanes.items r.lanes.items) }
+        ensures handed { IfOk result (λ r. HandOver H.handed (vec_len r.lanes) r.accepted.items r.lanes.items) }
+        ensures delivered { IfOk result (λ r. TellEachUpload H.handed (vec_len r.lanes) r.accepted.items r.lanes.items) }
+    {
+        let Board { inside, bells } = self;
+        let inside = inside.into_inner();
+        inside.is_lawful();
+        match inside.finish(alloc, seats, lanes) {
+            Ok(report) => Ok(report),
+            Err(
+                Unfinished {
+                    fault,
+                    board,
+                    seats,
+                    lanes,
+                },
+            ) => Err(Unfinished {
+                fault,
+                board: Board {
+                    inside: Mutex::new(board),
+                    bells,
+                },
+                seats,
+                lanes,
+            }),
+        }
+    }
+}

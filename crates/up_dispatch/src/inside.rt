@@ -1,0 +1,222 @@
+//! What lies under the board's lock.
+ghost use Rattle.std.specs.Prelude.{◌≡◌, ℕ, ◌+◌, ◌<◌, ◌≤◌, ◌^◌, [], length, IfOk, OnOk, OnErr, IsErr, IfSome, IfNone, true, false};
+ghost use Rattle.up_events.specs.Records.{lane_log};
+ghost use Rattle.up_queue.specs.Line.{items_if};
+ghost use Rattle.up_queue.specs.Sides.{WasFull};
+ghost use Rattle.up_headers.specs.Table.{FitsWithin};
+ghost use Rattle.up_machine.specs.State.{empty_state};
+ghost use Rattle.up_machine.specs.Decision.{Answers, decide, decide_plan, is_asked, is_refusal};
+ghost use Rattle.up_dispatch.specs.Lists.{EachAt};
+ghost use Rattle.up_dispatch.specs.Puts.{end_at, Extends, FillsOnly, IsFilled};
+ghost use Rattle.up_dispatch.specs.Commits.{changed, noted_in, CommitsTo};
+ghost use Rattle.up_dispatch.specs.Parts.{NamesQueues};
+ghost use Rattle.up_dispatch.specs.Standing.{IsLawfulStanding};
+
+use crate::feed::{Feed, Filled};
+use crate::naming::Naming;
+use crate::parts::{BoardParts, MOST_SEATS};
+use crate::seat::Seat;
+use std::alloc::Global;
+use std::marker::Model;
+use std::sync::ledger::Share;
+use std::sync::{Wait, ledger};
+use up_events::{Id, MOST_BYTES, MOST_LANES, NoMemory};
+use up_headers::Request;
+use up_machine::{Asked, Book, Done, Plan, Refusal};
+use up_queue::TakeEnd;
+
+/// The book, how far each lane's queue was filled, and the ledger of the changes that were made from seats.
+#[derive(Drop)]
+pub struct Inside<B: Naming> {
+    pub(crate) book: Book,
+    pub(crate) feeds: Vec<Feed>,
+    pub(crate) given: u64,
+    pub(crate) rest: Share<B>,
+    pub(crate) total: ledger::Book<B>,
+}
+
+impl<B: Naming> Model for Inside<B> {
+    ghost use Rattle.up_dispatch.specs.Standing.{Standing, standing, IsLawfulBoard};
+    ghost use Rattle.up_dispatch.specs.StandingCode.{standing_code};
+
+    ghost Value = { Standing };
+
+    ghost coded = { standing_code };
+
+    ghost view = { λ i. standing i.book i.feeds.items i.given i.total.total };
+
+    ghost invariant = { λ i. IsLawfulBoard B.queue i.book i.feeds.items i.given i.total.total i.rest.parts i.rest.amount };
+}
+
+impl<B: Naming> Inside<B> {
+    /// An open book with no upload, over empty queues, and the ends by which these are emptied.
+    pub fn new(
+        alloc: Global,
+        parts: BoardParts,
+        max_size: u64,
+    ) -> Result<(Inside<B>, Vec<TakeEnd>), NoMemory>
+        requires name { parts.name ≡ B.name }
+        requires parts { parts.parts ≡ B.parts }
+        requires queues { NamesQueues B.queue parts.queues }
+        requires some_lane { 0 < length parts.queues }
+        requires few_lanes { length parts.queues ≤ MOST_LANES }
+        requires small { max_size ≤ MOST_BYTES }
+        ensures book { IfOk result (λ r. r.0.book ≡ empty_state (length parts.queues) max_size) }
+        ensures counts { IfOk result (λ r. (r.0.given ≡ 0) × (r.0.total ≡ 0)) }
+        ensures ends { IfOk result (λ r. (length r.1.items ≡ length parts.queues) × EachAt (λ k e. (e.taken ≡ []) × (e.queue ≡ B.queue k)) r.1.items) }
+    {
+        let BoardParts {
+            feeds,
+            takes,
+            blank,
+        } = parts;
+        let book = Book::new(alloc, feeds.len() as u64, max_size)?;
+        let _ = book.journal();
+        let (total, rest) = blank.open::<B>();
+        Ok((
+            Inside {
+                book,
+                feeds,
+                given: 0,
+                rest,
+                total,
+            },
+            takes,
+        ))
+    }
+
+    /// As many lanes as the board has.
+    pub fn lanes(&self) -> u64
+        ensures lanes { result ≡ self.now.book.journal.lanes }
+        ensures some { 0 < result }
+    {
+        self.feeds.len() as u64
+    }
+
+    /// What would come of a request.
+    pub fn plan(&self, alloc: Global, request: &Request) -> Result<Plan, Refusal>
+        ensures { Answers result (decide_plan self.now.book request.now) }
+    {
+        self.book.plan(alloc, request)
+    }
+
+    /// Puts what is left of the lane's log into its queue, until that is full.
+    pub fn fill<R: Wait>(&mut self, rt: &R, lane: u64) -> Filled
+        requires { lane < self.old.book.journal.lanes }
+        ensures book { self.new ≡ record self.old { ends = self.new.ends } }
+        ensures fills { FillsOnly self.old.ends self.new.ends lane }
+        ensures whole { result ≡ Filled.Whole → (end_at self.new.ends lane).put ≡ items_if (lane_log self.old.book.journal lane) self.old.book.closed }
+        ensures full { result ≡ Filled.Full → WasFull (end_at self.new.ends lane) }
+        ensures filled { IsFilled self.old.book lane (end_at self.new.ends lane) }
+    {
+        let closed = self.book.is_closed();
+        let log = self.book.journal().lane_log(lane);
+        let feed = &mut self.feeds[lane as usize];
+        feed.fill(rt, log, closed)
+    }
+
+    /// Whether there is nothing for a lane that has taken so many items: all of its log was put, all that was put was taken,
+    /// and more may come.
+    pub fn is_idle(&self, lane: u64, taken: u64) -> bool
+        ensures all { result ≡ true → taken ≡ length (lane_log self.now.book.journal lane) }
+        ensures open { result ≡ true → self.now.book.closed ≡ false }
+    {
+        let Some(feed) = self.feeds.get(lane as usize) else {
+            return false;
+        };
+        let all = self.book.journal().lane_log(lane).len();
+        !self.book.is_closed() && feed.cursor == all && all as u64 == taken
+    }
+
+    /// What lies under the lock is a lawful board. A law: it does nothing.
+    pub fn is_lawful(&self)
+        ensures { IsLawfulStanding B.queue self.now }
+    {
+        let _ = self.feeds.len();
+    }
+
+    /// The ledger counts no fewer changes than this seat made, and as many as were accepted.
+    pub fn audit(&mut self, seat: &mut Seat<B>)
+        ensures same { (self.new ≡ self.old) × (seat.new ≡ seat.old) }
+        ensures covers { seat.old ≤ self.old.total }
+        ensures counts { self.old.total ≡ length self.old.book.journal.accepted }
+        ensures lawful { IsLawfulStanding B.queue self.old }
+    {
+        let Inside { total, .. } = self;
+        let Seat { share, .. } = seat;
+        total.audit(share);
+    }
+
+    // The book's commit, and the ledger's and the seat's count of it.
+    fn note(
+        &mut self,
+        alloc: Global,
+        seat: &mut Seat<B>,
+        request: Request,
+        id: Id,
+        asked: &Asked,
+    ) -> Result<Done, Refusal>
+        requires bounded { FitsWithin MOST_BYTES request }
+        ensures answer { Answers result (decide self.old.book request id asked.now) }
+        ensures ok { IfOk result (λ done. (self.new ≡ noted_in self.old request id done.change) × (seat.new ≡ seat.old + changed done.change)) }
+        ensures err { OnErr result ((self.new ≡ self.old) × (seat.new ≡ seat.old)) }
+        ensures closure_refuses { is_asked request ≡ true → is_refusal asked.now ≡ true → IsErr result × (self.new ≡ self.old) }
+    {
+        let Inside { book, total, .. } = self;
+        let Seat { share, count } = seat;
+        total.audit(share);
+        let done = book.commit(alloc, request, id, asked)?;
+        let _ = book.journal().accepted().len();
+        let changes = u64::from(done.change.is_some());
+        total.add(share, changes);
+        *count += changes;
+        Ok(done)
+    }
+
+    /// Decides on a request from a seat as the book does, and puts the events of its change.
+    pub fn commit<R: Wait>(
+        &mut self,
+        rt: &R,
+        alloc: Global,
+        seat: &mut Seat<B>,
+        request: Request,
+        id: Id,
+        asked: &Asked,
+    ) -> Result<Done, Refusal>
+        requires bounded { FitsWithin MOST_BYTES request }
+        ensures { CommitsTo B.queue self.old self.new seat.old seat.new request id asked.now result }
+    {
+        self.audit(seat);
+        let done = self.note(alloc, seat, request, id, asked)?;
+        if let Some(change) = &done.change {
+            let lane = change.id().lane(self.lanes());
+            self.fill(rt, lane);
+        }
+        Ok(done)
+    }
+
+    /// Accepts no change from now on, and puts what the queues have room for.
+    pub fn close<R: Wait>(&mut self, rt: &R)
+        ensures book { self.new ≡ record self.old { book = record self.old.book { closed = true }; ends = self.new.ends } }
+        ensures extends { (lane : ℕ) → Extends (end_at self.old.ends lane) (end_at self.new.ends lane) }
+        ensures filled { (lane : ℕ) → lane < self.old.book.journal.lanes → IsFilled self.new.book lane (end_at self.new.ends lane) }
+    {
+        self.book.close();
+        for lane in 0..self.lanes() {
+            self.fill(rt, lane);
+        }
+    }
+
+    /// The next seat, unless all were given out.
+    pub fn seat(&mut self) -> Option<Seat<B>>
+        ensures given { IfSome result (λ s. (s ≡ 0) × (self.new ≡ record self.old { given = self.old.given + 1 })) }
+        ensures none { IfNone result ((self.old.given ≡ MOST_SEATS) × (self.new ≡ self.old)) }
+    {
+        if self.given >= MOST_SEATS {
+            return None;
+        }
+        let share = self.rest.split_off(1, 0);
+        self.given += 1;
+        Some(Seat { share, count: 0 })
+    }
+}

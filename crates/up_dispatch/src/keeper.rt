@@ -1,0 +1,146 @@
+//! What answers requests: a book that is lent, or a seat of a board.
+ghost use Rattle.std.specs.Prelude.{◌≡◌};
+ghost use Rattle.up_headers.specs.Table.{FitsWithin};
+
+use crate::board::Board;
+use crate::naming::Naming;
+use crate::seat::Seat;
+use std::alloc::Global;
+use std::sync::Wait;
+use up_events::{Id, MOST_BYTES};
+use up_headers::Request;
+use up_machine::{Asked, Book, Done, Plan, Refusal};
+
+/// What requests are planned and committed by. A commit looks at everything again that its plan looked at, since others may change
+/// the same uploads in between.
+pub trait Keeper {
+    ghost use Rattle.std.specs.Prelude.{◌≡◌, ℕ};
+    ghost use Rattle.up_headers.specs.Table.{FitsWithin};
+    ghost use Rattle.up_dispatch.specs.Keeps.{Planning, Committing};
+
+    /// What is known of it.
+    ghost State: { Type 0 };
+
+    ghost state: { Self → State };
+
+    /// The borrow that it holds, which no call changes.
+    ghost lender: { Self → ℕ };
+
+    /// What a plan may be.
+    ghost plans: { Planning State };
+
+    /// What a commit may leave and answer.
+    ghost commits: { Committing State };
+
+    /// What would come of a request. Changes nothing.
+    fn plan(&mut self, alloc: Global, request: &Request) -> Result<Plan, Refusal>
+        ensures plan { plans (state self.old) request.now result }
+        ensures same { state self.new ≡ state self.old }
+        ensures lender { lender self.new ≡ lender self.old };
+
+    /// Decides on a request, and carries it out where nothing refuses it. The id is for a new upload.
+    fn commit(
+        &mut self,
+        alloc: Global,
+        request: Request,
+        id: Id,
+        asked: &Asked,
+    ) -> Result<Done, Refusal>
+        requires bounded { FitsWithin MOST_BYTES request }
+        ensures commit { commits (state self.old) request id asked.now (state self.new) result }
+        ensures lender { lender self.new ≡ lender self.old };
+}
+
+/// A book that is lent: nobody else changes it.
+#[derive(Drop)]
+pub struct Lent<'a> {
+    book: &'a mut Book,
+}
+
+impl<'a> Lent<'a> {
+    /// Lends the book.
+    pub fn new(book: &'a mut Book) -> Lent<'a>
+        ensures state { ⟦<Lent<'a> as Keeper>⟧.state result ≡ book.old }
+        ensures lender { ⟦<Lent<'a> as Keeper>⟧.lender result ≡ book.entry.ghost_name }
+    {
+        Lent { book }
+    }
+}
+
+impl Keeper for Lent<'_> {
+    ghost use Rattle.std.specs.Prelude.{◌≡◌};
+    ghost use Rattle.up_machine.specs.State.{State};
+    ghost use Rattle.up_dispatch.specs.Keepers.{BookPlans, BookCommits};
+
+    ghost State = { State };
+
+    ghost state = { λ k. k.book.now };
+
+    ghost lender = { λ k. k.book.ghost_name };
+
+    ghost plans = { BookPlans };
+
+    ghost commits = { BookCommits };
+
+    fn plan(&mut self, alloc: Global, request: &Request) -> Result<Plan, Refusal> {
+        self.book.plan(alloc, request)
+    }
+
+    fn commit(
+        &mut self,
+        alloc: Global,
+        request: Request,
+        id: Id,
+        asked: &Asked,
+    ) -> Result<Done, Refusal> {
+        self.book.commit(alloc, request, id, asked)
+    }
+}
+
+/// A board, by one of its seats. Others may change the board between any two calls.
+#[derive(Drop)]
+pub struct Seated<'a, B: Naming, R: Wait> {
+    rt: &'a R,
+    board: &'a Board<B>,
+    seat: &'a mut Seat<B>,
+}
+
+impl<'a, B: Naming, R: Wait> Seated<'a, B, R> {
+    /// Takes the seat.
+    pub fn new(rt: &'a R, board: &'a Board<B>, seat: &'a mut Seat<B>) -> Seated<'a, B, R>
+        ensures state { ⟦<Seated<'a, B, R> as Keeper>⟧.state result ≡ seat.old }
+        ensures lender { ⟦<Seated<'a, B, R> as Keeper>⟧.lender result ≡ seat.entry.ghost_name }
+    {
+        Seated { rt, board, seat }
+    }
+}
+
+impl<B: Naming, R: Wait> Keeper for Seated<'_, B, R> {
+    ghost use Rattle.std.specs.Prelude.{◌≡◌, ℕ};
+    ghost use Rattle.up_dispatch.specs.Keepers.{SeatPlans, SeatCommits};
+
+    ghost State = { ℕ };
+
+    ghost state = { λ k. k.seat.now };
+
+    ghost lender = { λ k. k.seat.ghost_name };
+
+    ghost plans = { SeatPlans B.queue };
+
+    ghost commits = { SeatCommits B.queue };
+
+    fn plan(&mut self, alloc: Global, request: &Request) -> Result<Plan, Refusal> {
+        self.board.plan(self.rt, alloc, self.seat, request)
+    }
+
+    fn commit(
+        &mut self,
+        alloc: Global,
+        request: Request,
+        id: Id,
+        asked: &Asked,
+    ) -> Result<Done, Refusal> {
+        self.board
+            .commit(self.rt, alloc, self.seat, request, id, asked)
+    }
+}

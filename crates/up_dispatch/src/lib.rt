@@ -1,0 +1,29 @@
+//! A book behind one lock, the lanes that it feeds, and the conversations that change it.
+#![tactic(auto)]
+
+mod answering;
+mod board;
+mod conversation;
+mod feed;
+mod finish;
+mod ids;
+mod inside;
+mod keeper;
+mod lending;
+mod naming;
+mod parts;
+mod reply;
+mod seat;
+
+pub use answering::answer;
+pub use board::Board;
+pub use conversation::{Ended, MOST_MESSAGES, converse};
+pub use feed::Filled;
+pub use finish::{FinishFault, LaneReport, Report, Unfinished};
+pub use ids::{Counting, Ids, SharedIds};
+pub use inside::Inside;
+pub use keeper::{Keeper, Lent, Seated};
+pub use lending::{converse_by_book, lent_answer_is_exact, lent_conversation_is_exact};
+pub use naming::Naming;
+pub use parts::{BoardParts, MOST_SEATS};
+pub use seat::Seat;

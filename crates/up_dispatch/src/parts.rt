@@ -1,0 +1,59 @@
+//! What a board is made of.
+ghost use Rattle.std.specs.Prelude.{◌≡◌, ◌<◌, length, IfOk};
+
+use crate::feed::Feed;
+use std::alloc::Global;
+use std::marker::Model;
+use std::sync::ledger::Blank;
+use up_events::NoMemory;
+use up_queue::{TakeEnd, lane_queue};
+
+/// The most seats that a board gives out.
+pub const MOST_SEATS: u64 = 65_536;
+
+/// The queues of a board and its blank ledger, which have no name yet.
+#[derive(Drop)]
+pub struct BoardParts {
+    pub(crate) feeds: Vec<Feed>,
+    pub(crate) takes: Vec<TakeEnd>,
+    pub(crate) blank: Blank,
+}
+
+impl Model for BoardParts {
+    ghost use Rattle.std.specs.Prelude.{◌≡◌, ◌+◌};
+    ghost use Rattle.up_dispatch.specs.Parts.{Parts, parts_of, AreNew};
+    ghost use Rattle.up_dispatch.specs.declared.parts.TheConstants.{MOST_SEATS};
+
+    ghost Value = { Parts };
+
+    ghost view = { λ p. parts_of p.blank.name p.blank.parts p.feeds.items };
+
+    ghost invariant = { λ p. (p.blank.parts ≡ MOST_SEATS + 1) × AreNew p.feeds.items p.takes.items };
+}
+
+impl BoardParts {
+    /// An empty queue for each lane, which holds so many items, and the ledger of the seats.
+    pub fn new(alloc: Global, lanes: u64, capacity: u64) -> Result<BoardParts, NoMemory>
+        requires { 0 < capacity }
+        ensures { IfOk result (λ p. length p.queues ≡ lanes) }
+    {
+        let mut feeds = Vec::new(alloc);
+        let mut takes = Vec::new(alloc);
+        for _lane in 0..lanes {
+            let Ok((put_end, take_end)) = lane_queue(alloc, capacity) else {
+                return Err(NoMemory);
+            };
+            feeds.push(Feed {
+                put_end,
+                cursor: 0,
+                ended: false,
+            })?;
+            takes.push(take_end)?;
+        }
+        Ok(BoardParts {
+            feeds,
+            takes,
+            blank: Blank::new(MOST_SEATS + 1),
+        })
+    }
+}

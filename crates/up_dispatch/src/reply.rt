@@ -1,0 +1,92 @@
+//! What is answered where a message or a request is refused.
+ghost use Rattle.std.specs.Prelude.{◌≡◌, IfOk};
+ghost use Rattle.up_machine.specs.Refusals.{response_of};
+ghost use Rattle.up_dispatch.specs.Replies.{IsReply, method_refused_with, reply_to_header_fault, reply_to_wire_fault, version_refused_with};
+
+use bytes::Bytes;
+use std::alloc::{AllocError, Global};
+use up_headers::HeaderFault;
+use up_machine::{Refusal, response_of};
+use up_wire::{Response, WireFault};
+
+/// To a message of another version of the protocol: which version there is (tus 1.0.0, Tus-Version), and why.
+fn version_refused(alloc: Global, status: u16, text: &'static str) -> Result<Response, AllocError>
+    ensures { IfOk result (λ made. made ≡ version_refused_with status text.now) }
+{
+    let response = Response::new(alloc, status).with_field(alloc, b"Tus-Version", b"1.0.0")?;
+    response.with_plain_text(alloc, Bytes::from_static(text.as_bytes()))
+}
+
+/// To a message whose method is refused: which methods there are at an upload or at the creation URL (RFC 9110,
+/// section 10.2.1), and why.
+fn method_refused(
+    alloc: Global,
+    status: u16,
+    text: &'static str,
+    of_upload: bool,
+) -> Result<Response, AllocError>
+    ensures { IfOk result (λ made. made ≡ method_refused_with status text.now of_upload) }
+{
+    let methods: &[u8] = if of_upload {
+        b"OPTIONS, HEAD, GET, PATCH, DELETE"
+    } else {
+        b"OPTIONS, POST"
+    };
+    let response = Response::new(alloc, status).with_field(alloc, b"Allow", methods)?;
+    response.with_plain_text(alloc, Bytes::from_static(text.as_bytes()))
+}
+
+/// What is answered to a message that can't be read. Where memory is wanting, that is answered instead; and so it is for
+/// a fault that isn't answered.
+pub fn reply_to_wire_fault(alloc: Global, fault: WireFault) -> Response
+    ensures { IsReply (reply_to_wire_fault fault) result }
+{
+    let Some(status) = fault.status() else {
+        return Response::out_of_memory(alloc);
+    };
+    let made = match fault {
+        WireFault::NoMemory => return Response::out_of_memory(alloc),
+        _ => Response::refused(alloc, status, fault.text()),
+    };
+    made.unwrap_or(Response::out_of_memory(alloc))
+}
+
+/// What is answered to a message that is no request. Where memory is wanting, that is answered instead.
+pub fn reply_to_header_fault(alloc: Global, fault: HeaderFault) -> Response
+    ensures { IsReply (reply_to_header_fault fault) result }
+{
+    let made = match fault {
+        HeaderFault::NoMemory => return Response::out_of_memory(alloc),
+        HeaderFault::Version => version_refused(alloc, fault.status(), fault.text()),
+        HeaderFault::Method { of_upload } => {
+            method_refused(alloc, fault.status(), fault.text(), of_upload)
+        }
+        _ => Response::refused(alloc, fault.status(), fault.text()),
+    };
+    made.unwrap_or(Response::out_of_memory(alloc))
+}
+
+/// What is answered to a request that is refused. Where memory is wanting, that is answered instead.
+pub fn reply_to_refusal(alloc: Global, refusal: &Refusal) -> Response
+    ensures { IsReply (response_of refusal.now) result }
+{
+    response_of(alloc, refusal).unwrap_or(Response::out_of_memory(alloc))
+}
+
+#[cfg(test)]
+mod tests {
+    use super::*;
+
+    #[test]
+    fn says_no_more_than_503_where_memory_is_wanting(rt: HostRuntime) {
+        let replies = [
+            reply_to_wire_fault(rt.alloc(), WireFault::NoMemory),
+            reply_to_header_fault(rt.alloc(), HeaderFault::NoMemory),
+            reply_to_refusal(rt.alloc(), &Refusal::NoMemory),
+        ];
+        for response in replies {
+            assert_eq!(rt; response.status, 503);
+            assert_eq!(rt; (response.fields.len(), response.body.len()), (0, 0));
+        }
+    }
+}

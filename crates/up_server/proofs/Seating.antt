@@ -1,0 +1,19 @@
+-- The count of the only seat is what was accepted.
+use Rattle.std.proofs.Common.{◌≡◌, ℕ, ◌++◌, ◌∷◌, [], List, sum, sym, ap, ◌∙◌, subst, arith}
+use Rattle.up_dispatch.specs.Keeps.{Gives}
+use Rattle.up_dispatch.specs.declared.conversation.Ended.{Ended}
+use Rattle.up_queue.specs.Sides.{QueueId}
+use Rattle.up_server.specs.Seats.{IsServedFrom}
+use Rattle.up_wire.specs.Device.{Device}
+
+pub only_seat : (seats none : List ℕ) (count : ℕ) → none ≡ [] → seats ≡ none ++ count ∷ [] → sum seats ≡ count
+only_seat seats none count p q = ap sum (q ∙ ap (λ l. l ++ count ∷ []) p) ∙ omega arith
+
+pub served_so : (queue : ℕ → QueueId) (gives : Gives) (max_size first last none count : ℕ) (i j k l : Device) (ended : Ended) → first ≡ none → last ≡ count
+    → IsServedFrom queue gives max_size first last i j k l ended → IsServedFrom queue gives max_size none count i j k l ended
+served_so queue gives max_size first last none count i j k l ended p q served =
+    subst (λ n. IsServedFrom queue gives max_size n count i j k l ended) p (subst (λ n. IsServedFrom queue gives max_size first n i j k l ended) q served)
+
+-- what was lent three times came back so
+pub come_back : {X Y Z : Type 0} (P : X → Y → Z → Type 0) (x x' : X) (y y' : Y) (z z' : Z) → x' ≡ x → y' ≡ y → z' ≡ z → P x y z → P x' y' z'
+come_back P x x' y y' z z' p q r is = subst (λ a. P a y' z') (sym p) (subst (λ b. P x b z') (sym q) (subst (λ c. P x y c) (sym r) is))

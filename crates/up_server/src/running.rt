@@ -1,0 +1,197 @@
+//! One conversation on a new board, with each lane in a thread of its own.
+ghost use Rattle.std.specs.Prelude.{◌≡◌, ◌≤◌, IfOk, vec_len, [], length, All};
+ghost use Rattle.up_hooks.specs.Gives.{ClosuresGive};
+ghost use Rattle.up_dispatch.specs.Lists.{EachAt};
+ghost use Rattle.up_dispatch.specs.Parts.{NamesQueues};
+ghost use Rattle.up_server.specs.Seats.{IsServedFrom};
+ghost use Rattle.up_server.specs.Run.{IsRun};
+
+use crate::lanes::{lanes_over, start_all};
+use crate::settings::Settings;
+use std::alloc::{AllocError, Global};
+use std::marker::{Send, Sync};
+use std::sync::Wait;
+use std::thread;
+use std::thread::{Scope, Threads};
+use up_dispatch::{Board, BoardParts, Counting, Ended, Naming, Report, Seat, Seated, converse};
+use up_events::{MOST_BYTES, NoMemory};
+use up_hooks::{PostHook, PreHooks};
+use up_lanes::{Lane, LaneEnd};
+use up_wire::{Sink, Source};
+
+/// How a conversation ended, and how each lane did.
+#[derive(Drop)]
+struct Driven<H: PostHook> {
+    ended: Ended,
+    lanes: Vec<LaneEnd<H>>,
+}
+
+/// What came of a run: the report, and how its conversation ended.
+#[derive(Drop)]
+pub struct Served<H> {
+    pub report: Report<H>,
+    pub ended: Ended,
+}
+
+/// Serves one conversation from a seat, its ids counted from 1.
+fn converse_from<B: Naming, R: Source, W: Sink, T: Wait>(
+    rt: &T,
+    alloc: Global,
+    board: &Board<B>,
+    seat: &mut Seat<B>,
+    hooks: &PreHooks,
+    max_size: u64,
+    source: &mut R,
+    sink: &mut W,
+) -> Ended
+    requires small { max_size ≤ MOST_BYTES }
+    ensures served { IsServedFrom B.queue (ClosuresGive hooks.now) max_size seat.old seat.new
+        (R.device source.old) (R.device source.new) (W.device sink.old) (W.device sink.new) result }
+{
+    let mut seated = Seated::new(rt, board, seat);
+    let mut ids = Counting::new();
+    converse(alloc, &mut seated, hooks, &mut ids, max_size, source, sink)
+}
+
+/// Starts the lanes in the scope, serves one conversation from the seat, closes the board, and waits for the lanes. Where a lane can't be
+/// started the board is closed at once, so that those that were started end.
+fn drive_in<
+    's,
+    E,
+    B: Naming + Send + Sync,
+    H: PostHook + Drop + 's,
+    R: Source,
+    W: Sink,
+    T: Threads + Wait + Sync,
+>(
+    scope: &Scope<'s, E>,
+    rt: &'s T,
+    alloc: Global,
+    board: &'s Board<B>,
+    seat: &mut Seat<B>,
+    lanes: Vec<Lane<H>>,
+    hooks: &PreHooks,
+    max_size: u64,
+    source: &mut R,
+    sink: &mut W,
+) -> Result<Driven<H>, AllocError>
+    requires lanes { EachAt (λ k l. (l.lane ≡ k) × (l.queue ≡ B.queue k)) lanes.items }
+    requires small { max_size ≤ MOST_BYTES }
+    ensures count { IfOk result (λ d. vec_len d.lanes ≡ vec_len lanes) }
+    ensures ends { IfOk result (λ d. EachAt (λ k e. H.is_sound e.hook × (e.lane ≡ k) × (e.take_end.queue ≡ B.queue k)) d.lanes.items) }
+    ensures served { IfOk result (λ d. IsServedFrom B.queue (ClosuresGive hooks.now) max_size seat.old seat.new
+        (R.device source.old) (R.device source.new) (W.device sink.old) (W.device sink.new) d.ended) }
+{
+    let running = match start_all(scope, rt, alloc, board, lanes) {
+        Ok(running) => running,
+        Err(fault) => {
+            board.close(rt);
+            return Err(fault);
+        }
+    };
+    let ended = converse_from(rt, alloc, board, seat, hooks, max_size, source, sink);
+    board.close(rt);
+    let lanes = thread::join_promised(rt, running)?;
+    Ok(Driven { ended, lanes })
+}
+
+/// What was lent to a scope's closure and came out of it goes back as it is.
+fn give_back<X>(_lent: &mut X)
+    ensures { _lent.new ≡ _lent.old }
+{}
+
+/// Runs the lanes in threads of their own while this one serves a conversation from its seat, and then closes the board.
+fn drive<B: Naming + Send + Sync, H: PostHook + Drop, R: Source, W: Sink, T: Threads + Wait + Sync>(
+    rt: &T,
+    alloc: Global,
+    board: &Board<B>,
+    seat: &mut Seat<B>,
+    lanes: Vec<Lane<H>>,
+    hooks: &PreHooks,
+    max_size: u64,
+    source: &mut R,
+    sink: &mut W,
+) -> Result<Driven<H>, AllocError>
+    requires lanes { EachAt (λ k l. (l.lane ≡ k) × (l.queue ≡ B.queue k)) lanes.items }
+    requires small { max_size ≤ MOST_BYTES }
+    ensures count { IfOk result (λ d. vec_len d.lanes ≡ vec_len lanes) }
+    ensures ends { IfOk result (λ d. EachAt (λ k e. H.is_sound e.hook × (e.lane ≡ k) × (e.take_end.queue ≡ B.queue k)) d.lanes.items) }
+    ensures served { IfOk result (λ d. IsServedFrom B.queue (ClosuresGive hooks.now) max_size seat.old seat.new
+        (R.device source.old) (R.device source.new) (W.device sink.old) (W.device sink.new) d.ended) }
+{
+    let (driven, seat, source, sink) = thread::scope(
+        thread::scope_env(),
+        rt,
+        move |scope| -> (Result<Driven<H>, AllocError>, &mut Seat<B>, &mut R, &mut W)
+            requires lanes { EachAt (λ k l. (l.lane ≡ k) × (l.queue ≡ B.queue k)) lanes.items }
+            requires small { max_size ≤ MOST_BYTES }
+            ensures count { IfOk result.0 (λ d. vec_len d.lanes ≡ vec_len lanes) }
+            ensures ends { IfOk result.0 (λ d. EachAt (λ k e. H.is_sound e.hook × (e.lane ≡ k) × (e.take_end.queue ≡ B.queue k)) d.lanes.items) }
+            ensures same_seat { result.1.ghost_name ≡ seat.entry.ghost_name }
+            ensures same_source { result.2.ghost_name ≡ source.entry.ghost_name }
+            ensures same_sink { result.3.ghost_name ≡ sink.entry.ghost_name }
+            ensures served { IfOk result.0 (λ d. IsServedFrom B.queue (ClosuresGive hooks.entry.now) max_size seat.entry.now result.1.now
+                (R.device source.entry.now) (R.device result.2.now) (W.device sink.entry.now) (W.device result.3.now) d.ended) }
+        {
+            let driven = drive_in(
+                scope, rt, alloc, board, seat, lanes, hooks, max_size, source, sink,
+            );
+            (driven, seat, source, sink)
+        },
+    );
+    give_back(seat);
+    give_back(source);
+    give_back(sink);
+    driven
+}
+
+/// Serves one conversation from the only seat of a new board of these parts, ends its lanes and reports.
+pub fn run<
+    B: Naming + Send + Sync,
+    H: PostHook + Drop,
+    R: Source,
+    W: Sink,
+    T: Threads + Wait + Sync,
+>(
+    rt: &T,
+    alloc: Global,
+    parts: BoardParts,
+    hooks: &PreHooks,
+    post_hooks: Vec<H>,
+    settings: &Settings,
+    source: &mut R,
+    sink: &mut W,
+) -> Result<Served<H>, NoMemory>
+    requires name { parts.name ≡ B.name }
+    requires parts { parts.parts ≡ B.parts }
+    requires queues { NamesQueues B.queue parts.queues }
+    requires lanes { length parts.queues ≡ settings.now.lanes }
+    requires one_for_each { vec_len post_hooks ≡ settings.now.lanes }
+    requires new { All (λ h. H.is_sound h × (H.handed h ≡ [])) post_hooks.items }
+    ensures run { IfOk result (λ served. IsRun H.handed B.queue (ClosuresGive hooks.now) settings.now served
+        (R.device source.old) (R.device source.new) (W.device sink.old) (W.device sink.new)) }
+    ensures sound { IfOk result (λ served. All (λ x. H.is_sound x.hook) served.report.lanes.items) }
+{
+    let (board, takes) = Board::<B>::new(alloc, parts, settings.max_size)?;
+    let lanes = lanes_over(alloc, takes, post_hooks)?;
+    let Some(mut seat) = board.seat(rt) else {
+        return Err(NoMemory);
+    };
+    let Driven { ended, lanes } = drive(
+        rt,
+        alloc,
+        &board,
+        &mut seat,
+        lanes,
+        hooks,
+        settings.max_size,
+        source,
+        sink,
+    )?;
+    let mut seats = Vec::with_capacity(alloc, 1)?;
+    seats.push(seat)?;
+    match board.finish(alloc, seats, lanes) {
+        Ok(report) => Ok(Served { report, ended }),
+        Err(_) => Err(NoMemory),
+    }
+}
