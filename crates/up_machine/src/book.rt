@@ -203,9 +203,7 @@ impl Book {
         let Some(change) = change_by(id, step.declared, count) else {
             return Ok(Done::unchanged(response));
         };
-        let bytes = patch.bytes.as_slice();
-        self.uploads
-            .take(alloc, &mut self.journal, change, id, step.size, bytes)?;
+        self.uploads.take(alloc, &mut self.journal, change, id, step.size, patch.bytes)?;
         let change = change_by(id, step.declared, count);
         Ok(Done { response, change })
     }

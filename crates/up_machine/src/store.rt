@@ -1,5 +1,5 @@
 //! Where an upload's bytes are.
-ghost use Rattle.std.specs.Prelude.{◌≡◌, ◌+◌, ◌*◌, ◌<◌, ◌≤◌, max, min, vec_len, vec_capacity, IfOk, OnOk};
+ghost use Rattle.std.specs.Prelude.{◌≡◌, ◌+◌, ◌*◌, ◌<◌, ◌≤◌, max, min, nat_lt, not, vec_len, vec_capacity, IfOk, OnOk};
 
 use bytes::Bytes;
 use std::alloc::{AllocError, Global};
@@ -76,4 +76,11 @@ pub fn grow(bytes: &mut Vec<u8>, count: usize, length: u64) -> Result<(), AllocE
     let doubled = bytes.capacity().saturating_mul(2).min(length as usize);
     let room = needed.max(doubled);
     bytes.reserve_exact(room - bytes.len())
+}
+
+/// Whether these bytes have no more room than `grow` may make for them: the length, and twice what they are.
+pub fn has_close_room(bytes: &Vec<u8>, length: u64) -> bool
+    ensures { result ≡ not (nat_lt (min length (2 * vec_len bytes.now)) (vec_capacity bytes.now)) }
+{
+    bytes.capacity() <= bytes.len().saturating_mul(2).min(length as usize)
 }

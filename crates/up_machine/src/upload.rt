@@ -2,7 +2,7 @@
 ghost use Rattle.std.specs.Prelude.{◌≡◌, length, IfOk, OnOk, OnErr};
 ghost use Rattle.std.specs.Option.{option_copied};
 
-use crate::store::{Store, grow};
+use crate::store::{Store, grow, has_close_room};
 use crate::view::View;
 use bytes::Bytes;
 use std::alloc::{AllocError, Global};
@@ -172,19 +172,19 @@ impl Upload {
         self.bytes = store.settled(self.length);
     }
 
-    /// Notes the change, and takes the bytes at the end, with this length from now on. Where memory is wanting, nothing is
-    /// changed.
+    /// Notes the change, and takes the bytes at the end, with this length from now on. The first bytes are moved in where their
+    /// room is close, and else copied. Where memory is wanting, nothing is changed.
     pub fn take(
         &mut self,
         alloc: Global,
         journal: &mut Journal,
         change: Accepted,
         size: Option<u64>,
-        more: &[u8],
+        more: Sequence<u8>,
     ) -> Result<(), NoMemory>
-        requires room { CanTake size (length more.now) self.old }
+        requires room { CanTake size (length more) self.old }
         requires follows { CanFollow journal.old.accepted change }
-        ensures ok { OnOk result (self.new ≡ with_more self.old size more.now) }
+        ensures ok { OnOk result (self.new ≡ with_more self.old size more) }
         ensures noted { OnOk result (journal.new ≡ noted journal.old change) }
         ensures err { OnErr result (self.new ≡ self.old) }
         ensures not_noted { OnErr result (journal.new ≡ journal.old) }
@@ -192,9 +192,16 @@ impl Upload {
         let Store::Open(bytes) = &mut self.bytes else {
             unreachable!()
         };
-        grow(bytes, more.len(), size.unwrap_or(MOST_BYTES))?;
-        journal.note(change)?;
-        bytes.extend_from_slice(more).unwrap();
+        let most = size.unwrap_or(MOST_BYTES);
+        let more = more.into_vec();
+        if bytes.is_empty() && has_close_room(&more, most) {
+            journal.note(change)?;
+            *bytes = more;
+        } else {
+            grow(bytes, more.len(), most)?;
+            journal.note(change)?;
+            bytes.extend_from_slice(&more).unwrap();
+        }
         self.length = size;
         self.settle(alloc);
         Ok(())

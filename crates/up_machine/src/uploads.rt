@@ -13,6 +13,7 @@ use std::collections::BTreeMap;
 use std::collections::btree_map::Entry;
 use std::marker::Model;
 use up_events::{Accepted, Id, Journal, NoMemory};
+use up_wire::Sequence;
 
 /// The uploads that there are, each under its id.
 #[derive(Drop)]
@@ -84,12 +85,12 @@ impl Uploads {
         change: Accepted,
         id: Id,
         size: Option<u64>,
-        more: &[u8],
+        more: Sequence<u8>,
     ) -> Result<(), NoMemory>
-        requires room { IsSomeAnd (map.get self.old id) (CanTake size (length more.now)) }
+        requires room { IsSomeAnd (map.get self.old id) (CanTake size (length more)) }
         requires follows { CanFollow journal.old.accepted change }
         ensures ok { OnOk result (IfSome (map.get self.old id) (λ x.
-            self.new ≡ map.insert self.old id (with_more x size more.now))) }
+            self.new ≡ map.insert self.old id (with_more x size more))) }
         ensures noted { OnOk result (journal.new ≡ noted journal.old change) }
         ensures err { OnErr result (self.new ≡ self.old) }
         ensures not_noted { OnErr result (journal.new ≡ journal.old) }

@@ -38,6 +38,13 @@ impl<T> Sequence<T> {
         Sequence { items }
     }
 
+    /// The elements as a `Vec`, which are not copied.
+    pub fn into_vec(self) -> Vec<T>
+        ensures { result.items ≡ self }
+    {
+        self.items
+    }
+
     /// The elements, in order.
     pub fn as_slice(&self) -> &[T]
         ensures { result.now ≡ self.now }

@@ -1,9 +1,6 @@
 use Rattle.std.proofs.Common.{◌≡◌, Ok, Some, [], ◌∷◌, ◌++◌, length, refl, sym, ap, ◌∙◌, subst, rules}
-use Rattle.std.specs.FinMap as map
-use Rattle.std.specs.Option.{IsSomeAnd}
 use Rattle.up_headers.specs.Rows.{first_that_holds}
 use Rattle.up_headers.specs.declared.request.Request.TheVariants as request
-use Rattle.up_machine.specs.Content.{CanTake}
 use Rattle.up_machine.specs.Decision.{Answers, change_by, decide, rows_of}
 use Rattle.up_machine.specs.Fits.{Fits}
 use Rattle.up_machine.specs.Responses.{reached_offset}
@@ -19,7 +16,7 @@ take-requires-clause-room c =
     let s : State = record { content = a.uploads; journal = a.journal; closed = a.closed; max_size = a.max_size } in
     let made : change_by p.id c.in_ok-step.step.declared (length p.bytes) ≡ Some c.in-Some.change = ap (change_by p.id c.in_ok-step.step.declared) (sym c.len-count.ensures) ∙ sym c.change_by.ensures ∙ c.in-Some.is in
     let takes = patch_takes s p c.args.asked.now c.in_ok-step.step c.in-Some.change c.self.invariant c.in_ok-step.ensures made in
-    subst (λ b. IsSomeAnd (map.get a.uploads p.id) (CanTake c.in_ok-step.step.size (length b))) (sym c.as_slice-bytes.ensures) takes.room
+    takes.room
 
 pub take-requires-clause-follows : goal.take-requires-clause-follows
 take-requires-clause-follows c =
@@ -37,7 +34,7 @@ invariant_of-self-2 c =
     let s : State = record { content = a.uploads; journal = a.journal; closed = a.closed; max_size = a.max_size } in
     let made : change_by p.id c.in_ok-step.step.declared (length p.bytes) ≡ Some c.in-Some.change = ap (change_by p.id c.in_ok-step.step.declared) (sym c.len-count.ensures) ∙ sym c.change_by.ensures ∙ c.in-Some.is in
     let takes = patch_takes s p c.args.asked.now c.in_ok-step.step c.in-Some.change c.self.invariant c.in_ok-step.ensures made in
-    let put = takes.next c.take.new.self (rw c.as_slice-bytes.ensures at c.in_ok-take.ensures.ok) in
+    let put = takes.next c.take.new.self c.in_ok-take.ensures.ok in
     sound_after s c.in-Some.change c.take.new.self c.take.new.journal c.self.invariant takes.can c.in_ok-take.ensures.noted
     (subst (λ (m : Contents). Fits m (a.journal.accepted ++ c.in-Some.change ∷ [])) (sym put) takes.fits)
 
@@ -88,7 +85,7 @@ returns-clause-ok c =
     let s : State = record { content = a.uploads; journal = a.journal; closed = a.closed; max_size = a.max_size } in
     let made : change_by p.id c.in_ok-step.step.declared (length p.bytes) ≡ Some c.in-Some.change = ap (change_by p.id c.in_ok-step.step.declared) (sym c.len-count.ensures) ∙ sym c.change_by.ensures ∙ c.in-Some.is in
     let takes = patch_takes s p c.args.asked.now c.in_ok-step.step c.in-Some.change c.self.invariant c.in_ok-step.ensures made in
-    let put = takes.next c.take.new.self (rw c.as_slice-bytes.ensures at c.in_ok-take.ensures.ok) in
+    let put = takes.next c.take.new.self c.in_ok-take.ensures.ok in
     let change : c.change_by-change.result ≡ Some c.in-Some.change = c.change_by-change.ensures ∙ sym c.change_by.ensures ∙ c.in-Some.is in
     let new : State = record { content = c.take.new.self; journal = c.take.new.journal; closed = a.closed; max_size = a.max_size } in
     let done : new ≡ after s (request.Patch p) 0 (Some c.in-Some.change) = rw (put, c.in_ok-take.ensures.noted) refl in
