@@ -7,6 +7,7 @@ pub mod Feeding
 pub mod Filling
 pub mod Handing
 pub mod HistoryLemmas
+pub mod Idling
 pub mod Moves
 pub mod Prefixes
 pub mod Showing

@@ -30,6 +30,10 @@ get_map f (x ∷ xs) (suc i) d e within = get_map f xs i d e (omega arith)
 abbrev end_of : Feed → PutSide
 end_of f = f.put_end
 
+-- the end of the lane's feed
+pub end_is : (feeds : List Feed) (lane : ℕ) (feed : Feed) → lane < length feeds → feed ≡ get_or feeds lane feed → end_at (ends_of feeds) lane ≡ feed.put_end
+end_is feeds lane feed within is = get_map end_of feeds lane feed no_end within ∙ ap end_of (sym is)
+
 pub end_set : (feeds : List Feed) (lane : ℕ) (new : Feed) → lane < length feeds → end_at (ends_of (set feeds lane new)) lane ≡ new.put_end
 end_set feeds lane new within = ap (λ l. get_or l lane no_end) (map-set end_of feeds lane new) ∙ get_or-set_same (map end_of feeds) lane (end_of new) no_end (omega (arith, length-map feeds end_of))
 
@@ -37,7 +41,7 @@ pub fills_only : (feeds : List Feed) (lane : ℕ) (old new : Feed) → lane < le
     → FillsOnly (ends_of feeds) (ends_of (set feeds lane new)) lane
 fills_only feeds lane old new within is extends =
     let moved : ends_of (set feeds lane new) ≡ set (ends_of feeds) lane (end_of new) = map-set end_of feeds lane new in
-    let was : end_at (ends_of feeds) lane ≡ end_of old = get_map end_of feeds lane old no_end within ∙ ap end_of (sym is) in
+    let was = end_is feeds lane old within is in
     record {
       count = ap length moved ∙ length-set (ends_of feeds) lane (end_of new);
       own = subst (λ e. Extends e (end_at (ends_of (set feeds lane new)) lane)) (sym was) (subst (λ e. Extends (end_of old) e) (sym (end_set feeds lane new within)) extends);

@@ -3,6 +3,7 @@ pub mod ByBook
 pub mod Commits
 pub mod Counts
 pub mod Fed
+pub mod Idle
 pub mod Keepers
 pub mod Keeps
 pub mod Lists

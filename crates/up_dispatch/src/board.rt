@@ -2,7 +2,7 @@
 ghost use Rattle.std.specs.Prelude.{◌≡◌, ◌≤◌, ◌<◌, ◌^◌, [], length, IfOk, IfSome};
 ghost use Rattle.up_headers.specs.Table.{FitsWithin};
 ghost use Rattle.up_dispatch.specs.Lists.{EachAt};
-ghost use Rattle.up_dispatch.specs.Parts.{NamesQueues};
+ghost use Rattle.up_dispatch.specs.Parts.{IsNamed, capacities_of};
 ghost use Rattle.up_dispatch.specs.Keepers.{SeatPlans, SeatCommits};
 
 use crate::inside::Inside;
@@ -35,18 +35,19 @@ fn new_bells(alloc: Global, count: usize) -> Result<Vec<Condvar>, NoMemory> {
 }
 
 impl<B: Naming> Board<B> {
+    /// A board that accepts changes, of uploads of at most `max_size` bytes, and has none yet; and for each lane the end at which its
+    /// items are taken.
     pub fn new(
         alloc: Global,
         parts: BoardParts,
         max_size: u64,
     ) -> Result<(Board<B>, Vec<TakeEnd>), NoMemory>
-        requires name { parts.name ≡ B.name }
-        requires parts { parts.parts ≡ B.parts }
-        requires queues { NamesQueues B.queue parts.queues }
+        requires named { IsNamed B.name B.parts B.queue parts }
         requires some_lane { 0 < length parts.queues }
         requires few_lanes { length parts.queues ≤ MOST_LANES }
         requires small { max_size ≤ MOST_BYTES }
         ensures ends { IfOk result (λ r. (length r.1.items ≡ length parts.queues) × EachAt (λ k e. (e.taken ≡ []) × (e.queue ≡ B.queue k)) r.1.items) }
+        ensures capacities { IfOk result (λ r. capacities_of r.1.items ≡ parts.capacities) }
     {
         let (inside, takes) = Inside::new(alloc, parts, max_size)?;
         let bells = new_bells(alloc, takes.len())?;

@@ -1,5 +1,5 @@
 //! What lies under the board's lock.
-ghost use Rattle.std.specs.Prelude.{◌≡◌, ℕ, ◌+◌, ◌<◌, ◌≤◌, ◌^◌, [], length, IfOk, OnOk, OnErr, IsErr, IfSome, IfNone, true, false};
+ghost use Rattle.std.specs.Prelude.{◌≡◌, ℕ, ◌+◌, ◌<◌, ◌≤◌, ◌^◌, [], length, IfOk, OnOk, OnErr, IsErr, IfSome, IfNone, true, IsTrue, ◌↔◌};
 ghost use Rattle.up_events.specs.Records.{lane_log};
 ghost use Rattle.up_queue.specs.Line.{items_if};
 ghost use Rattle.up_queue.specs.Sides.{WasFull};
@@ -9,7 +9,8 @@ ghost use Rattle.up_machine.specs.Decision.{Answers, decide, decide_plan, is_ask
 ghost use Rattle.up_dispatch.specs.Lists.{EachAt};
 ghost use Rattle.up_dispatch.specs.Puts.{end_at, Extends, FillsOnly, IsFilled};
 ghost use Rattle.up_dispatch.specs.Commits.{changed, noted_in, CommitsTo};
-ghost use Rattle.up_dispatch.specs.Parts.{NamesQueues};
+ghost use Rattle.up_dispatch.specs.Idle.{IsIdle};
+ghost use Rattle.up_dispatch.specs.Parts.{IsNamed, capacities_of};
 ghost use Rattle.up_dispatch.specs.Standing.{IsLawfulStanding};
 
 use crate::feed::{Feed, Filled};
@@ -55,15 +56,14 @@ impl<B: Naming> Inside<B> {
         parts: BoardParts,
         max_size: u64,
     ) -> Result<(Inside<B>, Vec<TakeEnd>), NoMemory>
-        requires name { parts.name ≡ B.name }
-        requires parts { parts.parts ≡ B.parts }
-        requires queues { NamesQueues B.queue parts.queues }
+        requires named { IsNamed B.name B.parts B.queue parts }
         requires some_lane { 0 < length parts.queues }
         requires few_lanes { length parts.queues ≤ MOST_LANES }
         requires small { max_size ≤ MOST_BYTES }
         ensures book { IfOk result (λ r. r.0.book ≡ empty_state (length parts.queues) max_size) }
         ensures counts { IfOk result (λ r. (r.0.given ≡ 0) × (r.0.total ≡ 0)) }
         ensures ends { IfOk result (λ r. (length r.1.items ≡ length parts.queues) × EachAt (λ k e. (e.taken ≡ []) × (e.queue ≡ B.queue k)) r.1.items) }
+        ensures capacities { IfOk result (λ r. capacities_of r.1.items ≡ parts.capacities) }
     {
         let BoardParts {
             feeds,
@@ -118,14 +118,16 @@ impl<B: Naming> Inside<B> {
     /// Whether there is nothing for a lane that has taken so many items: all of its log was put, all that was put was taken,
     /// and more may come.
     pub fn is_idle(&self, lane: u64, taken: u64) -> bool
-        ensures all { result ≡ true → taken ≡ length (lane_log self.now.book.journal lane) }
-        ensures open { result ≡ true → self.now.book.closed ≡ false }
+        ensures { IsTrue result ↔ IsIdle self.now lane taken }
     {
         let Some(feed) = self.feeds.get(lane as usize) else {
             return false;
         };
+        if self.book.is_closed() {
+            return false;
+        }
         let all = self.book.journal().lane_log(lane).len();
-        !self.book.is_closed() && feed.cursor == all && all as u64 == taken
+        feed.cursor == all && all as u64 == taken
     }
 
     /// What lies under the lock is a lawful board. A law: it does nothing.

@@ -13,6 +13,8 @@ mod lending;
 mod naming;
 mod parts;
 mod reply;
+#[cfg(test)]
+mod requests;
 mod seat;
 
 pub use answering::answer;

@@ -1,5 +1,5 @@
 //! What a board is made of.
-ghost use Rattle.std.specs.Prelude.{◌≡◌, ◌<◌, length, IfOk};
+ghost use Rattle.std.specs.Prelude.{◌≡◌, ◌+◌, ◌<◌, length, replicate, IfOk};
 
 use crate::feed::Feed;
 use std::alloc::Global;
@@ -32,10 +32,12 @@ impl Model for BoardParts {
 }
 
 impl BoardParts {
-    /// An empty queue for each lane, which holds so many items, and the ledger of the seats.
+    /// An empty queue for each lane, which holds at most `capacity` items, and the ledger of the seats. Takes the memory for all items.
     pub fn new(alloc: Global, lanes: u64, capacity: u64) -> Result<BoardParts, NoMemory>
         requires { 0 < capacity }
-        ensures { IfOk result (λ p. length p.queues ≡ lanes) }
+        ensures lanes { IfOk result (λ p. length p.queues ≡ lanes) }
+        ensures capacities { IfOk result (λ p. p.capacities ≡ replicate lanes capacity) }
+        ensures seats { IfOk result (λ p. p.parts ≡ MOST_SEATS + 1) }
     {
         let mut feeds = Vec::new(alloc);
         let mut takes = Vec::new(alloc);

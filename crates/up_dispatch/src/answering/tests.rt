@@ -1,46 +1,32 @@
 //! Requests from a seat of a board whose queues are full.
 ghost use Rattle.std.specs.Prelude.{◌≡◌, All, [], length};
-ghost use Rattle.up_dispatch.specs.Parts.{NamesQueues};
+ghost use Rattle.up_dispatch.specs.Parts.{IsNamed};
 
 use super::*;
 use crate::board::Board;
 use crate::keeper::Seated;
 use crate::naming::Naming;
 use crate::parts::BoardParts;
+use crate::requests::{append, creation};
 use std::marker::Brand;
 use std::process::Abort;
 use std::sync::Wait;
 use std::test::Fail;
-use up_events::{Event, Kind};
-use up_headers::{NewUpload, Patch};
+use up_events::Event;
 use up_hooks::{Outcome, PostHook, Recorder};
 use up_lanes::{Lane, Refill, StepEnd};
-use up_wire::Sequence;
 
 /// Five uploads of two bytes are made, and each gets a byte, and then each the other.
 fn fifteen<K: Keeper, R: Abort>(rt: &R, alloc: Global, keeper: &mut K) -> Result<(), Fail> {
     let hooks = PreHooks::new(Vec::new(alloc));
-    for number in 1..6u64 {
-        let request = Request::Create(NewUpload {
-            kind: Kind::Plain,
-            length: Some(2),
-            parts: Sequence::new(alloc),
-            pairs: Sequence::new(alloc),
-            metadata: None,
-            concat: None,
-        });
-        let response = answer(alloc, keeper, &hooks, request, Id::new(u128::from(number)));
+    for number in 1..6u8 {
+        let id = Id::new(u128::from(number));
+        let response = answer(alloc, keeper, &hooks, creation(alloc, 2), id);
         assert_eq!(rt; response.status, 201);
     }
     for offset in 0..2u64 {
-        for number in 1..6u64 {
-            let request = Request::Patch(Patch {
-                id: Id::new(u128::from(number)),
-                media: true,
-                offset: Some(offset),
-                length: None,
-                bytes: Sequence::from_slice(alloc, b"a")?,
-            });
+        for number in 1..6u8 {
+            let request = append(alloc, number, offset, b"a")?;
             let response = answer(alloc, keeper, &hooks, request, Id::new(0));
             assert_eq!(rt; response.status, 204);
         }
@@ -74,9 +60,7 @@ fn crowded<B: Naming, H: PostHook + Drop, R: Wait + Abort>(
     parts: BoardParts,
     hooks: Vec<H>,
 ) -> Result<(), Fail>
-    requires name { parts.name ≡ B.name }
-    requires parts { parts.parts ≡ B.parts }
-    requires queues { NamesQueues B.queue parts.queues }
+    requires named { IsNamed B.name B.parts B.queue parts }
     requires lanes { length parts.queues ≡ 2 }
     requires new { All (λ h. H.is_sound h × (H.handed h ≡ [])) hooks.items }
 {

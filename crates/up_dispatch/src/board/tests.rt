@@ -1,34 +1,16 @@
 //! A board step by step, in one thread.
 ghost use Rattle.std.specs.Prelude.{◌≡◌, length, All, []};
-ghost use Rattle.up_headers.specs.Table.{FitsWithin};
-ghost use Rattle.up_events.specs.declared.limits.TheConstants.{MOST_BYTES};
-ghost use Rattle.up_dispatch.specs.Parts.{NamesQueues};
+ghost use Rattle.up_dispatch.specs.Parts.{IsNamed};
 
 use super::*;
-use crate::finish::{FinishFault, Unfinished};
 use crate::parts::MOST_SEATS;
+use crate::requests::{append, creation};
 use std::marker::Brand;
 use std::process::Abort;
 use std::test::Fail;
-use up_events::{Event, Kind};
-use up_headers::{NewUpload, Patch};
+use up_events::Event;
 use up_hooks::{Outcome, PostHook, new_recorders};
-use up_lanes::{How, Lane, LaneEnd, StepEnd};
-use up_wire::Sequence;
-
-/// A plain upload without metadata.
-fn creation(alloc: Global, length: u8) -> Request
-    ensures { FitsWithin MOST_BYTES result }
-{
-    Request::Create(NewUpload {
-        kind: Kind::Plain,
-        length: Some(u64::from(length)),
-        parts: Sequence::new(alloc),
-        pairs: Sequence::new(alloc),
-        metadata: None,
-        concat: None,
-    })
-}
+use up_lanes::{Lane, StepEnd};
 
 /// Makes an upload from a seat, and tells whether it was made.
 fn makes<B: Naming, R: Wait>(
@@ -55,9 +37,7 @@ fn stepped<B: Naming, H: PostHook + Drop, R: Wait + Abort>(
     parts: BoardParts,
     hooks: Vec<H>,
 ) -> Result<(), Fail>
-    requires name { parts.name ≡ B.name }
-    requires parts { parts.parts ≡ B.parts }
-    requires queues { NamesQueues B.queue parts.queues }
+    requires named { IsNamed B.name B.parts B.queue parts }
     requires lanes { length parts.queues ≡ 1 }
     requires new { All (λ h. H.is_sound h × (H.handed h ≡ [])) hooks.items }
 {
@@ -88,9 +68,7 @@ fn a_refill_moves_what_found_no_room(rt: HostRuntime) -> Result<(), Fail> {
 
 /// A board of two lanes that is closed over one upload, and all its seats.
 fn closed<B: Naming, R: Wait + Abort>(rt: &R, alloc: Global, parts: BoardParts) -> Result<(), Fail>
-    requires name { parts.name ≡ B.name }
-    requires parts { parts.parts ≡ B.parts }
-    requires queues { NamesQueues B.queue parts.queues }
+    requires named { IsNamed B.name B.parts B.queue parts }
     requires lanes { length parts.queues ≡ 2 }
 {
     let (board, takes) = Board::<B>::new(alloc, parts, 3)?;
@@ -106,14 +84,7 @@ fn closed<B: Naming, R: Wait + Abort>(rt: &R, alloc: Global, parts: BoardParts) 
             Err(Refusal::Closed)
         )
     );
-    let bytes = Patch {
-        id: Id::new(1),
-        media: true,
-        offset: Some(0),
-        length: None,
-        bytes: Sequence::from_slice(alloc, b"abc")?,
-    };
-    let planned = board.plan(rt, alloc, &mut seat, &Request::Patch(bytes));
+    let planned = board.plan(rt, alloc, &mut seat, &append(alloc, 1, 0, b"abc")?);
     assert!(rt; matches!(planned, Err(Refusal::Closed)));
     match board.plan(rt, alloc, &mut seat, &Request::Head(Id::new(1))) {
         Ok(Plan::Answer(response)) => assert_eq!(rt; response.status, 200),

@@ -1,6 +1,6 @@
 //! Conversations over a lent book, and from the seats of a board.
 ghost use Rattle.std.specs.Prelude.{◌≡◌, ◌<◌, ◌≤◌, length};
-ghost use Rattle.up_dispatch.specs.Parts.{NamesQueues};
+ghost use Rattle.up_dispatch.specs.Parts.{IsNamed};
 
 use super::*;
 use crate::board::Board;
@@ -95,9 +95,7 @@ fn two_seats<B: Naming, R: Wait + Abort>(
     alloc: Global,
     parts: BoardParts,
 ) -> Result<(), Fail>
-    requires name { parts.name ≡ B.name }
-    requires parts { parts.parts ≡ B.parts }
-    requires queues { NamesQueues B.queue parts.queues }
+    requires named { IsNamed B.name B.parts B.queue parts }
     requires lanes { length parts.queues ≡ 2 }
 {
     let (board, _takes) = Board::<B>::new(alloc, parts, MAX_SIZE)?;
