@@ -4,7 +4,8 @@ use crate::row_fault::RowFault;
 use crate::words;
 use bytes::Bytes;
 use std::alloc::Global;
-use up_events::{Accepted, Id};
+use std::fmt::Write;
+use up_events::{Accepted, Added, Id, Journal, Kind};
 use up_headers::Request;
 use up_machine::{Asked, Book, Plan, Reason, Refusal, response_of};
 
@@ -53,6 +54,24 @@ fn reason(alloc: Global, numbers: &str) -> Result<String, RowFault> {
         Some(reason) => in_brackets(alloc, Some(reason.bytes())),
         None => in_brackets(alloc, None),
     }
+}
+
+/// Where the events of new uploads of no bytes stand in a journal, as "LANE FIRST COUNT; " each. A number that stands twice is skipped.
+fn places(alloc: Global, numbers: &str) -> Result<String, RowFault> {
+    let mut journal = Journal::new(alloc, 2)?;
+    let mut words = String::new(alloc);
+    for number in numbers.split_ascii_whitespace() {
+        let id = id_of(number)?;
+        if !journal.knows(id) {
+            let Added { lane, first, count } = journal.note(Accepted::Created {
+                id,
+                length: Some(0),
+                kind: Kind::Plain,
+            })?;
+            write!(words, "{lane} {first} {count}; ")?;
+        }
+    }
+    Ok(words)
 }
 
 impl Course {
@@ -141,6 +160,7 @@ impl Course {
             "uploads" => return words::of_uploads(alloc, &self.book),
             "accepted" => return words::of_changes(alloc, &self.book),
             "events" => return words::of_events(alloc, &self.book, number_of(rest)?),
+            "places" => return places(alloc, rest),
             _ => return self.step(alloc, row),
         }
         Ok(String::new(alloc))

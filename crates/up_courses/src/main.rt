@@ -12,6 +12,7 @@
 //! uploads => ..               the uploads that are there, and the ids of those that are gone
 //! accepted => ..              the changes
 //! events 0 => ..              the events of a lane
+//! places 1 2 => ..            the lane, the first place and the count of the events of these new uploads, in a journal of two lanes
 //! keep 1                      the bytes of the upload 1 are asked for, and kept
 //! kept => ..                  the bytes that were kept
 //! value [name] 1 plain .. => ..    the value of a key of what is asked about a request

@@ -5,5 +5,4 @@ pub mod LogLemmas
 pub mod LawLemmas
 pub mod DeliveryLemmas
 pub mod Sound
-pub mod ExampleLemmas
 pub mod FrontLemmas

@@ -8,8 +8,6 @@ mod id;
 mod journal;
 mod law;
 mod limits;
-#[cfg(test)]
-mod tests;
 mod track;
 
 pub use event::{Accepted, Event, Hook, Kind};

@@ -1,4 +1,6 @@
-//! What the proofs can't see: that steps succeed, how often a lane is refilled and sleeps, and a lane in a thread.
+//! What the proofs can't see: that queues are made and items come through, that steps succeed, how often a lane is refilled and
+//! sleeps, and two threads.
 mod parts;
+mod queues;
 mod running;
 mod stepping;

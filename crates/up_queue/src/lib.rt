@@ -7,8 +7,6 @@ mod fault;
 mod item;
 mod line;
 mod rule;
-#[cfg(test)]
-mod tests;
 
 pub use ends::{PutEnd, TakeEnd, compare, lane_queue};
 pub use fault::{PutFault, QueueFault};

@@ -1,85 +1,40 @@
-//! What the tests are made of: the items of a lane, and a post-hook that can be refused memory.
-ghost use Rattle.std.specs.Prelude.{◌≡◌, ◌<◌, ◌+◌, ◌++◌, ◌∷◌, [], Some, IfOk, OnOk, OnErr, length, take, true};
-ghost use Rattle.up_events.specs.History.{CanFollow, IsLegal};
-ghost use Rattle.up_events.specs.Lists.{EachFollows};
+//! What the tests are made of: items for a queue, and a post-hook that can be refused memory.
+ghost use Rattle.std.specs.Prelude.{◌≡◌, ◌<◌, ◌≤◌, ◌+◌, ◌++◌, ◌∷◌, [], IfOk, OnOk, OnErr, length, take, true};
 ghost use Rattle.up_events.specs.Log.{IsLawful};
-ghost use Rattle.up_events.specs.declared.event.Accepted.TheVariants.{Created as IsCreated, Appended as IsAppended};
-ghost use Rattle.up_events.specs.declared.event.Kind.TheVariants.{Plain as IsPlain};
 ghost use Rattle.up_queue.specs.Line.{IsOrderly};
 
-use std::alloc::Global;
+use std::alloc::{AllocError, Global};
 use std::sync::Wait;
+use std::thread;
 use up_events::{Accepted, Event, Hook, Id, Journal, Kind, NoMemory, logs_are_lawful};
 use up_hooks::{Outcome, PostHook};
 use up_queue::{Item, PutEnd, PutFault};
 
-fn created(number: u128) -> Accepted
-    ensures { result ≡ IsCreated number (Some 2) IsPlain }
-{
-    Accepted::Created {
-        id: Id::new(number),
-        length: Some(2),
-        kind: Kind::Plain,
-    }
-}
-
-fn appended(number: u128) -> Accepted
-    ensures { result ≡ IsAppended number 1 }
-{
-    Accepted::Appended {
-        id: Id::new(number),
-        count: 1,
-    }
-}
-
-/// Five uploads of two bytes, which come byte by byte.
-fn five_uploads() -> [Accepted; 15]
-    ensures { IsLegal result }
-{
-    [
-        created(1),
-        created(2),
-        created(3),
-        created(4),
-        created(5),
-        appended(1),
-        appended(2),
-        appended(3),
-        appended(4),
-        appended(5),
-        appended(1),
-        appended(2),
-        appended(3),
-        appended(4),
-        appended(5),
-    ]
-}
-
-fn note_all(journal: &mut Journal, changes: &[Accepted]) -> Result<(), NoMemory>
-    requires { EachFollows CanFollow journal.old.accepted changes.now }
-{
-    for change in changes {
-        journal.note(*change)?;
-    }
-    Ok(())
-}
-
-/// The log of one of two lanes, after the changes of five uploads.
-fn log_of(alloc: Global, lane: u64) -> Result<Vec<Event>, NoMemory>
+/// The log of so many uploads of no bytes.
+fn log_of(alloc: Global, uploads: u64) -> Result<Vec<Event>, NoMemory>
     ensures { IfOk result (λ events. IsLawful events.items) }
 {
-    let mut journal = Journal::new(alloc, 2)?;
-    note_all(&mut journal, &five_uploads())?;
+    let mut journal = Journal::new(alloc, 1)?;
+    for number in 0..uploads {
+        let id = Id::new(u128::from(number));
+        if !journal.knows(id) {
+            journal.note(Accepted::Created {
+                id,
+                length: Some(0),
+                kind: Kind::Plain,
+            })?;
+        }
+    }
     logs_are_lawful();
     let _legal = journal.accepted();
-    Ok(journal.lane_log(lane).to_vec(alloc)?)
+    Ok(journal.lane_log(0).to_vec(alloc)?)
 }
 
-/// The items of one of two lanes: its events, and the end.
-pub fn items(alloc: Global, lane: u64) -> Result<Vec<Item>, NoMemory>
+/// The items of a lane with so many uploads of no bytes: two events of each, and the end.
+pub fn items(alloc: Global, uploads: u64) -> Result<Vec<Item>, NoMemory>
     ensures { IfOk result (λ items. IsOrderly items.items) }
 {
-    let events = log_of(alloc, lane)?;
+    let events = log_of(alloc, uploads)?;
     let mut items = Vec::new(alloc);
     for event in &events {
         items.push(Item::Event(*event))?;
@@ -88,46 +43,21 @@ pub fn items(alloc: Global, lane: u64) -> Result<Vec<Item>, NoMemory>
     Ok(items)
 }
 
-fn event(upload: u128, number: u64, hook: Hook, offset: u64) -> Event {
-    Event {
-        id: Id::new(upload),
-        number,
-        hook,
-        offset,
-        length: Some(2),
+/// The events of so many uploads of no bytes, as they are to be handed over.
+pub fn wanted(alloc: Global, uploads: u64) -> Result<Vec<Event>, AllocError> {
+    let mut events = Vec::new(alloc);
+    for upload in 0..uploads {
+        for (number, hook) in [(1, Hook::Create), (2, Hook::Finish)] {
+            events.push(Event {
+                id: Id::new(u128::from(upload)),
+                number,
+                hook,
+                offset: 0,
+                length: Some(0),
+            })?;
+        }
     }
-}
-
-/// The events that the first of two lanes is to hand over, in their order.
-pub fn wanted() -> [Event; 8] {
-    [
-        event(2, 1, Hook::Create, 0),
-        event(4, 1, Hook::Create, 0),
-        event(2, 2, Hook::Receive, 1),
-        event(4, 2, Hook::Receive, 1),
-        event(2, 3, Hook::Receive, 2),
-        event(2, 4, Hook::Finish, 2),
-        event(4, 3, Hook::Receive, 2),
-        event(4, 4, Hook::Finish, 2),
-    ]
-}
-
-/// The events that the second of two lanes is to hand over, in their order.
-pub fn wanted_of_second() -> [Event; 12] {
-    [
-        event(1, 1, Hook::Create, 0),
-        event(3, 1, Hook::Create, 0),
-        event(5, 1, Hook::Create, 0),
-        event(1, 2, Hook::Receive, 1),
-        event(3, 2, Hook::Receive, 1),
-        event(5, 2, Hook::Receive, 1),
-        event(1, 3, Hook::Receive, 2),
-        event(1, 4, Hook::Finish, 2),
-        event(3, 3, Hook::Receive, 2),
-        event(3, 4, Hook::Finish, 2),
-        event(5, 3, Hook::Receive, 2),
-        event(5, 4, Hook::Finish, 2),
-    ]
+    Ok(events)
 }
 
 /// Puts the item at this place behind those before it.
@@ -140,10 +70,45 @@ pub fn put_at<R: Wait>(
     requires orderly { IsOrderly items.now }
     requires place { place < length items.now }
     requires before { end.old.put ≡ take place items.now }
+    ensures queue { end.new.queue ≡ end.old.queue }
     ensures put { OnOk result (end.new.put ≡ take (place + 1) items.now) }
     ensures full { OnErr result (end.new ≡ end.old) }
 {
     end.put(rt, items[place])
+}
+
+/// Puts the items from this place on for which there is room, and tells the place behind them.
+pub fn fill<R: Wait>(rt: &R, end: &mut PutEnd, items: &[Item], place: usize) -> usize
+    requires orderly { IsOrderly items.now }
+    requires place { place ≤ length items.now }
+    requires before { end.old.put ≡ take place items.now }
+    ensures queue { end.new.queue ≡ end.old.queue }
+    ensures place { result ≤ length items.now }
+    ensures put { end.new.put ≡ take result items.now }
+{
+    for next in place..items.len() {
+        if put_at(rt, end, items, next).is_err() {
+            return next;
+        }
+    }
+    items.len()
+}
+
+/// Puts all of the items, one after another.
+pub fn put_all<R: Wait>(rt: &R, mut end: PutEnd, items: &[Item]) -> PutEnd
+    requires orderly { IsOrderly items.now }
+    requires new { end.put ≡ [] }
+    ensures queue { result.queue ≡ end.queue }
+{
+    let mut place = 0;
+    for _ in rt.forever() {
+        place = fill(rt, &mut end, items, place);
+        if place == items.len() {
+            break;
+        }
+        thread::yield_now();
+    }
+    end
 }
 
 /// A post-hook that lists the events. Once it has `refused_at` of them, its next `refusals` calls for memory are refused.

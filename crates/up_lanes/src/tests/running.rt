@@ -2,7 +2,7 @@
 ghost use Rattle.std.specs.Prelude.{◌≡◌, ◌≤◌, [], length, take};
 ghost use Rattle.up_queue.specs.Line.{IsOrderly};
 
-use super::parts::{Listing, items, put_at, wanted};
+use super::parts::{Listing, items, put_all, put_at, wanted};
 use crate::{How, Lane, Refill};
 use std::marker::Model;
 use std::sync::atomic::{AtomicU64, Ordering};
@@ -92,7 +92,7 @@ fn refills_first_and_then_sleeps(rt: HostRuntime) -> Result<(), Fail> {
     for (fills_by_refill, wanted_waits) in [(true, 0), (false, 9)] {
         let (put_end, take_end) = lane_queue(rt.alloc(), 1)?;
         let counted = Counted {
-            supply: Mutex::new(Supply::new(put_end, items(rt.alloc(), 0)?)),
+            supply: Mutex::new(Supply::new(put_end, items(rt.alloc(), 4)?)),
             fills_by_refill,
             refills: AtomicU64::new(0),
             waits: AtomicU64::new(0),
@@ -100,7 +100,10 @@ fn refills_first_and_then_sleeps(rt: HostRuntime) -> Result<(), Fail> {
         };
         let end = Lane::new(7, take_end, Listing::new(rt.alloc(), 0, 0)).run(&rt, &counted);
         assert_eq!(rt; (end.lane, end.how), (7, How::Drained));
-        assert_eq!(rt; end.hook.events.as_slice(), wanted().as_slice());
+        assert_eq!(rt;
+            end.hook.events.as_slice(),
+            wanted(rt.alloc(), 4)?.as_slice()
+        );
         assert_eq!(rt; counted.refills.load(Ordering::SeqCst), 9);
         assert_eq!(rt; counted.waits.load(Ordering::SeqCst), wanted_waits);
         assert_eq!(rt; counted.strays.load(Ordering::SeqCst), 0);
@@ -119,30 +122,13 @@ impl Refill for Elsewhere {
     }
 }
 
-/// Puts all items, one after another.
-fn put_all<R: Wait>(rt: &R, mut put_end: PutEnd, items: &[Item])
-    requires orderly { IsOrderly items.now }
-    requires new { put_end.put ≡ [] }
-{
-    let mut place = 0;
-    for _ in rt.forever() {
-        if place == items.len() {
-            break;
-        }
-        match put_at(rt, &mut put_end, items, place) {
-            Ok(()) => place += 1,
-            Err(_) => thread::yield_now(),
-        }
-    }
-}
-
 #[test]
 fn runs_in_a_thread_of_its_own(rt: HostRuntime) -> Result<(), Fail> {
-    let items = items(rt.alloc(), 0)?;
+    let items = items(rt.alloc(), 4)?;
     let all = items.as_slice();
     let (put_end, take_end) = lane_queue(rt.alloc(), 1)?;
     let lane = Lane::new(0, take_end, Listing::new(rt.alloc(), 0, 0));
-    let ((), end) = thread::join(
+    let (_, end) = thread::join(
         &rt,
         ||
             requires { IsOrderly all.now × (put_end.put ≡ []) }
@@ -150,6 +136,9 @@ fn runs_in_a_thread_of_its_own(rt: HostRuntime) -> Result<(), Fail> {
         || lane.run(&rt, &Elsewhere),
     );
     assert_eq!(rt; end.how, How::Drained);
-    assert_eq!(rt; end.hook.events.as_slice(), wanted().as_slice());
+    assert_eq!(rt;
+        end.hook.events.as_slice(),
+        wanted(rt.alloc(), 4)?.as_slice()
+    );
     Ok(())
 }
