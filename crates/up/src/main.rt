@@ -1,86 +1,45 @@
-//! The program `up_server`: `replay` serves the messages on standard input as one conversation. The words of the command line say how
-//! large the server is, and which rules its closures keep.
+//! The program `up_server`: `replay` serves the messages on standard input as one conversation, `serve` the connections of a listener. The
+//! words of the command line say how large the server is, and which rules its closures keep.
 #![tactic(auto)]
 
-ghost use Rattle.std.specs.Prelude.{◌≡◌, IsTrue, string_bytes};
-ghost use Rattle.up_hooks.specs.Verdicts.{is_lawful};
-ghost use Rattle.up_server.specs.Rules.{at_most, finishes_at_most, keeps, needs_key};
+mod listener;
+mod rules;
+mod running;
 
-use std::alloc::{AllocError, Global};
-use std::io::{self, BufReader, BufWriter};
+use crate::listener::listen;
+use crate::rules::run_by_rules;
+use std::io::{self, BufWriter};
 use std::marker::Sync;
+use std::net::{Net, TcpListener, TcpStream};
 use std::process::ExitCode;
+use std::random::RandomSource;
 use std::sync::Wait;
 use std::thread::Threads;
-use up_events::Event;
-use up_hooks::{Outcome, PreHook, PreHooks, new_recorders};
-use up_machine::{Ask, Point, Verdict};
-use up_server::{
-    ServerFault, Words, WordsFault, at_most, finishes_at_most, keeps, needs_key, replay, words,
-};
-use up_wire::{Output, Sink, Source};
+use up_server::{EventLines, ServerFault, Words, WordsFault, words};
+use up_wire::Output;
 
-/// Serves one conversation as the words ask for it: the closures of their rules are asked in the order in which the help names them, and
-/// the post-hooks answer that they are done. An error is want of memory for the closures.
-fn serve<R: Source, W: Sink, T: Threads + Wait + Sync>(
-    rt: &T,
-    alloc: Global,
-    words: Words,
-    source: &mut R,
-    sink: &mut W,
-) -> Result<Result<(), ServerFault>, AllocError> {
-    let Words {
-        settings,
-        require_key,
-        max_length,
-        keep,
-        max_finish,
-    } = words;
-    let mut hooks = Vec::new(alloc);
-    if let Some(key) = require_key {
-        let judge = move |ask: &Ask| -> Verdict
-            ensures answer { result ≡ needs_key ask.now (string_bytes key) }
-            ensures lawful { IsTrue (is_lawful result) }
-        { needs_key(ask, key.as_bytes()) };
-        hooks.push(PreHook::new(Point::Create, Box::new(alloc, judge)?))?;
-    }
-    if let Some(limit) = max_length {
-        let judge = move |ask: &Ask| -> Verdict
-            ensures answer { result ≡ at_most ask.now limit }
-            ensures lawful { IsTrue (is_lawful result) }
-        { at_most(ask, limit) };
-        hooks.push(PreHook::new(Point::Create, Box::new(alloc, judge)?))?;
-    }
-    if keep {
-        let judge = |ask: &Ask| -> Verdict
-            ensures answer { result ≡ keeps ask.now }
-            ensures lawful { IsTrue (is_lawful result) }
-        { keeps(ask) };
-        hooks.push(PreHook::new(Point::Terminate, Box::new(alloc, judge)?))?;
-    }
-    if let Some(limit) = max_finish {
-        let judge = move |ask: &Ask| -> Verdict
-            ensures answer { result ≡ finishes_at_most ask.now limit }
-            ensures lawful { IsTrue (is_lawful result) }
-        { finishes_at_most(ask, limit) };
-        hooks.push(PreHook::new(Point::Finish, Box::new(alloc, judge)?))?;
-    }
-    let answer = |_: &Event| Outcome::Done;
-    let Ok(recorders) = new_recorders(alloc, settings.lanes, answer) else {
-        return Ok(Err(ServerFault::Memory));
+/// Serves as the words ask for it. An error is a standard stream that can't be had, or want of memory for it or for the closures.
+fn obey<
+    R: Input
+        + Print
+        + Eprint
+        + AllocGlobal
+        + Net<Listener = TcpListener, Stream = TcpStream>
+        + RandomSource
+        + Threads
+        + Wait
+        + Sync,
+>(rt: &R, words: &Words) -> io::Result<Result<(), ServerFault>> {
+    let listener = match &words.serve {
+        Some(serving) => match listen(rt, serving) {
+            Ok(listener) => Some(listener),
+            Err(_) => return Ok(Err(ServerFault::Listen)),
+        },
+        None => None,
     };
-    let hooks = PreHooks::new(hooks);
-    Ok(replay(rt, alloc, hooks, recorders, &settings, source, sink))
-}
-
-/// Serves standard input. An error is a standard stream that can't be had, or want of memory for it.
-fn obey(
-    rt: &(impl Input + Print + AllocGlobal + Threads + Wait + Sync),
-    words: Words,
-) -> io::Result<Result<(), ServerFault>> {
-    let mut source = up_wire::Input::new(BufReader::new(rt.alloc(), rt.reader())?);
-    let mut sink = Output::new(BufWriter::new(rt.alloc(), io::writer(rt))?);
-    Ok(serve(rt, rt.alloc(), words, &mut source, &mut sink)?)
+    let lines = EventLines::new(Output::new(BufWriter::new(rt.alloc(), io::writer(rt))?));
+    let wanted = if words.events { Some(&lines) } else { None };
+    run_by_rules(rt, words, wanted, listener)
 }
 
 /// The words behind the program's name.
@@ -99,7 +58,7 @@ fn main(rt: HostRuntime) -> io::Result<ExitCode> {
         Err(fault) => Err(fault),
     };
     match found {
-        Ok(words) => match obey(&rt, words).unwrap_or(Err(ServerFault::Memory)) {
+        Ok(words) => match obey(&rt, &words).unwrap_or(Err(ServerFault::Memory)) {
             Ok(()) => Ok(ExitCode::SUCCESS),
             Err(fault) => {
                 eprintln!(rt; "up_server: {fault}")?;

@@ -1,5 +1,6 @@
 -- The definitions that the contracts cite.
 pub mod Seats
 pub mod ReportText
+pub mod Reported
 pub mod Run
 pub mod Rules

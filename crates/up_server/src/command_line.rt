@@ -2,7 +2,7 @@
 ghost use Rattle.std.specs.Prelude.{◌≡◌, ◌≤◌, IfOk, option_map, string_bytes};
 ghost use Rattle.clap.specs.Words.{first_value, found_of};
 
-use crate::settings::{MOST_CAPACITY, Settings, Words};
+use crate::settings::{MOST_CAPACITY, MOST_CONNECTIONS, MOST_OPEN, Serving, Settings, Words};
 use clap::builder::ValueParser;
 use clap::error::ErrorKind;
 use clap::{Arg, ArgAction, ArgMatches, Command, Error};
@@ -98,18 +98,52 @@ fn with_rules<'a>(alloc: Global, command: Command<'a>) -> Result<Command<'a>, Al
         .arg(max_finish)
 }
 
+/// The words that say which connections are served.
+fn with_connections<'a>(alloc: Global, command: Command<'a>) -> Result<Command<'a>, AllocError> {
+    let address = Arg::new(alloc, "address")
+        .long("address")
+        .value_name("HOST:PORT")
+        .default_value("127.0.0.1:1080")
+        .help("Where to listen; at port 0 the system picks one");
+    let connections = Arg::new(alloc, "connections")
+        .long("connections")
+        .value_name("N")
+        .value_parser(ValueParser::unsigned(1, MOST_CONNECTIONS))
+        .help("End and report after N connections, from 1 to 65536; without it the server goes on");
+    let open = number(
+        alloc,
+        "open",
+        MOST_OPEN,
+        "1024",
+        "How many connections are open at a time, from 1 to 4096; others wait",
+    );
+    command.arg(address)?.arg(connections)?.arg(open)
+}
+
+/// The words that any server has.
+fn with_common<'a>(alloc: Global, command: Command<'a>) -> Result<Command<'a>, AllocError> {
+    let events = Arg::new(alloc, "events")
+        .long("events")
+        .action(ArgAction::SetTrue)
+        .help("Write each event to standard output as a line, as it is handed over");
+    with_rules(alloc, with_size(alloc, command)?)?.arg(events)
+}
+
 /// The words that are known.
 fn command<'a>(alloc: Global) -> Result<Command<'a>, AllocError> {
     let replay = Command::new(alloc, "replay").about(
         "Serves the messages on standard input as one conversation, and reports what was handed over",
     );
-    let replay = with_rules(alloc, with_size(alloc, replay)?)?;
+    let serve = Command::new(alloc, "serve").about(
+        "Serves connections, each as a conversation of its own, and reports what was handed over",
+    );
     Command::new(alloc, "up_server")
         .about("An upload server for the tus resumable upload protocol 1.0.0")
         .no_binary_name(true)
         .bin_name("up_server")?
         .subcommand_required(true)
-        .subcommand(replay)
+        .subcommand(with_common(alloc, replay)?)?
+        .subcommand(with_common(alloc, with_connections(alloc, serve)?)?)
 }
 
 /// A number of the command line. `clap` has seen to its limits.
@@ -130,18 +164,34 @@ fn text_of(alloc: Global, matches: &ArgMatches<'_>, id: &str) -> Result<Option<S
     }
 }
 
-/// What the words behind `replay` ask for.
-fn words_of(alloc: Global, replay: &ArgMatches<'_>) -> Result<Words, AllocError> {
+/// Which connections the words behind `serve` ask for.
+fn serving_of(alloc: Global, serve: &ArgMatches<'_>) -> Result<Serving, AllocError> {
+    let connections = serve.get_one::<u64>("connections");
+    Ok(Serving {
+        address: text_of(alloc, serve, "address")?.unwrap_or(String::new(alloc)),
+        connections: connections.map(|count| count.clamp(1, MOST_CONNECTIONS)),
+        open: value_of(serve, "open", MOST_OPEN),
+    })
+}
+
+/// What the words behind `replay` or `serve` ask for.
+fn words_of(
+    alloc: Global,
+    matches: &ArgMatches<'_>,
+    serve: Option<Serving>,
+) -> Result<Words, AllocError> {
     Ok(Words {
         settings: Settings {
-            lanes: value_of(replay, "lanes", MOST_LANES),
-            capacity: value_of(replay, "capacity", MOST_CAPACITY),
-            max_size: value_of(replay, "max-size", MOST_BYTES),
+            lanes: value_of(matches, "lanes", MOST_LANES),
+            capacity: value_of(matches, "capacity", MOST_CAPACITY),
+            max_size: value_of(matches, "max-size", MOST_BYTES),
         },
-        require_key: text_of(alloc, replay, "require-key")?,
-        max_length: replay.get_one::<u64>("max-length"),
-        keep: replay.get_flag("keep"),
-        max_finish: replay.get_one::<u64>("max-finish"),
+        require_key: text_of(alloc, matches, "require-key")?,
+        max_length: matches.get_one::<u64>("max-length"),
+        keep: matches.get_flag("keep"),
+        max_finish: matches.get_one::<u64>("max-finish"),
+        events: matches.get_flag("events"),
+        serve,
     })
 }
 
@@ -150,7 +200,11 @@ fn words_of(alloc: Global, replay: &ArgMatches<'_>) -> Result<Words, AllocError>
 pub fn words(alloc: Global, words: Vec<String>) -> Result<Words, WordsFault> {
     let matches = command(alloc)?.try_get_matches_from(words.as_slice())?;
     match matches.subcommand() {
-        Some((_, replay)) => Ok(words_of(alloc, replay)?),
+        Some(("serve", serve)) => {
+            let serving = serving_of(alloc, serve)?;
+            Ok(words_of(alloc, serve, Some(serving))?)
+        }
+        Some((_, replay)) => Ok(words_of(alloc, replay, None)?),
         None => Ok(Words::default()),
     }
 }

@@ -7,6 +7,7 @@ use std::alloc::{AllocError, Global};
 use std::marker::{Send, Sync};
 use std::snapshot::Snapshot;
 use std::sync::Wait;
+use std::thread;
 use std::thread::{Promise, PromisedHandle, Scope, Threads};
 use up_dispatch::{Board, Naming};
 use up_events::NoMemory;
@@ -42,7 +43,7 @@ impl<H: PostHook> Promise<LaneEnd<H>> for OfLane<H> {
 }
 
 /// Starts a thread for each lane. Where one can't be started, those that were go on until the board is closed.
-pub fn start_all<'s, E, B: Naming + Send + Sync, H: PostHook + Drop + 's, T: Threads + Wait + Sync>(
+fn start_each<'s, E, B: Naming + Send + Sync, H: PostHook + Drop + 's, T: Threads + Wait + Sync>(
     scope: &Scope<'s, E>,
     rt: &'s T,
     alloc: Global,
@@ -59,6 +60,39 @@ pub fn start_all<'s, E, B: Naming + Send + Sync, H: PostHook + Drop + 's, T: Thr
         running.push(scope.spawn_with(promise, move || lane.run(rt, board))?)?;
     }
     Ok(running)
+}
+
+/// Starts a thread for each lane. Where one can't be started the board is closed, so that those that were end.
+pub fn start_all<'s, E, B: Naming + Send + Sync, H: PostHook + Drop + 's, T: Threads + Wait + Sync>(
+    scope: &Scope<'s, E>,
+    rt: &'s T,
+    alloc: Global,
+    board: &'s Board<B>,
+    lanes: Vec<Lane<H>>,
+) -> Result<Vec<PromisedHandle<LaneEnd<H>, OfLane<H>>>, AllocError>
+    requires { EachAt (λ k l. (l.lane ≡ k) × (l.queue ≡ B.queue k)) lanes.items }
+    ensures count { IfOk result (λ v. vec_len v ≡ vec_len lanes) }
+    ensures lanes { IfOk result (λ v. EachAt (λ k h. (h.promise.0.value.lane ≡ k) × (h.promise.0.value.queue ≡ B.queue k)) v.items) }
+{
+    let running = start_each(scope, rt, alloc, board, lanes);
+    if running.is_err() {
+        board.close(rt);
+    }
+    running
+}
+
+/// Closes the board, and waits until each lane has ended.
+pub fn end_all<B: Naming, H: PostHook + Drop, T: Threads + Wait>(
+    rt: &T,
+    board: &Board<B>,
+    running: Vec<PromisedHandle<LaneEnd<H>, OfLane<H>>>,
+) -> Result<Vec<LaneEnd<H>>, AllocError>
+    requires { EachAt (λ k h. (h.promise.0.value.lane ≡ k) × (h.promise.0.value.queue ≡ B.queue k)) running.items }
+    ensures count { IfOk result (λ v. vec_len v ≡ vec_len running) }
+    ensures ends { IfOk result (λ v. EachAt (λ k e. H.is_sound e.hook × (e.lane ≡ k) × (e.take_end.queue ≡ B.queue k)) v.items) }
+{
+    board.close(rt);
+    Ok(thread::join_promised(rt, running)?)
 }
 
 #[cfg(test)]

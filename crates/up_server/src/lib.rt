@@ -1,18 +1,25 @@
 //! An upload server for the tus resumable upload protocol 1.0.0, whose lanes hand the events of each upload to post-hooks in threads of
-//! their own, and which asks stored closures before an upload is made, completed or removed. `replay` serves one conversation.
+//! their own, and which asks stored closures before an upload is made, completed or removed. `replay` serves one conversation, `serve` the
+//! connections of a listener.
 #![tactic(auto)]
 
+mod boards;
 mod command_line;
+mod event_lines;
 mod lanes;
+mod listening;
 mod report;
 mod rules;
 mod running;
 mod server_fault;
 mod serving;
 mod settings;
+mod telling;
 
 pub use command_line::{WordsFault, words};
+pub use event_lines::EventLines;
+pub use listening::serve;
 pub use rules::{at_most, finishes_at_most, keeps, needs_key};
 pub use server_fault::ServerFault;
 pub use serving::replay;
-pub use settings::{Settings, Words};
+pub use settings::{Serving, Settings, Words};

@@ -108,6 +108,16 @@ fn write_events<W: Sink>(sink: &mut W, events: &[(Event, Outcome)]) -> Result<()
     Ok(())
 }
 
+/// Writes an event, and what its post-hook answered, and has the sink send the line on.
+pub fn write_told<W: Sink>(sink: &mut W, told: &(Event, Outcome)) -> Result<(), WriteFailed>
+    ensures written { Writes (W.device sink.old).bytes (W.device sink.new).bytes
+        (event_line told.now) result }
+    ensures failed { OnErr result (GaveUp (W.device sink.new) (W.device sink.new).interruptions) }
+{
+    write_event(sink, told)?;
+    flush(sink)
+}
+
 /// Writes an event, and what its post-hook answered.
 fn write_event<W: Sink>(sink: &mut W, told: &(Event, Outcome)) -> Result<(), WriteFailed>
     ensures written { Writes (W.device sink.old).bytes (W.device sink.new).bytes

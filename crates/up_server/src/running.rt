@@ -6,14 +6,16 @@ ghost use Rattle.up_dispatch.specs.Parts.{NamesQueues};
 ghost use Rattle.up_server.specs.Seats.{IsServedFrom};
 ghost use Rattle.up_server.specs.Run.{IsRun};
 
-use crate::lanes::{lanes_over, start_all};
+use crate::boards;
+use crate::lanes::{end_all, start_all};
 use crate::settings::Settings;
 use std::alloc::{AllocError, Global};
 use std::marker::{Send, Sync};
 use std::sync::Wait;
 use std::thread;
 use std::thread::{Scope, Threads};
-use up_dispatch::{Board, BoardParts, Counting, Ended, Naming, Report, Seat, Seated, converse};
+use up_connections::converse_at;
+use up_dispatch::{Board, BoardParts, Counting, Ended, Naming, Report, Seat};
 use up_events::{MOST_BYTES, NoMemory};
 use up_hooks::{PostHook, PreHooks};
 use up_lanes::{Lane, LaneEnd};
@@ -48,13 +50,13 @@ fn converse_from<B: Naming, R: Source, W: Sink, T: Wait>(
     ensures served { IsServedFrom B.queue (ClosuresGive hooks.now) max_size seat.old seat.new
         (R.device source.old) (R.device source.new) (W.device sink.old) (W.device sink.new) result }
 {
-    let mut seated = Seated::new(rt, board, seat);
     let mut ids = Counting::new();
-    converse(alloc, &mut seated, hooks, &mut ids, max_size, source, sink)
+    converse_at(
+        rt, alloc, board, seat, hooks, &mut ids, max_size, source, sink,
+    )
 }
 
-/// Starts the lanes in the scope, serves one conversation from the seat, closes the board, and waits for the lanes. Where a lane can't be
-/// started the board is closed at once, so that those that were started end.
+/// Starts the lanes in the scope, serves one conversation from the seat, closes the board, and waits for the lanes.
 fn drive_in<
     's,
     E,
@@ -82,16 +84,9 @@ fn drive_in<
     ensures served { IfOk result (λ d. IsServedFrom B.queue (ClosuresGive hooks.now) max_size seat.old seat.new
         (R.device source.old) (R.device source.new) (W.device sink.old) (W.device sink.new) d.ended) }
 {
-    let running = match start_all(scope, rt, alloc, board, lanes) {
-        Ok(running) => running,
-        Err(fault) => {
-            board.close(rt);
-            return Err(fault);
-        }
-    };
+    let running = start_all(scope, rt, alloc, board, lanes)?;
     let ended = converse_from(rt, alloc, board, seat, hooks, max_size, source, sink);
-    board.close(rt);
-    let lanes = thread::join_promised(rt, running)?;
+    let lanes = end_all(rt, board, running)?;
     Ok(Driven { ended, lanes })
 }
 
@@ -172,8 +167,7 @@ pub fn run<
         (R.device source.old) (R.device source.new) (W.device sink.old) (W.device sink.new)) }
     ensures sound { IfOk result (λ served. All (λ x. H.is_sound x.hook) served.report.lanes.items) }
 {
-    let (board, takes) = Board::<B>::new(alloc, parts, settings.max_size)?;
-    let lanes = lanes_over(alloc, takes, post_hooks)?;
+    let (board, lanes) = boards::open::<B, _>(alloc, parts, post_hooks, settings)?;
     let Some(mut seat) = board.seat(rt) else {
         return Err(NoMemory);
     };
@@ -190,8 +184,6 @@ pub fn run<
     )?;
     let mut seats = Vec::with_capacity(alloc, 1)?;
     seats.push(seat)?;
-    match board.finish(alloc, seats, lanes) {
-        Ok(report) => Ok(Served { report, ended }),
-        Err(_) => Err(NoMemory),
-    }
+    let report = boards::finish(alloc, board, seats, lanes)?;
+    Ok(Served { report, ended })
 }

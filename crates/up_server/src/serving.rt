@@ -4,57 +4,21 @@ ghost use Rattle.up_hooks.specs.Gives.{ClosuresGive};
 ghost use Rattle.up_hooks.specs.declared.recorder.Recorder.{Recorder};
 ghost use Rattle.up_queue.specs.Sides.{QueueId};
 ghost use Rattle.up_wire.specs.Device.{Device};
-ghost use Rattle.up_server.specs.Run.{IsRun, IsReported, any_stopped, is_stopped};
+ghost use Rattle.up_server.specs.Run.{IsRun, IsReported};
 ghost use Rattle.up_server.specs.declared.running.Served.{Served};
 
-use crate::report::write_report;
 use crate::running::{Served, run};
 use crate::server_fault::ServerFault;
 use crate::settings::Settings;
+use crate::telling::tell;
 use std::alloc::Global;
 use std::marker::{Brand, Sync};
 use std::sync::Wait;
 use std::thread::Threads;
-use up_dispatch::{BoardParts, Ended, LaneReport};
+use up_dispatch::BoardParts;
 use up_events::Event;
 use up_hooks::{Outcome, PostHook, PreHooks, Recorder};
-use up_lanes::How;
 use up_wire::{Sink, Source};
-
-/// Whether the lane stopped before its end came.
-fn is_stopped<H>(lane: &LaneReport<H>) -> bool
-    ensures { result ≡ is_stopped lane.now.how }
-{
-    matches!(lane.how, How::Stopped)
-}
-
-/// Whether any lane did.
-fn any_stopped<H>(lanes: &[LaneReport<H>]) -> bool
-    ensures { result ≡ any_stopped lanes.now }
-{
-    lanes.iter().any(|lane| is_stopped(lane))
-}
-
-/// Writes the report behind the replies, where these were written, and tells the first thing that went wrong.
-fn tell<F, W: Sink>(sink: &mut W, served: &Served<Recorder<F>>) -> Result<(), ServerFault>
-    ensures { IsReported served.now
-        (W.device sink.old)
-        (W.device sink.new)
-        result }
-{
-    match served.ended {
-        Ended::WriteFailed => Err(ServerFault::Write),
-        Ended::ReadFailed => match write_report(sink, &served.report) {
-            Ok(()) => Err(ServerFault::Read),
-            Err(_) => Err(ServerFault::Write),
-        },
-        Ended::Closed | Ended::Cut => match write_report(sink, &served.report) {
-            Ok(()) if any_stopped(served.report.lanes.as_slice()) => Err(ServerFault::Stopped),
-            Ok(()) => Ok(()),
-            Err(_) => Err(ServerFault::Write),
-        },
-    }
-}
 
 /// Serves the messages of `source` as one conversation on a new board, with ids counted from 1, while each lane hands its events to the
 /// recorder at its place in a thread of its own; writes the replies to `sink`, ends the lanes and writes the report. The closures of `hooks`

@@ -1,10 +1,16 @@
 //! What a run of the server is given.
-ghost use Rattle.std.specs.Prelude.{◌≤◌};
+ghost use Rattle.std.specs.Prelude.{◌≡◌, ℕ, ◌≤◌, Some};
 ghost use Rattle.up_events.specs.declared.limits.TheConstants.{MOST_BYTES, MOST_LANES};
-ghost use Rattle.up_server.specs.declared.settings.TheConstants.{MOST_CAPACITY};
+ghost use Rattle.up_server.specs.declared.settings.TheConstants.{MOST_CAPACITY, MOST_CONNECTIONS, MOST_OPEN};
 
 /// The most items that the queue of a lane holds.
 pub const MOST_CAPACITY: u64 = 4096;
+
+/// The most connections that a server is asked for by their number.
+pub const MOST_CONNECTIONS: u64 = 65_536;
+
+/// The most connections that are open at a time.
+pub const MOST_OPEN: u64 = 4096;
 
 /// The size of a server.
 #[derive(Clone, Copy, Debug, PartialEq, Eq)]
@@ -31,6 +37,19 @@ impl Default for Settings {
     }
 }
 
+/// Where connections are served, and which.
+#[derive(Debug, Drop, PartialEq, Eq)]
+pub struct Serving {
+    /// The host and the port that are listened at, as they were written.
+    pub address: String,
+    /// How many connections are served, from 1 to 65,536; where there is none, as many as come.
+    pub connections: Option<u64>,
+    /// How many connections are open at a time, from 1 to 4,096.
+    pub open: u64,
+    ghost connections_within: { (count : ℕ) → connections ≡ Some count → (1 ≤ count) × (count ≤ MOST_CONNECTIONS) },
+    ghost open_within: { (1 ≤ «open») × («open» ≤ MOST_OPEN) },
+}
+
 /// What the command line asks for.
 #[derive(Debug, Default, Drop, PartialEq, Eq)]
 pub struct Words {
@@ -43,4 +62,8 @@ pub struct Words {
     pub keep: bool,
     /// The most bytes with which an upload may be complete.
     pub max_finish: Option<u64>,
+    /// Whether each event is written as a line as it is handed over.
+    pub events: bool,
+    /// Where connections are served. Where there is none, standard input is.
+    pub serve: Option<Serving>,
 }

@@ -48,7 +48,7 @@ use std::{fs, io};
 /// Serves a talk, and prints how it stands.
 fn hold(rt: &(impl Print + AllocGlobal + Threads + Wait + Sync), mut talk: Talk) -> io::Result<()> {
     let words = talk.words.take().unwrap_or_default();
-    let served = serve(rt, rt.alloc(), words, &talk.asked)?;
+    let served = serve(rt, rt.alloc(), &words, &talk.asked)?;
     let comparison = compare(rt.alloc(), &talk, &served)?;
     let name = &talk.name;
     println!(rt; "{name}: {comparison}")

@@ -64,44 +64,38 @@ fn run<T: Threads + Wait + Sync>(
 pub fn serve<T: Threads + Wait + Sync>(
     rt: &T,
     alloc: Global,
-    words: Words,
+    words: &Words,
     asked: &[u8],
 ) -> Result<Served, AllocError> {
-    let Words {
-        settings,
-        require_key,
-        max_length,
-        keep,
-        max_finish,
-    } = words;
     let mut hooks = Vec::new(alloc);
-    if let Some(key) = require_key {
+    if let Some(key) = &words.require_key {
+        let key = key.clone()?;
         let judge = move |ask: &Ask| -> Verdict
             ensures answer { result ≡ needs_key ask.now (string_bytes key) }
             ensures lawful { IsTrue (is_lawful result) }
         { needs_key(ask, key.as_bytes()) };
         hooks.push(PreHook::new(Point::Create, Box::new(alloc, judge)?))?;
     }
-    if let Some(limit) = max_length {
+    if let Some(limit) = words.max_length {
         let judge = move |ask: &Ask| -> Verdict
             ensures answer { result ≡ at_most ask.now limit }
             ensures lawful { IsTrue (is_lawful result) }
         { at_most(ask, limit) };
         hooks.push(PreHook::new(Point::Create, Box::new(alloc, judge)?))?;
     }
-    if keep {
+    if words.keep {
         let judge = |ask: &Ask| -> Verdict
             ensures answer { result ≡ keeps ask.now }
             ensures lawful { IsTrue (is_lawful result) }
         { keeps(ask) };
         hooks.push(PreHook::new(Point::Terminate, Box::new(alloc, judge)?))?;
     }
-    if let Some(limit) = max_finish {
+    if let Some(limit) = words.max_finish {
         let judge = move |ask: &Ask| -> Verdict
             ensures answer { result ≡ finishes_at_most ask.now limit }
             ensures lawful { IsTrue (is_lawful result) }
         { finishes_at_most(ask, limit) };
         hooks.push(PreHook::new(Point::Finish, Box::new(alloc, judge)?))?;
     }
-    run(rt, alloc, PreHooks::new(hooks), &settings, asked)
+    run(rt, alloc, PreHooks::new(hooks), &words.settings, asked)
 }

@@ -111,8 +111,81 @@ fn reads_rules(rt: HostRuntime) -> Result<(), Fail> {
 }
 
 #[test]
+fn reads_which_connections_are_served(rt: HostRuntime) -> Result<(), Fail> {
+    let rows: [(&[&str], (&str, Option<u64>, u64, bool)); 5] = [
+        (&["serve"], ("127.0.0.1:1080", None, 1024, false)),
+        (
+            &[
+                "serve",
+                "--address",
+                "[::1]:0",
+                "--connections",
+                "1",
+                "--open",
+                "1",
+            ],
+            ("[::1]:0", Some(1), 1, false),
+        ),
+        (
+            &["serve", "--connections", "65536", "--open", "4096"],
+            ("127.0.0.1:1080", Some(65_536), 4096, false),
+        ),
+        (&["serve", "--address="], ("", None, 1024, false)),
+        (
+            &["serve", "--events", "--lanes", "3"],
+            ("127.0.0.1:1080", None, 1024, true),
+        ),
+    ];
+    for (i, (line, wanted)) in rows.iter().enumerate() {
+        let found = read(rt.alloc(), line)??;
+        let Some(serving) = &found.serve else {
+            return Err("connections".into());
+        };
+        let read = (
+            serving.address.as_str(),
+            serving.connections,
+            serving.open,
+            found.events,
+        );
+        assert_eq!(rt; read, *wanted, "at {i}");
+    }
+    let replay = read(rt.alloc(), &["replay", "--events"])??;
+    assert_eq!(rt; (replay.events, replay.serve.is_none()), (true, true));
+    Ok(())
+}
+
+#[test]
+fn reads_sizes_and_rules_of_connections(rt: HostRuntime) -> Result<(), Fail> {
+    let given = [
+        "serve",
+        "--lanes",
+        "3",
+        "--capacity",
+        "5",
+        "--max-size",
+        "7",
+        "--max-length",
+        "4",
+        "--require-key",
+        "a",
+        "--keep",
+        "--max-finish",
+        "6",
+    ];
+    let found = read(rt.alloc(), &given)??;
+    let settings = found.settings;
+    assert_eq!(rt;
+        (settings.lanes, settings.capacity, settings.max_size),
+        (3, 5, 7)
+    );
+    assert_eq!(rt; rules(&found), (Some("a"), Some(4), true));
+    assert_eq!(rt; (found.max_finish, found.events), (Some(6), false));
+    Ok(())
+}
+
+#[test]
 fn refuses_other_words(rt: HostRuntime) -> Result<(), Fail> {
-    let lines: [&[&str]; 22] = [
+    let lines: [&[&str]; 31] = [
         &["replay", "--lanes", "0"],
         &["replay", "--lanes", "17"],
         &["replay", "--capacity", "0"],
@@ -133,6 +206,15 @@ fn refuses_other_words(rt: HostRuntime) -> Result<(), Fail> {
         &["replay", "--keep", "--keep"],
         &["--keep", "replay"],
         &["replay", "filename"],
+        &["replay", "--address", "127.0.0.1:0"],
+        &["replay", "--events", "--events"],
+        &["serve", "--connections", "0"],
+        &["serve", "--connections", "65537"],
+        &["serve", "--connections"],
+        &["serve", "--open", "0"],
+        &["serve", "--open", "4097"],
+        &["serve", "--address"],
+        &["serve", "replay"],
         &[],
         &["--help"],
     ];

@@ -152,6 +152,7 @@ fn stops_at_any_write_that_fails(rt: HostRuntime) -> Result<(), Fail> {
 fn says_why_it_failed(rt: HostRuntime) -> Result<(), Fail> {
     for (fault, text) in [
         (ServerFault::Memory, "out of memory"),
+        (ServerFault::Listen, "cannot listen"),
         (ServerFault::Write, "write failed"),
         (ServerFault::Read, "read failed"),
         (ServerFault::Stopped, "a lane stopped"),

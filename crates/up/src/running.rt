@@ -1,0 +1,81 @@
+//! A run of the server, once the closures of its rules are made.
+ghost use Rattle.std.specs.Prelude.{◌≡◌, [], All, IsTrue, length};
+ghost use Rattle.up_hooks.specs.Told.{has_code};
+
+use std::io::{self, BufReader, BufWriter};
+use std::marker::{Send, Sync};
+use std::net::TcpListener;
+use std::random::RandomSource;
+use std::sync::Wait;
+use std::thread::Threads;
+use up_connections::{Drawn, Visits};
+use up_events::Event;
+use up_hooks::{Outcome, PostHook, PreHooks, Recorder, new_recorders};
+use up_server::{EventLines, ServerFault, Words, replay, serve};
+use up_wire::{Output, Sink};
+
+/// Serves what the words ask for, with these closures, and with post-hooks that write their event as a line, where there are lines, and
+/// answer that they are done. An error is a standard stream that can't be had, or want of memory for it.
+pub fn run_with<
+    'a,
+    R: Input + Print + AllocGlobal + RandomSource + Threads + Wait + Sync + 'a,
+    W: Sink + Send + 'a,
+>(
+    rt: &'a R,
+    words: &'a Words,
+    lines: Option<&'a EventLines<W>>,
+    listener: Option<TcpListener>,
+    hooks: PreHooks,
+) -> io::Result<Result<(), ServerFault>> {
+    let answer = move |event: &Event| -> Outcome
+        ensures { IsTrue (has_code result) }
+    {
+        match lines {
+            Some(lines) => lines.tell(rt, event),
+            None => Outcome::Done,
+        }
+    };
+    match new_recorders(rt.alloc(), words.settings.lanes, answer) {
+        Ok(recorders) => run_over(rt, words, listener, hooks, recorders),
+        Err(_) => Ok(Err(ServerFault::Memory)),
+    }
+}
+
+/// Serves what the listener accepts, or else standard input, with these closures and post-hooks.
+fn run_over<
+    F: Fn(&Event) -> Outcome + Send + Drop,
+    R: Input + Print + AllocGlobal + RandomSource + Threads + Wait + Sync,
+>(
+    rt: &R,
+    words: &Words,
+    listener: Option<TcpListener>,
+    hooks: PreHooks,
+    recorders: Vec<Recorder<F>>,
+) -> io::Result<Result<(), ServerFault>>
+    requires one_for_each { length recorders.items ≡ words.now.settings.lanes }
+    requires new { All (λ r. ⟦<Recorder<F> as PostHook>⟧.is_sound r × (⟦<Recorder<F> as PostHook>⟧.handed r ≡ [])) recorders.items }
+{
+    let alloc = rt.alloc();
+    let settings = &words.settings;
+    let mut sink = Output::new(BufWriter::new(alloc, io::writer(rt))?);
+    let (Some(listener), Some(serving)) = (listener, &words.serve) else {
+        let mut source = up_wire::Input::new(BufReader::new(alloc, rt.reader())?);
+        return Ok(replay(
+            rt,
+            alloc,
+            hooks,
+            recorders,
+            settings,
+            &mut source,
+            &mut sink,
+        ));
+    };
+    let visits = Visits {
+        connections: serving.connections,
+        open: serving.open,
+    };
+    let ids = Drawn::new(rt)?;
+    Ok(serve(
+        rt, alloc, hooks, recorders, settings, listener, &visits, ids, &mut sink,
+    ))
+}

@@ -1,0 +1,19 @@
+//! What connections share.
+ghost use Rattle.std.specs.Prelude.{◌≤◌};
+ghost use Rattle.up_events.specs.declared.limits.TheConstants.{MOST_BYTES};
+
+use crate::door::Door;
+use crate::seats::Seats;
+use std::sync::Mutex;
+use up_dispatch::{Board, Naming};
+
+/// What the connections of a server share, beside its closures.
+#[derive(Drop)]
+pub struct Hall<'a, B: Naming, I> {
+    pub board: &'a Board<B>,
+    pub door: Door,
+    pub ids: Mutex<I>,
+    pub seats: Seats<B>,
+    pub max_size: u64,
+    pub ghost small: { max_size ≤ MOST_BYTES },
+}

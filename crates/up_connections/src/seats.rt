@@ -1,0 +1,53 @@
+//! The seats that connections take and leave.
+ghost use Rattle.std.specs.Prelude.{◌≡◌, ◌++◌, ◌∷◌, [], ◌<◌, vec_len, vec_capacity};
+
+use std::alloc::{AllocError, Global};
+use std::sync::{Mutex, Wait};
+use up_dispatch::{Board, Naming, Seat};
+
+/// Puts a seat behind the others. Where there is room it takes no memory; elsewhere the seat is lost if memory is wanting.
+fn put<B: Naming>(seats: &mut Vec<Seat<B>>, seat: Seat<B>)
+    ensures { vec_len seats.old < vec_capacity seats.old → seats.new.items ≡ seats.old.items ++ seat ∷ [] }
+{
+    if seats.len() < seats.capacity() {
+        seats.push_reserved(seat);
+    } else {
+        let _ = seats.push(seat);
+    }
+}
+
+/// The seats that came back.
+#[derive(Drop)]
+pub struct Seats<B: Naming> {
+    back: Mutex<Vec<Seat<B>>>,
+}
+
+impl<B: Naming> Seats<B> {
+    /// None came back yet, and there is room for so many.
+    pub fn new(alloc: Global, most: u64) -> Result<Seats<B>, AllocError> {
+        let back = Mutex::new(Vec::with_capacity(alloc, most as usize)?);
+        Ok(Seats { back })
+    }
+
+    /// A seat that came back, or else a new one of the board. None where the board has given out all it has.
+    pub fn take<R: Wait>(&self, rt: &R, board: &Board<B>) -> Option<Seat<B>> {
+        let back = self.back.lock(rt).pop();
+        match back {
+            Some(seat) => Some(seat),
+            None => board.seat(rt),
+        }
+    }
+
+    /// Takes a seat back. It takes no memory while there is room.
+    pub fn put_back<R: Wait>(&self, rt: &R, seat: Seat<B>) {
+        put(&mut self.back.lock(rt), seat);
+    }
+
+    /// All seats that came back.
+    pub fn into_inner(self) -> Vec<Seat<B>> {
+        self.back.into_inner()
+    }
+}
+
+#[cfg(test)]
+mod tests;

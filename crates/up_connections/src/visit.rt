@@ -1,0 +1,82 @@
+//! One connection.
+ghost use Rattle.std.specs.Prelude.{◌≤◌};
+ghost use Rattle.up_hooks.specs.Gives.{ClosuresGive};
+ghost use Rattle.up_dispatch.specs.Answering.{Serves, course};
+ghost use Rattle.up_dispatch.specs.Keepers.{by_seat};
+ghost use Rattle.up_dispatch.specs.Turn.{Converses, stand};
+
+use crate::hall::Hall;
+use std::alloc::Global;
+use std::io::{self, BufReader, BufWriter};
+use std::net::TcpStream;
+use std::sync::Wait;
+use up_dispatch::{Board, Ended, Ids, Naming, Seat, Seated, SharedIds, converse};
+use up_events::MOST_BYTES;
+use up_hooks::PreHooks;
+use up_wire::{Input, Output, Sink, Source};
+
+/// How many bytes are read at a time.
+const READ_AHEAD: usize = 8192;
+
+/// Serves one conversation from a seat of the board, with ids of this source.
+pub fn converse_at<B: Naming, I: Ids, R: Source, W: Sink, T: Wait>(
+    rt: &T,
+    alloc: Global,
+    board: &Board<B>,
+    seat: &mut Seat<B>,
+    hooks: &PreHooks,
+    ids: &mut I,
+    max_size: u64,
+    source: &mut R,
+    sink: &mut W,
+) -> Ended
+    requires small { max_size ≤ MOST_BYTES }
+    ensures served { Converses (Serves (by_seat B.queue (ClosuresGive hooks.now)) I.draws) max_size
+        (stand (course seat.old ids.old) (R.device source.old) (W.device sink.old))
+        (stand (course seat.new ids.new) (R.device source.new) (W.device sink.new)) result }
+{
+    let mut seated = Seated::new(rt, board, seat);
+    converse(alloc, &mut seated, hooks, ids, max_size, source, sink)
+}
+
+/// Serves a connection from a seat. An error is a connection that can't be set up, or want of memory for its buffers; nothing was served
+/// then.
+fn talk<B: Naming, I: Ids, T: Wait>(
+    rt: &T,
+    alloc: Global,
+    hall: &Hall<'_, B, I>,
+    hooks: &PreHooks,
+    seat: &mut Seat<B>,
+    stream: &TcpStream,
+) -> io::Result<Ended> {
+    stream.set_nodelay(true)?;
+    let mut source = Input::new(BufReader::with_capacity(alloc, READ_AHEAD, stream)?);
+    let mut sink = Output::new(BufWriter::new(alloc, stream)?);
+    let mut ids = SharedIds { rt, ids: &hall.ids };
+    Ok(converse_at(
+        rt,
+        alloc,
+        hall.board,
+        seat,
+        hooks,
+        &mut ids,
+        hall.max_size,
+        &mut source,
+        &mut sink,
+    ))
+}
+
+/// Serves a connection from a seat that it takes and puts back, and closes it. Where no seat is free, or the connection can't be set up,
+/// it is closed with no answer, which changes nothing for others.
+pub fn attend<B: Naming, I: Ids, T: Wait>(
+    rt: &T,
+    alloc: Global,
+    hall: &Hall<'_, B, I>,
+    hooks: &PreHooks,
+    stream: TcpStream,
+) {
+    if let Some(mut seat) = hall.seats.take(rt, hall.board) {
+        let _ = talk(rt, alloc, hall, hooks, &mut seat, &stream);
+        hall.seats.put_back(rt, seat);
+    }
+}

@@ -1,0 +1,51 @@
+-- The report of a board that has ended, and what is told of it.
+use Rattle.std.specs.Prelude.{◌≡◌, ℕ, Bool, true, false, List, length, Result, Ok, Err}
+use Rattle.std.specs.Io.KnownBytes.{Appends}
+use Rattle.std.specs.List.{list_any}
+use Rattle.up_dispatch.specs.Reports.{HandOver, TellEachUpload}
+use Rattle.up_dispatch.specs.declared.finish.LaneReport.{LaneReport}
+use Rattle.up_dispatch.specs.declared.finish.Report.{Report}
+use Rattle.up_events.specs.History.{IsLegal}
+use Rattle.up_events.specs.declared.event.Event.{Event}
+use Rattle.up_hooks.specs.declared.recorder.Recorder.{Recorder}
+use Rattle.up_lanes.specs.declared.lane_end.How.{How}
+use Rattle.up_lanes.specs.declared.lane_end.How.TheVariants.{Drained, Stopped}
+use Rattle.up_server.specs.ReportText.{report_text}
+use Rattle.up_server.specs.declared.server_fault.ServerFault.{ServerFault}
+use Rattle.up_server.specs.declared.server_fault.ServerFault.TheVariants as Fault
+use Rattle.up_wire.specs.Device.{Device, GaveUp}
+use Rattle.up_wire.specs.Response.{WritesFront}
+
+-- The report of a board with so many lanes: the changes are a legal history. Each lane handed over a beginning of its log of them: of each
+-- upload the first of its events, each once and in order, and all of them where the lane is drained.
+pub record IsReportOf {H : Type 0} (handed : H → List Event) (lanes : ℕ) (report : Report H) : Type 0 where
+  pub legal : IsLegal report.accepted.items
+  pub lanes_are : length report.lanes.items ≡ lanes
+  pub handed_over : HandOver handed lanes report.accepted.items report.lanes.items
+  pub delivered : TellEachUpload handed lanes report.accepted.items report.lanes.items
+
+-- whether a lane stopped before its end came
+abbrev pub is_stopped : How → Bool
+is_stopped Drained = false
+is_stopped Stopped = true
+
+-- whether any lane did
+abbrev pub any_stopped : {H : Type 0} → List (LaneReport H) → Bool
+any_stopped lanes = list_any (λ lane. is_stopped lane.how) lanes
+
+-- the report was written, and sent on
+abbrev pub IsWritten : {F : Type 0} → Report (Recorder F) → Device → Device → Type 0
+IsWritten report before after = Appends before.bytes after.bytes (report_text report)
+
+-- a front of it was written, and then the sink failed, or was interrupted too often
+abbrev pub IsBrokenOff : {F : Type 0} → Report (Recorder F) → Device → Device → Type 0
+IsBrokenOff report before after = WritesFront before.bytes after.bytes (report_text report) × GaveUp after after.interruptions
+
+-- the report, and what went wrong
+abbrev pub IsTold : {F : Type 0} → Report (Recorder F) → Device → Device → {X : Type 0} → Result X ServerFault → Type 0
+IsTold report before after (Ok done) = IsWritten report before after × (any_stopped report.lanes.items ≡ false)
+IsTold report before after (Err Fault.Memory) = ⊥
+IsTold report before after (Err Fault.Listen) = ⊥
+IsTold report before after (Err Fault.Write) = IsBrokenOff report before after
+IsTold report before after (Err Fault.Read) = ⊥
+IsTold report before after (Err Fault.Stopped) = IsWritten report before after × (any_stopped report.lanes.items ≡ true)

@@ -1,0 +1,52 @@
+//! A board with its lanes: how it begins, and how it ends.
+ghost use Rattle.std.specs.Prelude.{◌≡◌, All, IfOk, vec_len, [], length, sum};
+ghost use Rattle.up_dispatch.specs.Lists.{EachAt};
+ghost use Rattle.up_dispatch.specs.Parts.{NamesQueues};
+ghost use Rattle.up_server.specs.Reported.{IsReportOf};
+
+use crate::lanes::lanes_over;
+use crate::settings::Settings;
+use std::alloc::Global;
+use up_dispatch::{Board, BoardParts, Naming, Report, Seat};
+use up_events::NoMemory;
+use up_hooks::PostHook;
+use up_lanes::{Lane, LaneEnd};
+
+/// A new board of these parts, and a lane over each of its queues, with the post-hook at its place.
+pub fn open<B: Naming, H: PostHook + Drop>(
+    alloc: Global,
+    parts: BoardParts,
+    post_hooks: Vec<H>,
+    settings: &Settings,
+) -> Result<(Board<B>, Vec<Lane<H>>), NoMemory>
+    requires name { parts.name ≡ B.name }
+    requires parts { parts.parts ≡ B.parts }
+    requires queues { NamesQueues B.queue parts.queues }
+    requires lanes { length parts.queues ≡ settings.now.lanes }
+    requires one_for_each { vec_len post_hooks ≡ settings.now.lanes }
+    requires new { All (λ h. H.is_sound h × (H.handed h ≡ [])) post_hooks.items }
+    ensures count { IfOk result (λ r. vec_len r.1 ≡ settings.now.lanes) }
+    ensures lanes { IfOk result (λ r. EachAt (λ k l. (l.lane ≡ k) × (l.queue ≡ B.queue k)) r.1.items) }
+{
+    let (board, takes) = Board::<B>::new(alloc, parts, settings.max_size)?;
+    let lanes = lanes_over(alloc, takes, post_hooks)?;
+    Ok((board, lanes))
+}
+
+/// Ends the board, and reports. An error is want of memory, or a seat that isn't among these and from which changes were made.
+pub fn finish<B: Naming, H: PostHook + Drop>(
+    alloc: Global,
+    board: Board<B>,
+    seats: Vec<Seat<B>>,
+    ends: Vec<LaneEnd<H>>,
+) -> Result<Report<H>, NoMemory>
+    requires ends { EachAt (λ k e. H.is_sound e.hook × (e.lane ≡ k) × (e.take_end.queue ≡ B.queue k)) ends.items }
+    ensures counts { IfOk result (λ r. vec_len r.accepted ≡ sum seats.items) }
+    ensures report { IfOk result (λ r. IsReportOf H.handed (vec_len ends) r) }
+    ensures sound { IfOk result (λ r. All (λ x. H.is_sound x.hook) r.lanes.items) }
+{
+    match board.finish(alloc, seats, ends) {
+        Ok(report) => Ok(report),
+        Err(_) => Err(NoMemory),
+    }
+}

@@ -1,0 +1,51 @@
+//! Events as lines, written while the server runs.
+ghost use Rattle.std.specs.Prelude.{◌≡◌, ◌≢◌, IsTrue};
+ghost use Rattle.std.specs.Io.KnownBytes.{Appends};
+ghost use Rattle.up_hooks.specs.Told.{has_code};
+ghost use Rattle.up_hooks.specs.declared.post_hook.Outcome.TheVariants.{Done, Failed};
+ghost use Rattle.up_wire.specs.Device.{GaveUp};
+ghost use Rattle.up_server.specs.ReportText.{event_line};
+
+use crate::report::write_told;
+use std::sync::{Mutex, Wait};
+use up_events::Event;
+use up_hooks::Outcome;
+use up_wire::Sink;
+
+/// Writes the event as a line in the form of the report, and has the sink send it on.
+fn write_line<W: Sink>(sink: &mut W, event: &Event) -> Outcome
+    ensures code { IsTrue (has_code result) }
+    ensures written { result ≡ Done → Appends (W.device sink.old).bytes (W.device sink.new).bytes (event_line (event.now, Done)) }
+    ensures failed { result ≢ Done → (result ≡ Failed 1) × GaveUp (W.device sink.new) (W.device sink.new).interruptions }
+{
+    match write_told(sink, &(*event, Outcome::Done)) {
+        Ok(()) => Outcome::Done,
+        Err(_) => Outcome::Failed(1),
+    }
+}
+
+/// Where the post-hooks of all lanes write their events, each as a line of its own.
+#[derive(Drop)]
+pub struct EventLines<W> {
+    sink: Mutex<W>,
+}
+
+impl<W: Sink> EventLines<W> {
+    /// Lines to this sink, of which none is written yet.
+    pub fn new(sink: W) -> Self {
+        EventLines {
+            sink: Mutex::new(sink),
+        }
+    }
+
+    /// Writes the event as a line in the form of the report, and has the sink send it on, before any other is written. `Failed` with the
+    /// code 1 where that failed.
+    pub fn tell<R: Wait>(&self, rt: &R, event: &Event) -> Outcome
+        ensures { IsTrue (has_code result) }
+    {
+        write_line(&mut *self.sink.lock(rt), event)
+    }
+}
+
+#[cfg(test)]
+mod tests;

@@ -1,0 +1,173 @@
+//! A run of the server over connections.
+ghost use Rattle.std.specs.Prelude.{◌≡◌, ◌⊎◌, ◌≤◌, [], All, Err, IfOk, length, vec_len};
+ghost use Rattle.up_dispatch.specs.Lists.{EachAt};
+ghost use Rattle.up_dispatch.specs.Parts.{NamesQueues};
+ghost use Rattle.up_dispatch.specs.declared.finish.Report.{Report};
+ghost use Rattle.up_hooks.specs.declared.recorder.Recorder.{Recorder};
+ghost use Rattle.up_server.specs.Reported.{IsReportOf, IsTold};
+
+use crate::boards;
+use crate::lanes::{end_all, start_all};
+use crate::server_fault::ServerFault;
+use crate::settings::Settings;
+use crate::telling::tell_report;
+use std::alloc::{AllocError, Global};
+use std::marker::{Brand, Send, Sync};
+use std::net::TcpListener;
+use std::sync::Wait;
+use std::thread;
+use std::thread::{Scope, Threads};
+use up_connections::{Visits, serve_connections};
+use up_dispatch::{Board, BoardParts, Ids, Naming, Report, Seat};
+use up_events::{Event, MOST_BYTES, NoMemory};
+use up_hooks::{Outcome, PostHook, PreHooks, Recorder};
+use up_lanes::{Lane, LaneEnd};
+use up_wire::Sink;
+
+/// Starts the lanes in the scope, serves the connections, closes the board, and waits for the lanes.
+fn attend_in<
+    's,
+    E,
+    B: Naming + Send + Sync,
+    H: PostHook + Drop + 's,
+    I: Ids + Send + Drop,
+    T: Threads + Wait + Sync,
+>(
+    scope: &Scope<'s, E>,
+    rt: &'s T,
+    alloc: Global,
+    board: &'s Board<B>,
+    lanes: Vec<Lane<H>>,
+    hooks: &PreHooks,
+    max_size: u64,
+    listener: &TcpListener,
+    visits: &Visits,
+    ids: I,
+) -> Result<(Vec<Seat<B>>, Vec<LaneEnd<H>>), AllocError>
+    requires lanes { EachAt (λ k l. (l.lane ≡ k) × (l.queue ≡ B.queue k)) lanes.items }
+    requires small { max_size ≤ MOST_BYTES }
+    ensures count { IfOk result (λ r. vec_len r.1 ≡ vec_len lanes) }
+    ensures ends { IfOk result (λ r. EachAt (λ k e. H.is_sound e.hook × (e.lane ≡ k) × (e.take_end.queue ≡ B.queue k)) r.1.items) }
+{
+    let running = start_all(scope, rt, alloc, board, lanes)?;
+    let seats = serve_connections(rt, alloc, board, hooks, ids, max_size, listener, visits);
+    let ends = end_all(rt, board, running)?;
+    Ok((seats?, ends))
+}
+
+/// Runs the lanes in threads of their own while connections are served, and then closes the board. Gives back the seats, and the ends of
+/// the lanes.
+fn attend<
+    B: Naming + Send + Sync,
+    H: PostHook + Drop,
+    I: Ids + Send + Drop,
+    T: Threads + Wait + Sync,
+>(
+    rt: &T,
+    alloc: Global,
+    board: &Board<B>,
+    lanes: Vec<Lane<H>>,
+    hooks: &PreHooks,
+    max_size: u64,
+    listener: &TcpListener,
+    visits: &Visits,
+    ids: I,
+) -> Result<(Vec<Seat<B>>, Vec<LaneEnd<H>>), AllocError>
+    requires lanes { EachAt (λ k l. (l.lane ≡ k) × (l.queue ≡ B.queue k)) lanes.items }
+    requires small { max_size ≤ MOST_BYTES }
+    ensures count { IfOk result (λ r. vec_len r.1 ≡ vec_len lanes) }
+    ensures ends { IfOk result (λ r. EachAt (λ k e. H.is_sound e.hook × (e.lane ≡ k) × (e.take_end.queue ≡ B.queue k)) r.1.items) }
+{
+    thread::scope(
+        thread::scope_env(),
+        rt,
+        move |scope| -> Result<(Vec<Seat<B>>, Vec<LaneEnd<H>>), AllocError>
+            requires lanes { EachAt (λ k l. (l.lane ≡ k) × (l.queue ≡ B.queue k)) lanes.items }
+            requires small { max_size ≤ MOST_BYTES }
+            ensures count { IfOk result (λ r. vec_len r.1 ≡ vec_len lanes) }
+            ensures ends { IfOk result (λ r. EachAt (λ k e. H.is_sound e.hook × (e.lane ≡ k) × (e.take_end.queue ≡ B.queue k)) r.1.items) }
+        {
+            attend_in(
+                scope, rt, alloc, board, lanes, hooks, max_size, listener, visits, ids,
+            )
+        },
+    )
+}
+
+/// Serves connections on a new board of these parts, ends its lanes and reports.
+fn run<B: Naming + Send + Sync, H: PostHook + Drop, I: Ids + Send + Drop, T: Threads + Wait + Sync>(
+    rt: &T,
+    alloc: Global,
+    parts: BoardParts,
+    hooks: &PreHooks,
+    post_hooks: Vec<H>,
+    settings: &Settings,
+    listener: &TcpListener,
+    visits: &Visits,
+    ids: I,
+) -> Result<Report<H>, NoMemory>
+    requires name { parts.name ≡ B.name }
+    requires parts { parts.parts ≡ B.parts }
+    requires queues { NamesQueues B.queue parts.queues }
+    requires lanes { length parts.queues ≡ settings.now.lanes }
+    requires one_for_each { vec_len post_hooks ≡ settings.now.lanes }
+    requires new { All (λ h. H.is_sound h × (H.handed h ≡ [])) post_hooks.items }
+    ensures report { IfOk result (λ r. IsReportOf H.handed settings.now.lanes r) }
+    ensures sound { IfOk result (λ r. All (λ x. H.is_sound x.hook) r.lanes.items) }
+{
+    let (board, lanes) = boards::open::<B, _>(alloc, parts, post_hooks, settings)?;
+    let (seats, ends) = attend(
+        rt,
+        alloc,
+        &board,
+        lanes,
+        hooks,
+        settings.max_size,
+        listener,
+        visits,
+        ids,
+    )?;
+    boards::finish(alloc, board, seats, ends)
+}
+
+/// Serves connections that the listener accepts, each as a conversation of its own in a thread of its own, on a new board with ids of this
+/// source, while each lane hands its events to the recorder at its place in a thread of its own. Once the last connection has ended, the
+/// lanes end, and the report is written to `sink`. The closures of `hooks` are asked before an upload is made, completed or removed. What
+/// goes wrong on a connection ends that one alone. Of what else went wrong the first in the order of `ServerFault` is answered; after
+/// `Memory` and `Write` there may be no report.
+pub fn serve<
+    F: Fn(&Event) -> Outcome + Send + Drop,
+    I: Ids + Send + Drop,
+    W: Sink,
+    T: Threads + Wait + Sync,
+>(
+    rt: &T,
+    alloc: Global,
+    hooks: PreHooks,
+    recorders: Vec<Recorder<F>>,
+    settings: &Settings,
+    listener: TcpListener,
+    visits: &Visits,
+    ids: I,
+    sink: &mut W,
+) -> Result<(), ServerFault>
+    requires one_for_each { length recorders.items ≡ settings.now.lanes }
+    requires new { All (λ r. ⟦<Recorder<F> as PostHook>⟧.is_sound r × (⟦<Recorder<F> as PostHook>⟧.handed r ≡ [])) recorders.items }
+    ensures { (result ≡ Err ServerFault.Memory) ⊎ ((report : Report (Recorder F))
+        × IsReportOf ⟦<Recorder<F> as PostHook>⟧.handed settings.now.lanes report
+        × All (λ lane. ⟦<Recorder<F> as PostHook>⟧.is_sound lane.hook) report.lanes.items
+        × IsTold report (W.device sink.old) (W.device sink.new) result) }
+{
+    let Ok(parts) = BoardParts::new(alloc, settings.lanes, settings.capacity) else {
+        return Err(ServerFault::Memory);
+    };
+    let Ok(report) = run::<Brand, _, _, _>(
+        rt, alloc, parts, &hooks, recorders, settings, &listener, visits, ids,
+    ) else {
+        return Err(ServerFault::Memory);
+    };
+    tell_report(sink, &report)
+}
+
+#[cfg(test)]
+mod tests;

@@ -1,0 +1,54 @@
+//! What is said at the end of a run.
+ghost use Rattle.std.specs.Prelude.{◌≡◌};
+ghost use Rattle.up_server.specs.Reported.{IsTold, any_stopped, is_stopped};
+ghost use Rattle.up_server.specs.Run.{IsReported};
+
+use crate::report::write_report;
+use crate::running::Served;
+use crate::server_fault::ServerFault;
+use up_dispatch::{Ended, LaneReport, Report};
+use up_hooks::Recorder;
+use up_lanes::How;
+use up_wire::Sink;
+
+/// Whether the lane stopped before its end came.
+fn is_stopped<H>(lane: &LaneReport<H>) -> bool
+    ensures { result ≡ is_stopped lane.now.how }
+{
+    matches!(lane.how, How::Stopped)
+}
+
+/// Whether any lane did.
+fn any_stopped<H>(lanes: &[LaneReport<H>]) -> bool
+    ensures { result ≡ any_stopped lanes.now }
+{
+    lanes.iter().any(|lane| is_stopped(lane))
+}
+
+/// Writes the report, and tells whether a write failed, or else whether a lane stopped.
+pub fn tell_report<F, W: Sink>(
+    sink: &mut W,
+    report: &Report<Recorder<F>>,
+) -> Result<(), ServerFault>
+    ensures { IsTold report.now (W.device sink.old) (W.device sink.new) result }
+{
+    match write_report(sink, report) {
+        Ok(()) if any_stopped(report.lanes.as_slice()) => Err(ServerFault::Stopped),
+        Ok(()) => Ok(()),
+        Err(_) => Err(ServerFault::Write),
+    }
+}
+
+/// Writes the report behind the replies, where these were written, and tells the first thing that went wrong.
+pub fn tell<F, W: Sink>(sink: &mut W, served: &Served<Recorder<F>>) -> Result<(), ServerFault>
+    ensures { IsReported served.now (W.device sink.old) (W.device sink.new) result }
+{
+    match served.ended {
+        Ended::WriteFailed => Err(ServerFault::Write),
+        Ended::ReadFailed => match write_report(sink, &served.report) {
+            Ok(()) => Err(ServerFault::Read),
+            Err(_) => Err(ServerFault::Write),
+        },
+        Ended::Closed | Ended::Cut => tell_report(sink, &served.report),
+    }
+}
