@@ -1,0 +1,246 @@
+"""What `tests/clients`, `tests/hostile` and `bench/serve` share: the program `up`, a server of it for the time of a `with`,
+connections that speak HTTP/1.1 byte for byte, and the count of cases. It needs nothing but Python 3 and prints nothing by itself.
+"""
+import argparse
+import os
+import re
+import resource
+import select
+import signal
+import socket
+import subprocess
+import sys
+import tempfile
+import time
+
+ROOT = os.path.dirname(os.path.dirname(os.path.abspath(__file__)))
+
+# The most seconds that a server may take to listen, and that a reply is waited for.
+MOST_WAIT = 20
+
+# No client here goes through a proxy.
+os.environ["no_proxy"] = "127.0.0.1"
+
+# The largest upload that a server takes here, in bytes.
+MAX_SIZE = 1 << 30
+
+
+def build():
+    """The path of the program `up`, which is built anew where its crates changed; that takes some minutes."""
+    folder = os.path.join(ROOT, "crates", "up")
+    with open(os.path.join(folder, "stdin"), "rb") as given:
+        subprocess.run(["rt", "run"], cwd=folder, stdin=given, stdout=subprocess.DEVNULL, stderr=subprocess.DEVNULL)
+    program = os.path.join(folder, "out", "up")
+    if not os.path.exists(program):
+        sys.exit("up was not built")
+    return program
+
+
+def status_of(process, name):
+    """A number of a process: its `Threads`, or its bytes in memory now, `VmRSS`, and at most, `VmHWM`."""
+    with open(f"/proc/{process}/status", encoding="ascii") as file:
+        found = re.search(rf"^{name}:\s+(\d+)( kB)?$", file.read(), re.MULTILINE)
+    return int(found[1]) * (1024 if found[2] else 1)
+
+
+def seconds_of(process):
+    """The processor time that a process took so far."""
+    with open(f"/proc/{process}/stat", encoding="ascii") as file:
+        fields = file.read().rpartition(")")[2].split()
+    return (int(fields[11]) + int(fields[12])) / os.sysconf("SC_CLK_TCK")
+
+
+class Server:
+    """`up serve` with these words, on a free port of the loopback. It is killed at the end of the `with`."""
+
+    def __init__(self, program, *words, files=None):
+        self.words = [program, "serve", "--address", "127.0.0.1:0", "--max-size", str(MAX_SIZE), *words]
+        self.files = files
+
+    def limit(self):
+        signal.signal(signal.SIGPIPE, signal.SIG_DFL)
+        if self.files:
+            resource.setrlimit(resource.RLIMIT_NOFILE, (self.files, self.files))
+
+    def __enter__(self):
+        self.told = tempfile.TemporaryFile()
+        self.process = subprocess.Popen(
+            self.words, stdin=subprocess.DEVNULL, stdout=self.told, stderr=subprocess.PIPE, preexec_fn=self.limit
+        )
+        self.port = self.listening()
+        self.url = f"http://127.0.0.1:{self.port}"
+        return self
+
+    def __exit__(self, *_):
+        self.process.kill()
+        self.process.wait()
+        self.process.stderr.close()
+        self.told.close()
+
+    def listening(self):
+        """The port in the line that the server says once it listens."""
+        ready, _, _ = select.select([self.process.stderr], [], [], MOST_WAIT)
+        line = self.process.stderr.readline().decode() if ready else ""
+        found = re.fullmatch(r"up_server: listening on 127\.0\.0\.1:(\d+)\n", line)
+        if not found:
+            self.process.kill()
+            sys.exit(f"the server does not listen: {line!r}")
+        return int(found[1])
+
+    def output(self):
+        """What the server has written to its standard output."""
+        return os.pread(self.told.fileno(), 1 << 24, 0).decode()
+
+    def processes(self):
+        return [self.process.pid]
+
+    def status(self, name):
+        return status_of(self.process.pid, name)
+
+    def seconds(self):
+        return seconds_of(self.process.pid)
+
+    def descriptors(self):
+        """How many files and sockets the server holds."""
+        return len(os.listdir(f"/proc/{self.process.pid}/fd"))
+
+
+class Reply:
+    """A status, the fields with their names in lower case, and the body."""
+
+    def __init__(self, status, fields, body):
+        self.status, self.fields, self.body = status, fields, body
+
+
+def head(method, target, fields):
+    """The bytes of a head. A POST, PATCH or DELETE says the version."""
+    lines = [f"{method} {target} HTTP/1.1", "Host: a"]
+    if method in ("POST", "PATCH", "DELETE"):
+        lines.append("Tus-Resumable: 1.0.0")
+    lines += [f"{name}: {value}" for name, value in fields.items()]
+    return "".join(line + "\r\n" for line in lines + [""]).encode()
+
+
+def patch(path, offset, length):
+    """The head of a PATCH that brings so many bytes."""
+    media = "application/offset+octet-stream"
+    return head("PATCH", path, {"Content-Type": media, "Upload-Offset": offset, "Content-Length": length})
+
+
+class Connection:
+    """A connection to a server. What is read waits `MOST_WAIT` seconds at most."""
+
+    def __init__(self, server):
+        self.socket = socket.create_connection(("127.0.0.1", server.port), MOST_WAIT)
+        self.socket.setsockopt(socket.IPPROTO_TCP, socket.TCP_NODELAY, 1)
+        self.read = b""
+
+    def __enter__(self):
+        return self
+
+    def __exit__(self, *_):
+        self.socket.close()
+
+    def send(self, message):
+        self.socket.sendall(message)
+
+    def more(self):
+        """Reads on; nothing where the server has closed."""
+        came = self.socket.recv(1 << 20)
+        self.read += came
+        return came
+
+    def take(self, size):
+        """The next bytes, fewer where the server closes before."""
+        while len(self.read) < size and self.more():
+            pass
+        taken, self.read = self.read[:size], self.read[size:]
+        return taken
+
+    def reply(self, bare=False):
+        """The next reply; a bare one has no body, whatever its fields say."""
+        while b"\r\n\r\n" not in self.read:
+            if not self.more():
+                raise AssertionError(f"no reply but {self.read!r}")
+        lines, _, self.read = self.read.partition(b"\r\n\r\n")
+        first, *rest = lines.decode().split("\r\n")
+        fields = {name.lower(): value.strip() for name, _, value in (line.partition(":") for line in rest)}
+        body = b"" if bare else self.take(int(fields.get("content-length", 0)))
+        return Reply(int(first.split()[1]), fields, body)
+
+    def ask(self, method, target, **fields):
+        """The reply to a message without a body; `upload_length=3` is the field `Upload-Length: 3`."""
+        named = {name.replace("_", "-"): value for name, value in fields.items()}
+        self.send(head(method, target, named))
+        return self.reply(method == "HEAD")
+
+    def make(self, length):
+        """The path of a new upload of this length."""
+        reply = self.ask("POST", "/files/", upload_length=length)
+        same(reply.status, 201, "the status of a POST")
+        return reply.fields["location"]
+
+    def append(self, path, offset, body):
+        """The reply to a PATCH."""
+        self.send(patch(path, offset, len(body)) + body)
+        return self.reply()
+
+    def offset(self, path):
+        """How far an upload has come."""
+        reply = self.ask("HEAD", path)
+        same(reply.status, 200, "the status of a HEAD")
+        return int(reply.fields["upload-offset"])
+
+    def is_closed(self):
+        """Whether the server has closed, with nothing behind what was read."""
+        return not self.read and not self.more()
+
+
+def same(got, wanted, what):
+    """Fails the case where what came isn't what was wanted."""
+    if got != wanted:
+        raise AssertionError(f"{what}: {str(got)[:200]!r}, not {str(wanted)[:200]!r}")
+
+
+def below(got, limit, what):
+    """Fails the case where a figure isn't below its limit."""
+    if not got < limit:
+        raise AssertionError(f"{what}: {got:.3f}, not below {limit:.3f}")
+
+
+def soon(holds, what):
+    """Waits until this holds; fails the case where it doesn't in time."""
+    end = time.monotonic() + MOST_WAIT
+    while not holds():
+        if time.monotonic() > end:
+            raise AssertionError(f"not in {MOST_WAIT} s: {what}")
+        time.sleep(0.01)
+
+
+def words_of(about):
+    """The program to be tried, and the names of the cases that were asked for."""
+    words = argparse.ArgumentParser(description=about)
+    words.add_argument("--program", help="the program to be tried, in place of crates/up/out/up")
+    words.add_argument("names", nargs="*", metavar="NAME", help="the cases to be tried, in place of all")
+    given = words.parse_args()
+    return given.program or build(), given.names
+
+
+def try_all(cases, names, passed_over=()):
+    """Tries the cases, each a function with a sentence on it, and prints what came of them; the exit status."""
+    passed, failed = 0, 0
+    for case in cases:
+        if names and case.__name__ not in names:
+            continue
+        start = time.monotonic()
+        try:
+            case()
+            passed += 1
+            print(f"passed: {case.__name__}: {case.__doc__} ({time.monotonic() - start:.1f} s)", flush=True)
+        except (AssertionError, OSError, subprocess.SubprocessError, KeyError, ValueError) as fault:
+            failed += 1
+            print(f"failed: {case.__name__}: {case.__doc__} {type(fault).__name__}: {fault}", flush=True)
+    for what in passed_over:
+        print(f"passed over: {what}")
+    print(f"{passed} passed, {failed} failed")
+    return 1 if failed else 0
