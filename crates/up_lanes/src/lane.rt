@@ -10,8 +10,13 @@ use crate::lane_end::{How, LaneEnd};
 use crate::refill::Refill;
 use std::marker::Model;
 use std::sync::Wait;
+use std::thread;
 use up_hooks::PostHook;
 use up_queue::{Item, TakeEnd};
+
+/// How many times a lane that finds its queue empty lets other threads run before it sleeps: to be woken takes longer than most
+/// events are apart.
+const MOST_YIELDS: u32 = 30;
 
 /// What came of a step.
 #[derive(Clone, Copy, Debug, PartialEq, Eq)]
@@ -126,7 +131,8 @@ impl<H: PostHook> Lane<H> {
     }
 
     /// Steps until the end was taken, or until the post-hook has no memory for one more event. Where the queue is empty it is
-    /// refilled, and where it is empty again the lane sleeps until there may be something.
+    /// refilled; where it stays empty the lane lets other threads run a number of times, and then sleeps until there may be
+    /// something.
     pub fn run<R: Wait, T: Refill>(mut self, rt: &R, refill: &T) -> LaneEnd<H>
         ensures sound { H.is_sound result.hook }
         ensures same { (result.lane ≡ self.lane) × (result.take_end.queue ≡ self.queue) }
@@ -134,17 +140,21 @@ impl<H: PostHook> Lane<H> {
         ensures lawful { IsLawful (H.handed result.hook) }
         ensures alike { StaysAlike H.may_answer self.hook result.hook }
     {
-        let mut is_refilled = false;
+        let mut found_empty: u32 = 0;
         for _ in rt.forever() {
             match self.step(rt) {
-                StepEnd::Handed => is_refilled = false,
-                StepEnd::Nothing if is_refilled => {
-                    refill.wait(rt, self.lane, self.taken);
-                    is_refilled = false;
+                StepEnd::Handed => found_empty = 0,
+                StepEnd::Nothing if found_empty == 0 => {
+                    refill.refill(rt, self.lane);
+                    found_empty = 1;
+                }
+                StepEnd::Nothing if found_empty <= MOST_YIELDS => {
+                    thread::yield_now();
+                    found_empty += 1;
                 }
                 StepEnd::Nothing => {
-                    refill.refill(rt, self.lane);
-                    is_refilled = true;
+                    refill.wait(rt, self.lane, self.taken);
+                    found_empty = 0;
                 }
                 StepEnd::Ended | StepEnd::NoMemory => break,
             }

@@ -8,7 +8,7 @@ pub trait Refill: Sync {
     fn refill<R: Wait>(&self, rt: &R, lane: u64);
 
     /// Sleeps until there may be something for the lane, which has taken so many items, modulo 2^64. It is called only where
-    /// the lane has found its queue empty twice, with one call of `refill` between. It must not sleep where more items were
+    /// the lane found its queue empty, called `refill`, and has found it empty since. It must not sleep where more items were
     /// put than taken, where `refill` would put something, or where the end was taken. It may return for no reason.
     fn wait<R: Wait>(&self, rt: &R, lane: u64, taken: u64);
 }
