@@ -7,9 +7,10 @@ ghost use Rattle.up_dispatch.specs.Turn.{Converses, stand};
 
 use crate::hall::Hall;
 use std::alloc::Global;
-use std::io::{self, BufReader, BufWriter};
-use std::net::TcpStream;
+use std::io::{self, BufReader, BufWriter, Read};
+use std::net::{Shutdown, TcpStream};
 use std::sync::Wait;
+use std::time::Duration;
 use up_dispatch::{Board, Ended, Ids, Naming, Seat, Seated, SharedIds, converse};
 use up_events::MOST_BYTES;
 use up_hooks::PreHooks;
@@ -17,6 +18,12 @@ use up_wire::{Input, Output, Sink, Source};
 
 /// How many bytes are read at a time.
 const READ_AHEAD: usize = 8192;
+
+/// How many seconds a connection that is being closed waits for the client's next bytes, or for its close.
+const LINGERING: u64 = 2;
+
+/// How many times bytes are read and dropped of a connection that is being closed.
+const MOST_DROPPED: usize = MOST_BYTES as usize / READ_AHEAD;
 
 /// Serves one conversation from a seat of the board, with ids of this source.
 pub fn converse_at<B: Naming, I: Ids, R: Source, W: Sink, T: Wait>(
@@ -66,6 +73,21 @@ fn talk<B: Naming, I: Ids, T: Wait>(
     ))
 }
 
+/// Closes a connection behind its last answer. What the client has sent without being heard, or goes on sending, is read and dropped: the
+/// system would drop the answer where a connection is closed with bytes unread (RFC 9112, section 9.6).
+fn close(stream: &TcpStream) -> io::Result<()> {
+    stream.shutdown(Shutdown::Write)?;
+    stream.set_read_timeout(Some(Duration::from_secs(LINGERING)))?;
+    let mut dropped = [0; READ_AHEAD];
+    let mut unheard = stream;
+    for _ in 0..MOST_DROPPED {
+        if unheard.read(&mut dropped)? == 0 {
+            break;
+        }
+    }
+    Ok(())
+}
+
 /// Serves a connection from a seat that it takes and puts back, and closes it. Where no seat is free, or the connection can't be set up,
 /// it is closed with no answer, which changes nothing for others.
 pub fn attend<B: Naming, I: Ids, T: Wait>(
@@ -76,7 +98,10 @@ pub fn attend<B: Naming, I: Ids, T: Wait>(
     stream: TcpStream,
 ) {
     if let Some(mut seat) = hall.seats.take(rt, hall.board) {
-        let _ = talk(rt, alloc, hall, hooks, &mut seat, &stream);
+        let ended = talk(rt, alloc, hall, hooks, &mut seat, &stream);
         hall.seats.put_back(rt, seat);
+        if matches!(ended, Ok(Ended::Closed)) {
+            let _ = close(&stream);
+        }
     }
 }
