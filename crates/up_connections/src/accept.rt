@@ -124,6 +124,3 @@ pub fn serve_connections<B: Naming + Send + Sync, I: Ids + Send + Drop, T: Threa
     serve_in(rt, alloc, &hall, hooks, listener, visits);
     Ok(hall.seats.into_inner())
 }
-
-#[cfg(test)]
-mod tests;

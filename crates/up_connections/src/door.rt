@@ -47,6 +47,3 @@ impl Door {
         drop(self.ended.wait_while(rt, self.open.lock(rt), |open| *open > 0 && *open >= others));
     }
 }
-
-#[cfg(test)]
-mod tests;

@@ -35,6 +35,3 @@ impl Ids for Drawn {
         Id::new(high * (1 << 64) + low)
     }
 }
-
-#[cfg(test)]
-mod tests;

@@ -48,6 +48,3 @@ impl<B: Naming> Seats<B> {
         self.back.into_inner()
     }
 }
-
-#[cfg(test)]
-mod tests;

@@ -76,6 +76,3 @@ pub fn answer<K: Keeper>(
         Err(refusal) => reply_to_refusal(alloc, &refusal),
     }
 }
-
-#[cfg(test)]
-mod tests;

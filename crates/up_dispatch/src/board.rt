@@ -142,6 +142,3 @@ impl<B: Naming> Refill for Board<B> {
         }
     }
 }
-
-#[cfg(test)]
-mod tests;

@@ -188,6 +188,3 @@ pub fn converse<K: Keeper, I: Ids, R: Source, W: Sink>(
     }
     Ended::Closed
 }
-
-#[cfg(test)]
-mod tests;

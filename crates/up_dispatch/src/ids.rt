@@ -66,15 +66,3 @@ impl<I: Ids, R: Wait> Ids for SharedIds<'_, I, R> {
         self.ids.lock(self.rt).next_id()
     }
 }
-
-#[cfg(test)]
-mod tests {
-    use super::*;
-
-    #[test]
-    fn counts_from_one(rt: HostRuntime) {
-        let mut ids = Counting::new();
-        let given = [ids.next_id(), ids.next_id(), ids.next_id()];
-        assert_eq!(rt; given, [Id::new(1), Id::new(2), Id::new(3)]);
-    }
-}

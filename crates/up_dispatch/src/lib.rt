@@ -13,8 +13,6 @@ mod lending;
 mod naming;
 mod parts;
 mod reply;
-#[cfg(test)]
-mod requests;
 mod seat;
 
 pub use answering::answer;

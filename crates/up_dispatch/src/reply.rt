@@ -72,21 +72,3 @@ pub fn reply_to_refusal(alloc: Global, refusal: &Refusal) -> Response
 {
     response_of(alloc, refusal).unwrap_or(Response::out_of_memory(alloc))
 }
-
-#[cfg(test)]
-mod tests {
-    use super::*;
-
-    #[test]
-    fn says_no_more_than_503_where_memory_is_wanting(rt: HostRuntime) {
-        let replies = [
-            reply_to_wire_fault(rt.alloc(), WireFault::NoMemory),
-            reply_to_header_fault(rt.alloc(), HeaderFault::NoMemory),
-            reply_to_refusal(rt.alloc(), &Refusal::NoMemory),
-        ];
-        for response in replies {
-            assert_eq!(rt; response.status, 503);
-            assert_eq!(rt; (response.fields.len(), response.body.len()), (0, 0));
-        }
-    }
-}

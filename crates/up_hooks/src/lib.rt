@@ -7,8 +7,6 @@ mod pre_hook;
 mod pre_hooks;
 mod recorder;
 mod recorders;
-#[cfg(test)]
-mod tests;
 
 pub use post_hook::{Outcome, PostHook};
 pub use pre_hook::{Judge, PreHook};

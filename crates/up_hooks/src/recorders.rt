@@ -27,6 +27,3 @@ pub fn new_recorders<F: Fn(&Event) -> Outcome + Send + Copy>(
     }
     Ok(made)
 }
-
-#[cfg(test)]
-mod tests;

@@ -5,8 +5,6 @@
 mod lane;
 mod lane_end;
 mod refill;
-#[cfg(test)]
-mod tests;
 
 pub use lane::{Lane, StepEnd};
 pub use lane_end::{How, LaneEnd};

@@ -137,10 +137,10 @@ fn command<'a>(alloc: Global) -> Result<Command<'a>, AllocError> {
     let serve = Command::new(alloc, "serve").about(
         "Serves connections, each as a conversation of its own, and reports what was handed over",
     );
-    Command::new(alloc, "up_server")
+    Command::new(alloc, "up")
         .about("An upload server for the tus resumable upload protocol 1.0.0")
         .no_binary_name(true)
-        .bin_name("up_server")?
+        .bin_name("up")?
         .subcommand_required(true)
         .subcommand(with_common(alloc, replay)?)?
         .subcommand(with_common(alloc, with_connections(alloc, serve)?)?)

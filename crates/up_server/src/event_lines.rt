@@ -46,6 +46,3 @@ impl<W: Sink> EventLines<W> {
         write_line(&mut *self.sink.lock(rt), event)
     }
 }
-
-#[cfg(test)]
-mod tests;

@@ -94,6 +94,3 @@ pub fn end_all<B: Naming, H: PostHook + Drop, T: Threads + Wait>(
     board.close(rt);
     Ok(thread::join_promised(rt, running)?)
 }
-
-#[cfg(test)]
-mod tests;

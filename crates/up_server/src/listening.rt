@@ -168,6 +168,3 @@ pub fn serve<
     };
     tell_report(sink, &report)
 }
-
-#[cfg(test)]
-mod tests;

@@ -9,8 +9,9 @@ ghost use Rattle.up_server.specs.Rules.{at_most, finishes_at_most, keeps, needs_
 use up_events::Kind;
 use up_machine::{Ask, Reason, Verdict};
 
-/// A refusal with this status and this reason.
-fn refuse(status: u16, text: &[u8]) -> Verdict
+/// A refusal with this status and this reason, for a closure to answer. The reason is 1 to 80 bytes, each a space or a visible character
+/// of ASCII. That the status is one with which a closure may refuse is for the closure to show.
+pub fn refuse(status: u16, text: &[u8]) -> Verdict
     requires { is_reason text.now ≡ true }
     ensures { result ≡ Refuse status text.now }
 {
@@ -70,6 +71,3 @@ pub fn keeps(ask: &Ask) -> Verdict
 {
     refuse(403, b"uploads are kept")
 }
-
-#[cfg(test)]
-mod tests;

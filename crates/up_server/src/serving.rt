@@ -56,6 +56,3 @@ pub fn replay<F: Fn(&Event) -> Outcome + Send + Drop, R: Source, W: Sink, T: Thr
     };
     tell(sink, &served)
 }
-
-#[cfg(test)]
-mod tests;

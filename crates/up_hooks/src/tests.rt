@@ -1,3 +1,0 @@
-//! What the proofs can't see: how often closures are called, and that calls succeed.
-mod asking;
-mod recording;

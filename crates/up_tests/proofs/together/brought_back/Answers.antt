@@ -1,0 +1,14 @@
+use Rattle.std.proofs.Common.{[], ap, ◌∙◌, arith}
+use Rattle.up_lanes.specs.LaneSides.{LaneSide}
+use Rattle.up_queue.specs.Sides.{TakeSide, no_queue}
+use Rattle.up_tests.proofs.together.brought_back.Goals as goal
+
+pub change_together-requires-clause-lanes : goal.change_together-requires-clause-lanes
+change_together-requires-clause-lanes g c = λ lifetimes lives k d within.
+    let e : TakeSide = record { queue = no_queue; capacity = 0; taken = [] } in
+    let is = c.in_ok-lanes.ensures.lanes k d within e d.hook in
+    let end = c.in_ok-board.ensures.ends.1 k e (omega (arith, within, c.in_ok-lanes.ensures.count, c.in_ok-lanes.lanes.ok.0, c.in_ok-board.takes.ok.0)) in
+    (ap (λ (l : LaneSide g.row.H.Denot). l.lane) is, ap (λ (l : LaneSide g.row.H.Denot). l.queue) is ∙ end.1)
+
+pub finish-requires-3-after_bounds : goal.finish-requires-3-after_bounds
+finish-requires-3-after_bounds g c = λ lifetimes lives. rw c.in-Err.ensures.back.1 c.in_ok-seats.ensures.own

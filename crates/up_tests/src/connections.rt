@@ -1,0 +1,5 @@
+//! Who is let in, which seats connections take, which ids uploads get, and connections over sockets of this machine.
+mod accept;
+mod door;
+mod drawn;
+mod seats;

@@ -1,0 +1,67 @@
+//! Connections over sockets of this machine.
+ghost use Rattle.std.specs.Prelude.{◌≡◌, length};
+ghost use Rattle.up_dispatch.specs.Parts.{NamesQueues};
+
+use crate::clients::ask;
+use std::alloc::Global;
+use std::io::Read;
+use std::marker::{Brand, Send, Sync};
+use std::net::TcpListener;
+use std::sync::Wait;
+use std::test::Fail;
+use std::thread::Threads;
+use up_connections::{Visits, serve_connections};
+use up_dispatch::{Board, BoardParts, Counting, Naming};
+use up_hooks::PreHooks;
+
+const ASKED: &[u8] = b"POST /files/ HTTP/1.1\r\nHost: a\r\nTus-Resumable: 1.0.0\r\n\
+    Upload-Length: 5\r\nConnection: close\r\n\r\n";
+
+/// Serves so many connections on a new board, and tells of each seat how many changes were made from it.
+fn counts<B: Naming + Send + Sync, T: Threads + Wait + Sync>(
+    rt: &T,
+    alloc: Global,
+    parts: BoardParts,
+    listener: &TcpListener,
+    visits: &Visits,
+) -> Result<Vec<u64>, Fail>
+    requires name { parts.name ≡ B.name }
+    requires parts { parts.parts ≡ B.parts }
+    requires queues { NamesQueues B.queue parts.queues }
+    requires lanes { length parts.queues ≡ 1 }
+{
+    let (board, _takes) = Board::<B>::new(alloc, parts, 1_024)?;
+    let hooks = PreHooks::new(Vec::new(alloc));
+    let ids = Counting::new();
+    let seats = serve_connections(rt, alloc, &board, &hooks, ids, 1_024, listener, visits)?;
+    let mut counts = Vec::new(alloc);
+    for seat in seats {
+        counts.push(seat.count())?;
+    }
+    Ok(counts)
+}
+
+#[test]
+fn serves_three_from_one_seat(rt: HostRuntime) -> Result<(), Fail> {
+    let listener = TcpListener::bind(&rt, "127.0.0.1:0")?;
+    let address = listener.local_addr()?;
+    let mut clients = [
+        ask(&rt, address, ASKED)?,
+        ask(&rt, address, ASKED)?,
+        ask(&rt, address, ASKED)?,
+    ];
+    let visits = Visits {
+        connections: Some(3),
+        open: 1,
+    };
+    let parts = BoardParts::new(rt.alloc(), 1, 8)?;
+    let made = counts::<Brand, _>(&rt, rt.alloc(), parts, &listener, &visits)?;
+    assert_eq!(rt; made.as_slice(), [3u64].as_slice());
+    for client in &mut clients {
+        let mut answer = Vec::new(rt.alloc());
+        client.read_to_end(&mut answer)?;
+        assert!(rt; answer.starts_with(b"HTTP/1.1 201 Created\r\n"));
+        assert!(rt; answer.ends_with(b"\r\nConnection: close\r\n\r\n"));
+    }
+    Ok(())
+}

@@ -1,0 +1,166 @@
+//! Conversations over a lent book, and from the seats of a board, and the ids that their uploads get.
+ghost use Rattle.std.specs.Prelude.{◌≡◌, ◌<◌, ◌≤◌, length};
+ghost use Rattle.up_dispatch.specs.Parts.{IsNamed};
+
+use std::alloc::Global;
+use std::marker::Brand;
+use std::process::Abort;
+use std::sync::{Mutex, Wait};
+use std::test::Fail;
+use up_dispatch::{
+    Board, BoardParts, Counting, Ended, Ids, Keeper, Lent, Naming, Seated, SharedIds, converse,
+};
+use up_events::Id;
+use up_hooks::PreHooks;
+use up_machine::Book;
+use up_wire::{Input, Output};
+
+const MAX_SIZE: u64 = 1 << 20;
+
+/// A creation, and an append whose body breaks off.
+const CUT: &str =
+    "POST /files/ HTTP/1.1\r\nHost: a\r\nTus-Resumable: 1.0.0\r\nUpload-Length: 10\r\n\r\n\
+    PATCH /files/00000000000000000000000000000001 HTTP/1.1\r\nHost: a\r\nTus-Resumable: 1.0.0\r\n\
+    Content-Type: application/offset+octet-stream\r\nUpload-Offset: 0\r\nContent-Length: 10\r\n\r\nabcd";
+
+/// How the upload stands.
+const HEAD: &str = "HEAD /files/00000000000000000000000000000001 HTTP/1.1\r\nHost: a\r\n\r\n";
+
+/// Two creations, a removal of the upload with the id 5, and one more creation.
+const CREATIONS: &str =
+    "POST /files/ HTTP/1.1\r\nHost: a\r\nTus-Resumable: 1.0.0\r\nUpload-Length: 1\r\n\r\n\
+    POST /files/ HTTP/1.1\r\nHost: a\r\nTus-Resumable: 1.0.0\r\nUpload-Length: 1\r\n\r\n\
+    DELETE /files/00000000000000000000000000000005 HTTP/1.1\r\nHost: a\r\nTus-Resumable: 1.0.0\r\n\r\n\
+    POST /files/ HTTP/1.1\r\nHost: a\r\nTus-Resumable: 1.0.0\r\nUpload-Length: 1\r\n\r\n";
+
+/// How a conversation ends, and what it writes.
+fn talk<K: Keeper, I: Ids>(
+    alloc: Global,
+    keeper: &mut K,
+    ids: &mut I,
+    asked: &str,
+) -> (Ended, Vec<u8>) {
+    let hooks = PreHooks::new(Vec::new(alloc));
+    let mut source = Input::new(asked.as_bytes());
+    let mut sink = Output::new(Vec::new(alloc));
+    let ended = converse(alloc, keeper, &hooks, ids, MAX_SIZE, &mut source, &mut sink);
+    (ended, sink.into_inner())
+}
+
+/// The append has no answer.
+fn breaks_off<K: Keeper, I: Ids, R: Abort>(
+    rt: &R,
+    alloc: Global,
+    keeper: &mut K,
+    ids: &mut I,
+) -> Result<(), Fail> {
+    let (ended, written) = talk(alloc, keeper, ids, CUT);
+    assert_eq!(rt; ended, Ended::Cut);
+    assert_eq!(rt;
+        str::from_utf8(&written)?,
+        "HTTP/1.1 201 Created\r\nTus-Resumable: 1.0.0\r\nCache-Control: no-store\r\n\
+        Location: /files/00000000000000000000000000000001\r\nContent-Length: 0\r\n\r\n"
+    );
+    Ok(())
+}
+
+/// The bytes that came before it broke off are there.
+fn has_four<K: Keeper, I: Ids, R: Abort>(
+    rt: &R,
+    alloc: Global,
+    keeper: &mut K,
+    ids: &mut I,
+) -> Result<(), Fail> {
+    let (ended, written) = talk(alloc, keeper, ids, HEAD);
+    assert_eq!(rt; ended, Ended::Closed);
+    assert_eq!(rt;
+        str::from_utf8(&written)?,
+        "HTTP/1.1 200 OK\r\nTus-Resumable: 1.0.0\r\nCache-Control: no-store\r\n\
+        Upload-Offset: 4\r\nUpload-Length: 10\r\n\r\n"
+    );
+    Ok(())
+}
+
+#[test]
+fn keeps_what_came_of_a_cut_append(rt: HostRuntime) -> Result<(), Fail> {
+    let mut book = Book::new(rt.alloc(), 2, MAX_SIZE)?;
+    let mut ids = Counting::new();
+    breaks_off(&rt, rt.alloc(), &mut Lent::new(&mut book), &mut ids)?;
+    has_four(&rt, rt.alloc(), &mut Lent::new(&mut book), &mut ids)
+}
+
+/// The upload is made from one seat and asked for from the other, with one source of ids.
+fn two_seats<B: Naming, R: Wait + Abort>(
+    rt: &R,
+    alloc: Global,
+    parts: BoardParts,
+) -> Result<(), Fail>
+    requires named { IsNamed B.name B.parts B.queue parts }
+    requires lanes { length parts.queues ≡ 2 }
+{
+    let (board, _takes) = Board::<B>::new(alloc, parts, MAX_SIZE)?;
+    let (Some(mut first), Some(mut second)) = (board.seat(rt), board.seat(rt)) else {
+        return Err("a seat".into());
+    };
+    let ids = Mutex::new(Counting::new());
+    let mut shared = SharedIds { rt, ids: &ids };
+    breaks_off(
+        rt,
+        alloc,
+        &mut Seated::new(rt, &board, &mut first),
+        &mut shared,
+    )?;
+    has_four(
+        rt,
+        alloc,
+        &mut Seated::new(rt, &board, &mut second),
+        &mut shared,
+    )?;
+    assert_eq!(rt; (first.count(), second.count()), (2, 0));
+    Ok(())
+}
+
+#[test]
+fn shows_one_seat_what_another_did(rt: HostRuntime) -> Result<(), Fail> {
+    let parts = BoardParts::new(rt.alloc(), 2, 1)?;
+    two_seats::<Brand, _>(&rt, rt.alloc(), parts)
+}
+
+/// A source that has one id alone.
+#[derive(Drop)]
+struct Five;
+
+impl Ids for Five {
+    ghost use Rattle.std.specs.Prelude.{◌≡◌};
+
+    ghost draws = { λ _ id _. id ≡ 5 };
+
+    fn next_id(&mut self) -> Id {
+        Id::new(5)
+    }
+}
+
+#[test]
+fn never_gives_an_id_again(rt: HostRuntime) -> Result<(), Fail> {
+    let mut book = Book::new(rt.alloc(), 2, MAX_SIZE)?;
+    let (ended, written) = talk(rt.alloc(), &mut Lent::new(&mut book), &mut Five, CREATIONS);
+    assert_eq!(rt; ended, Ended::Closed);
+    assert_eq!(rt;
+        str::from_utf8(&written)?,
+        "HTTP/1.1 201 Created\r\nTus-Resumable: 1.0.0\r\nCache-Control: no-store\r\n\
+        Location: /files/00000000000000000000000000000005\r\nContent-Length: 0\r\n\r\n\
+        HTTP/1.1 500 Internal Server Error\r\nTus-Resumable: 1.0.0\r\nCache-Control: no-store\r\n\
+        Content-Type: text/plain\r\nContent-Length: 11\r\n\r\n32 IdTaken\n\
+        HTTP/1.1 204 No Content\r\nTus-Resumable: 1.0.0\r\nCache-Control: no-store\r\n\r\n\
+        HTTP/1.1 500 Internal Server Error\r\nTus-Resumable: 1.0.0\r\nCache-Control: no-store\r\n\
+        Content-Type: text/plain\r\nContent-Length: 11\r\n\r\n32 IdTaken\n"
+    );
+    Ok(())
+}
+
+#[test]
+fn counts_from_one(rt: HostRuntime) {
+    let mut ids = Counting::new();
+    let given = [ids.next_id(), ids.next_id(), ids.next_id()];
+    assert_eq!(rt; given, [Id::new(1), Id::new(2), Id::new(3)]);
+}

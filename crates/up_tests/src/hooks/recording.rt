@@ -1,0 +1,104 @@
+//! Post-hooks that keep what they were handed.
+ghost use Rattle.std.specs.Prelude.{IsTrue};
+ghost use Rattle.up_hooks.specs.Told.{has_code};
+
+use std::alloc::Global;
+use std::sync::atomic::{AtomicU64, Ordering};
+use std::test::Fail;
+use up_events::{Event, Hook, Id};
+use up_hooks::{Outcome, PostHook, Recorder, new_recorders};
+
+fn event(number: u64, hook: Hook, offset: u64) -> Event {
+    Event {
+        id: Id::new(1),
+        number,
+        hook,
+        offset,
+        length: Some(11),
+    }
+}
+
+/// What came of these events, one after another.
+fn hand_all<H: PostHook>(
+    alloc: Global,
+    hook: &mut H,
+    events: &[Event],
+) -> Result<Vec<Outcome>, Fail>
+    requires { H.is_sound hook.old }
+{
+    let mut outcomes = Vec::new(alloc);
+    for event in events {
+        hook.ready()?;
+        outcomes.push(hook.hand(event))?;
+    }
+    Ok(outcomes)
+}
+
+#[test]
+fn goes_on_after_a_failure(rt: HostRuntime) -> Result<(), Fail> {
+    let calls = AtomicU64::new(0);
+    let mut recorder = Recorder::new(
+        rt.alloc(),
+        |event: &Event| -> Outcome
+            ensures { IsTrue (has_code result) }
+        {
+            calls.fetch_add(1, Ordering::SeqCst);
+            match event.hook {
+                Hook::Create => Outcome::Done,
+                Hook::Receive => Outcome::Failed(7),
+                Hook::Finish => Outcome::Failed(99),
+                Hook::Terminate => Outcome::Failed(1),
+            }
+        },
+    );
+    let events = [
+        event(1, Hook::Create, 0),
+        event(2, Hook::Receive, 6),
+        event(3, Hook::Receive, 11),
+        event(4, Hook::Finish, 11),
+        event(5, Hook::Terminate, 11),
+    ];
+    let wanted = [
+        Outcome::Done,
+        Outcome::Failed(7),
+        Outcome::Failed(7),
+        Outcome::Failed(99),
+        Outcome::Failed(1),
+    ];
+    let outcomes = hand_all(rt.alloc(), &mut recorder, &events)?;
+    assert_eq!(rt; outcomes.as_slice(), wanted.as_slice());
+    assert_eq!(rt; calls.load(Ordering::SeqCst), 5);
+    assert_eq!(rt; recorder.list().len(), 5);
+    for (place, pair) in recorder.list().iter().enumerate() {
+        assert_eq!(rt; *pair, (events[place], wanted[place]));
+    }
+    Ok(())
+}
+
+#[test]
+fn keeps_one_pair_for_each_event(rt: HostRuntime) -> Result<(), Fail> {
+    let mut recorder = Recorder::new(rt.alloc(), |_: &Event| Outcome::Failed(7));
+    let created = event(1, Hook::Create, 0);
+    assert!(rt; recorder.list().is_empty());
+    recorder.ready()?;
+    recorder.ready()?;
+    assert!(rt; recorder.list().is_empty());
+    assert_eq!(rt; recorder.hand(&created), Outcome::Failed(7));
+    assert_eq!(rt; recorder.list(), [(created, Outcome::Failed(7))].as_slice());
+    Ok(())
+}
+
+#[test]
+fn each_lane_has_a_recorder_of_its_own(rt: HostRuntime) -> Result<(), Fail> {
+    let created = event(1, Hook::Create, 0);
+    let mut recorders = new_recorders(rt.alloc(), 2, |_: &Event| Outcome::Done)?;
+    assert_eq!(rt; recorders.len(), 2);
+    let Some(first) = recorders.first_mut() else {
+        return Err("a recorder".into());
+    };
+    first.ready()?;
+    assert_eq!(rt; first.hand(&created), Outcome::Done);
+    assert_eq!(rt; recorders[0].list(), [(created, Outcome::Done)].as_slice());
+    assert_eq!(rt; recorders[1].list().len(), 0);
+    Ok(())
+}

@@ -1,0 +1,144 @@
+//! Lanes that run: what they call where their queue is empty, and one in a thread.
+ghost use Rattle.std.specs.Prelude.{◌≡◌, ◌≤◌, [], length, take};
+ghost use Rattle.up_queue.specs.Line.{IsOrderly};
+
+use super::parts::{Listing, items, put_all, put_at, wanted};
+use std::marker::Model;
+use std::sync::atomic::{AtomicU64, Ordering};
+use std::sync::{Mutex, Wait};
+use std::test::Fail;
+use std::thread;
+use up_lanes::{How, Lane, Refill};
+use up_queue::{Item, PutEnd, lane_queue};
+
+/// Items that are put one after another.
+#[derive(Drop)]
+struct Supply {
+    put_end: PutEnd,
+    items: Vec<Item>,
+    place: usize,
+}
+
+impl Model for Supply {
+    ghost use Rattle.std.specs.Prelude.{ℕ, ◌≡◌, ◌≤◌, length, take};
+    ghost use Rattle.up_queue.specs.Line.{IsOrderly};
+
+    ghost Value = { ℕ };
+
+    ghost view = { λ s. s.place };
+
+    ghost invariant = { λ s. record {
+      orderly : IsOrderly s.items.items;
+      place : s.place ≤ length s.items.items;
+      before : s.put_end.put ≡ take s.place s.items.items;
+    } };
+}
+
+impl Supply {
+    fn new(put_end: PutEnd, items: Vec<Item>) -> Supply
+        requires orderly { IsOrderly items.items }
+        requires new { put_end.put ≡ [] }
+    {
+        Supply {
+            put_end,
+            items,
+            place: 0,
+        }
+    }
+
+    /// Puts the next item, where there is one and the queue has room for it.
+    fn put_next<R: Wait>(&mut self, rt: &R) {
+        if self.place < self.items.len()
+            && put_at(rt, &mut self.put_end, &self.items, self.place).is_ok()
+        {
+            self.place += 1;
+        }
+    }
+}
+
+/// Fills the queue of lane 7, an item at each call of one kind, and counts the calls.
+#[derive(Drop)]
+struct Counted {
+    supply: Mutex<Supply>,
+    fills_by_refill: bool,
+    refills: AtomicU64,
+    waits: AtomicU64,
+    /// Calls for another lane, or after another number of items than were put.
+    strays: AtomicU64,
+}
+
+impl Refill for Counted {
+    fn refill<R: Wait>(&self, rt: &R, lane: u64) {
+        self.refills.fetch_add(1, Ordering::SeqCst);
+        if lane != 7 {
+            self.strays.fetch_add(1, Ordering::SeqCst);
+        }
+        if self.fills_by_refill {
+            self.supply.lock(rt).put_next(rt);
+        }
+    }
+
+    fn wait<R: Wait>(&self, rt: &R, lane: u64, taken: u64) {
+        let count = self.waits.fetch_add(1, Ordering::SeqCst);
+        if lane != 7 || taken != count {
+            self.strays.fetch_add(1, Ordering::SeqCst);
+        }
+        self.supply.lock(rt).put_next(rt);
+    }
+}
+
+#[test]
+fn refills_first_and_then_sleeps(rt: HostRuntime) -> Result<(), Fail> {
+    for (fills_by_refill, wanted_waits) in [(true, 0), (false, 9)] {
+        let (put_end, take_end) = lane_queue(rt.alloc(), 1)?;
+        let counted = Counted {
+            supply: Mutex::new(Supply::new(put_end, items(rt.alloc(), 4)?)),
+            fills_by_refill,
+            refills: AtomicU64::new(0),
+            waits: AtomicU64::new(0),
+            strays: AtomicU64::new(0),
+        };
+        let end = Lane::new(7, take_end, Listing::new(rt.alloc(), 0, 0)).run(&rt, &counted);
+        assert_eq!(rt; (end.lane, end.how), (7, How::Drained));
+        assert_eq!(rt;
+            end.hook.events.as_slice(),
+            wanted(rt.alloc(), 4)?.as_slice()
+        );
+        assert_eq!(rt; counted.refills.load(Ordering::SeqCst), 9);
+        assert_eq!(rt; counted.waits.load(Ordering::SeqCst), wanted_waits);
+        assert_eq!(rt; counted.strays.load(Ordering::SeqCst), 0);
+    }
+    Ok(())
+}
+
+/// Another thread puts the items.
+struct Elsewhere;
+
+impl Refill for Elsewhere {
+    fn refill<R: Wait>(&self, _rt: &R, _lane: u64) {}
+
+    fn wait<R: Wait>(&self, _rt: &R, _lane: u64, _taken: u64) {
+        thread::yield_now();
+    }
+}
+
+#[test]
+fn runs_in_a_thread_of_its_own(rt: HostRuntime) -> Result<(), Fail> {
+    let items = items(rt.alloc(), 4)?;
+    let all = items.as_slice();
+    let (put_end, take_end) = lane_queue(rt.alloc(), 1)?;
+    let lane = Lane::new(0, take_end, Listing::new(rt.alloc(), 0, 0));
+    let (_, end) = thread::join(
+        &rt,
+        ||
+            requires { IsOrderly all.now × (put_end.put ≡ []) }
+        { put_all(&rt, put_end, all) },
+        || lane.run(&rt, &Elsewhere),
+    );
+    assert_eq!(rt; end.how, How::Drained);
+    assert_eq!(rt;
+        end.hook.events.as_slice(),
+        wanted(rt.alloc(), 4)?.as_slice()
+    );
+    Ok(())
+}

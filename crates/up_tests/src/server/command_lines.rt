@@ -1,0 +1,231 @@
+//! What the words of the command line ask for.
+use std::alloc::{AllocError, Global};
+use std::process::Abort;
+use std::test::Fail;
+use up_server::{Settings, Words, WordsFault, words};
+
+/// What these words ask for.
+fn read(alloc: Global, given: &[&str]) -> Result<Result<Words, WordsFault>, AllocError> {
+    let mut list = Vec::new(alloc);
+    for word in given {
+        list.push(String::from_str(alloc, word)?)?;
+    }
+    Ok(words(alloc, list))
+}
+
+/// The key, the most length and whether uploads are kept.
+fn rules(words: &Words) -> (Option<&str>, Option<u64>, bool) {
+    let key = match &words.require_key {
+        Some(key) => Some(key.as_str()),
+        None => None,
+    };
+    (key, words.max_length, words.keep)
+}
+
+#[test]
+fn reads_settings(rt: HostRuntime) -> Result<(), Fail> {
+    let plain = read(rt.alloc(), &["replay"])??.settings;
+    assert_eq!(rt;
+        (plain.lanes, plain.capacity, plain.max_size),
+        (2, 16, 1_048_576)
+    );
+    assert_eq!(rt; plain, Settings::default());
+    let given = [
+        "replay",
+        "--lanes",
+        "1",
+        "--capacity",
+        "4",
+        "--max-size",
+        "5",
+    ];
+    let small = read(rt.alloc(), &given)??.settings;
+    assert_eq!(rt; (small.lanes, small.capacity, small.max_size), (1, 4, 5));
+    Ok(())
+}
+
+#[test]
+fn reads_settings_at_their_limits(rt: HostRuntime) -> Result<(), Fail> {
+    let given = [
+        "replay",
+        "--lanes",
+        "16",
+        "--capacity",
+        "4096",
+        "--max-size",
+        "1073741824",
+    ];
+    let large = read(rt.alloc(), &given)??.settings;
+    assert_eq!(rt;
+        (large.lanes, large.capacity, large.max_size),
+        (16, 4096, 1_073_741_824)
+    );
+    Ok(())
+}
+
+/// Words, and the key, the most length and whether uploads are kept that they ask for.
+const RULES: [(&[&str], (Option<&str>, Option<u64>, bool)); 10] = [
+    (&["replay"], (None, None, false)),
+    (
+        &["replay", "--require-key", "filename", "--keep"],
+        (Some("filename"), None, true),
+    ),
+    (
+        &["replay", "--keep", "--require-key=filename"],
+        (Some("filename"), None, true),
+    ),
+    (
+        &["replay", "--require-key", "Größe"],
+        (Some("Größe"), None, false),
+    ),
+    (&["replay", "--require-key="], (Some(""), None, false)),
+    (
+        &["replay", "--require-key=--keep"],
+        (Some("--keep"), None, false),
+    ),
+    (&["replay", "--max-length", "4"], (None, Some(4), false)),
+    (&["replay", "--max-length", "0"], (None, Some(0), false)),
+    (
+        &["replay", "--max-length", "18446744073709551615"],
+        (None, Some(18_446_744_073_709_551_615), false),
+    ),
+    (
+        &[
+            "replay",
+            "--keep",
+            "--lanes",
+            "1",
+            "--max-length",
+            "7",
+            "--require-key",
+            "a",
+        ],
+        (Some("a"), Some(7), true),
+    ),
+];
+
+#[test]
+fn reads_rules(rt: HostRuntime) -> Result<(), Fail> {
+    for (i, (line, wanted)) in RULES.iter().enumerate() {
+        let found = read(rt.alloc(), line)??;
+        assert_eq!(rt; rules(&found), *wanted, "at {i}");
+    }
+    Ok(())
+}
+
+/// Words, and the address, the connections, the open ones and whether events are written that they ask for.
+const CONNECTIONS: [(&[&str], (&str, Option<u64>, u64, bool)); 5] = [
+    (&["serve"], ("127.0.0.1:1080", None, 1024, false)),
+    (
+        &[
+            "serve",
+            "--address",
+            "[::1]:0",
+            "--connections",
+            "1",
+            "--open",
+            "1",
+        ],
+        ("[::1]:0", Some(1), 1, false),
+    ),
+    (
+        &["serve", "--connections", "65536", "--open", "4096"],
+        ("127.0.0.1:1080", Some(65_536), 4096, false),
+    ),
+    (&["serve", "--address="], ("", None, 1024, false)),
+    (
+        &["serve", "--events", "--lanes", "3"],
+        ("127.0.0.1:1080", None, 1024, true),
+    ),
+];
+
+#[test]
+fn reads_which_connections_are_served(rt: HostRuntime) -> Result<(), Fail> {
+    for (i, (line, wanted)) in CONNECTIONS.iter().enumerate() {
+        let found = read(rt.alloc(), line)??;
+        let Some(serving) = &found.serve else {
+            return Err("connections".into());
+        };
+        let read = (
+            serving.address.as_str(),
+            serving.connections,
+            serving.open,
+            found.events,
+        );
+        assert_eq!(rt; read, *wanted, "at {i}");
+    }
+    let replay = read(rt.alloc(), &["replay", "--events"])??;
+    assert_eq!(rt; (replay.events, replay.serve.is_none()), (true, true));
+    Ok(())
+}
+
+#[test]
+fn reads_sizes_and_rules_of_connections(rt: HostRuntime) -> Result<(), Fail> {
+    let given = [
+        "serve",
+        "--lanes",
+        "3",
+        "--capacity",
+        "5",
+        "--max-size",
+        "7",
+        "--max-length",
+        "4",
+        "--require-key",
+        "a",
+        "--keep",
+        "--max-finish",
+        "6",
+    ];
+    let found = read(rt.alloc(), &given)??;
+    let settings = found.settings;
+    assert_eq!(rt;
+        (settings.lanes, settings.capacity, settings.max_size),
+        (3, 5, 7)
+    );
+    assert_eq!(rt; rules(&found), (Some("a"), Some(4), true));
+    assert_eq!(rt; (found.max_finish, found.events), (Some(6), false));
+    Ok(())
+}
+
+#[test]
+fn refuses_other_words(rt: HostRuntime) -> Result<(), Fail> {
+    let lines: [&[&str]; 31] = [
+        &["replay", "--lanes", "0"],
+        &["replay", "--lanes", "17"],
+        &["replay", "--capacity", "0"],
+        &["replay", "--capacity", "4097"],
+        &["replay", "--max-size", "0"],
+        &["replay", "--max-size", "1073741825"],
+        &["replays"],
+        &["replay", "--lane", "1"],
+        &["replay", "--max-length", "18446744073709551616"],
+        &["replay", "--max-length", "0x10"],
+        &["replay", "--max-length", ""],
+        &["replay", "--max-length"],
+        &["replay", "--max-length", "4", "--max-length", "4"],
+        &["replay", "--require-key"],
+        &["replay", "--require-key", "--keep"],
+        &["replay", "--require-key", "a", "--require-key", "b"],
+        &["replay", "--keep=yes"],
+        &["replay", "--keep", "--keep"],
+        &["--keep", "replay"],
+        &["replay", "filename"],
+        &["replay", "--address", "127.0.0.1:0"],
+        &["replay", "--events", "--events"],
+        &["serve", "--connections", "0"],
+        &["serve", "--connections", "65537"],
+        &["serve", "--connections"],
+        &["serve", "--open", "0"],
+        &["serve", "--open", "4097"],
+        &["serve", "--address"],
+        &["serve", "replay"],
+        &[],
+        &["--help"],
+    ];
+    for (i, line) in lines.iter().enumerate() {
+        let outcome = read(rt.alloc(), line)?;
+        assert!(rt; matches!(&outcome, Err(WordsFault::Refused(_))), "at {i}");
+    }
+    Ok(())
+}
