@@ -1,4 +1,5 @@
-//! A server that wants a file name for each upload, takes no more than 16 bytes of one, and has each one scanned that is complete.
+//! A server that wants a file name for each upload, takes no programs and no more than 16 bytes of one, and has each
+//! one scanned that is complete.
 #![tactic(auto)]
 
 ghost use Rattle.std.specs.Prelude.{IsTrue};
@@ -9,7 +10,7 @@ use std::io::{self, BufReader, BufWriter};
 use up_events::{Event, Hook};
 use up_hooks::{Outcome, PreHook, PreHooks, new_recorders};
 use up_machine::{Ask, Point, Verdict};
-use up_server::{Settings, finishes_at_most, needs_key, replay};
+use up_server::{Settings, finishes_at_most, needs_key, refuse, replay};
 use up_wire::{Input, Output};
 
 /// Has an upload scanned, and tells of it on standard error. This scanner takes no more than 8 bytes.
@@ -31,6 +32,15 @@ fn main(rt: HostRuntime) -> anyhow::Result<()> {
     { needs_key(ask, b"filename") };
     let mut hooks = Vec::new(rt.alloc());
     hooks.push(PreHook::new(Point::Create, Box::new(rt.alloc(), named)?))?;
+    let no_program = |ask: &Ask| -> Verdict
+        ensures { IsTrue (is_lawful result) }
+    {
+        match ask.value(b"filename") {
+            Some(name) if name.ends_with(b".exe") => refuse(422, b"programs are not taken"),
+            _ => Verdict::Allow,
+        }
+    };
+    hooks.push(PreHook::new(Point::Create, Box::new(rt.alloc(), no_program)?))?;
     let small = |ask: &Ask| -> Verdict
         ensures { IsTrue (is_lawful result) }
     { finishes_at_most(ask, 16) };
