@@ -1,5 +1,6 @@
-"""What `tests/clients`, `tests/hostile` and `bench/serve` share: the program `up`, a server of it for the time of a `with`,
-connections that speak HTTP/1.1 byte for byte, and the count of cases. It needs nothing but Python 3 and prints nothing by itself.
+"""What `tests/clients`, `tests/hostile`, `tests/memory` and `bench/serve` share: the program `up`, a server of it for the
+time of a `with`, connections that speak HTTP/1.1 byte for byte, and the count of cases. It needs nothing but Python 3 and
+prints nothing by itself.
 """
 import argparse
 import os
@@ -51,11 +52,16 @@ def seconds_of(process):
 
 
 class Server:
-    """`up serve` with these words, on a free port of the loopback. It is killed at the end of the `with`."""
+    """`up serve` with these words, on a free port of the loopback. It is killed at the end of the `with`. With `unheard` its
+    standard output is a pipe whose reader has gone. It has this environment, where one is given. One that may fail, and
+    doesn't listen, has no port."""
 
-    def __init__(self, program, *words, files=None):
+    def __init__(self, program, *words, files=None, unheard=False, environment=None, may_fail=False):
         self.words = [program, "serve", "--address", "127.0.0.1:0", "--max-size", str(MAX_SIZE), *words]
         self.files = files
+        self.unheard = unheard
+        self.environment = environment
+        self.may_fail = may_fail
 
     def limit(self):
         signal.signal(signal.SIGPIPE, signal.SIG_DFL)
@@ -64,9 +70,13 @@ class Server:
 
     def __enter__(self):
         self.told = tempfile.TemporaryFile()
+        told = subprocess.PIPE if self.unheard else self.told
         self.process = subprocess.Popen(
-            self.words, stdin=subprocess.DEVNULL, stdout=self.told, stderr=subprocess.PIPE, preexec_fn=self.limit
+            self.words, stdin=subprocess.DEVNULL, stdout=told, stderr=subprocess.PIPE, preexec_fn=self.limit,
+            env=self.environment,
         )
+        if self.unheard:
+            self.process.stdout.close()
         self.port = self.listening()
         self.url = f"http://127.0.0.1:{self.port}"
         return self
@@ -78,14 +88,16 @@ class Server:
         self.told.close()
 
     def listening(self):
-        """The port in the line that the server says once it listens."""
+        """The port in the first line on standard error, which the server says once it listens."""
         ready, _, _ = select.select([self.process.stderr], [], [], MOST_WAIT)
-        line = self.process.stderr.readline().decode() if ready else ""
-        found = re.fullmatch(r"up_server: listening on 127\.0\.0\.1:(\d+)\n", line)
-        if not found:
-            self.process.kill()
-            sys.exit(f"the server does not listen: {line!r}")
-        return int(found[1])
+        self.first_line = self.process.stderr.readline().decode() if ready else ""
+        found = re.fullmatch(r"up_server: listening on 127\.0\.0\.1:(\d+)\n", self.first_line)
+        if found:
+            return int(found[1])
+        if self.may_fail:
+            return None
+        self.process.kill()
+        sys.exit(f"the server does not listen: {self.first_line!r}")
 
     def output(self):
         """What the server has written to its standard output."""
@@ -106,10 +118,10 @@ class Server:
 
 
 class Reply:
-    """A status, the fields with their names in lower case, and the body."""
+    """A status, the fields with their names in lower case, the body, and the bytes of the whole."""
 
-    def __init__(self, status, fields, body):
-        self.status, self.fields, self.body = status, fields, body
+    def __init__(self, status, fields, body, whole):
+        self.status, self.fields, self.body, self.whole = status, fields, body, whole
 
 
 def head(method, target, fields):
@@ -162,11 +174,11 @@ class Connection:
         while b"\r\n\r\n" not in self.read:
             if not self.more():
                 raise AssertionError(f"no reply but {self.read!r}")
-        lines, _, self.read = self.read.partition(b"\r\n\r\n")
+        lines, end, self.read = self.read.partition(b"\r\n\r\n")
         first, *rest = lines.decode().split("\r\n")
         fields = {name.lower(): value.strip() for name, _, value in (line.partition(":") for line in rest)}
         body = b"" if bare else self.take(int(fields.get("content-length", 0)))
-        return Reply(int(first.split()[1]), fields, body)
+        return Reply(int(first.split()[1]), fields, body, lines + end + body)
 
     def ask(self, method, target, **fields):
         """The reply to a message without a body; `upload_length=3` is the field `Upload-Length: 3`."""
@@ -227,16 +239,18 @@ def words_of(about):
 
 
 def try_all(cases, names, passed_over=()):
-    """Tries the cases, each a function with a sentence on it, and prints what came of them; the exit status."""
+    """Tries the cases, each a function with a sentence on it, and prints what came of them; the exit status. What a case
+    answers is printed with its seconds."""
     passed, failed = 0, 0
     for case in cases:
         if names and case.__name__ not in names:
             continue
         start = time.monotonic()
         try:
-            case()
+            told = case()
             passed += 1
-            print(f"passed: {case.__name__}: {case.__doc__} ({time.monotonic() - start:.1f} s)", flush=True)
+            front = f"{told}, " if told else ""
+            print(f"passed: {case.__name__}: {case.__doc__} ({front}{time.monotonic() - start:.1f} s)", flush=True)
         except (AssertionError, OSError, subprocess.SubprocessError, KeyError, ValueError) as fault:
             failed += 1
             print(f"failed: {case.__name__}: {case.__doc__} {type(fault).__name__}: {fault}", flush=True)

@@ -1,0 +1,109 @@
+/*
+ * Refuses a program memory, as a system does that has none left. tests/memory builds it and has it loaded before the C
+ * library (LD_PRELOAD).
+ *
+ * Every request is counted from 1: malloc, calloc, realloc, aligned_alloc, memalign, posix_memalign, and
+ * pthread_create, which asks for the stack of a thread. Requests that the C library makes for itself through these
+ * names count too (pthread_create makes one by calloc); what it takes from the system by mmap doesn't. Those whose
+ * number is from `first` to `last` are refused: the answer is the one for want of memory, and nothing else is done.
+ *
+ * The four numbers stand in the file that MEMORY_CONTROL names, in this order. The test reads and writes them while
+ * the program runs. Without that name nothing is counted and nothing refused.
+ */
+#define _GNU_SOURCE
+#include <dlfcn.h>
+#include <errno.h>
+#include <fcntl.h>
+#include <pthread.h>
+#include <stdatomic.h>
+#include <stddef.h>
+#include <stdlib.h>
+#include <sys/mman.h>
+#include <unistd.h>
+
+struct control {
+    atomic_ulong asked;
+    atomic_ulong refused;
+    atomic_ulong first;
+    atomic_ulong last;
+};
+
+typedef int starter(pthread_t *, const pthread_attr_t *, void *(*)(void *), void *);
+
+/* The C library's own names of its functions: found by the linker, so that no memory is asked for to find them. */
+extern void *__libc_malloc(size_t);
+extern void *__libc_calloc(size_t, size_t);
+extern void *__libc_realloc(void *, size_t);
+extern void *__libc_memalign(size_t, size_t);
+
+static struct control *control;
+static starter *start_thread;
+
+/* Runs before the program's `main`. */
+__attribute__((constructor)) static void begin(void)
+{
+    start_thread = (starter *)dlsym(RTLD_NEXT, "pthread_create");
+    const char *path = getenv("MEMORY_CONTROL");
+    if (path == NULL)
+        return;
+    int file = open(path, O_RDWR | O_CLOEXEC);
+    if (file < 0)
+        abort();
+    void *found = mmap(NULL, sizeof(struct control), PROT_READ | PROT_WRITE, MAP_SHARED, file, 0);
+    close(file);
+    if (found == MAP_FAILED)
+        abort();
+    control = found;
+}
+
+/* Counts a request, and says whether it is refused. */
+static int is_refused(void)
+{
+    if (control == NULL)
+        return 0;
+    unsigned long number = atomic_fetch_add(&control->asked, 1) + 1;
+    if (number < atomic_load(&control->first) || number > atomic_load(&control->last))
+        return 0;
+    atomic_fetch_add(&control->refused, 1);
+    errno = ENOMEM;
+    return 1;
+}
+
+void *malloc(size_t size)
+{
+    return is_refused() ? NULL : __libc_malloc(size);
+}
+
+void *calloc(size_t count, size_t size)
+{
+    return is_refused() ? NULL : __libc_calloc(count, size);
+}
+
+void *realloc(void *old, size_t size)
+{
+    return is_refused() ? NULL : __libc_realloc(old, size);
+}
+
+void *aligned_alloc(size_t alignment, size_t size)
+{
+    return is_refused() ? NULL : __libc_memalign(alignment, size);
+}
+
+void *memalign(size_t alignment, size_t size)
+{
+    return is_refused() ? NULL : __libc_memalign(alignment, size);
+}
+
+int posix_memalign(void **place, size_t alignment, size_t size)
+{
+    void *found = is_refused() ? NULL : __libc_memalign(alignment, size);
+    if (found == NULL)
+        return ENOMEM;
+    *place = found;
+    return 0;
+}
+
+int pthread_create(pthread_t *thread, const pthread_attr_t *attributes, void *(*work)(void *), void *given)
+{
+    return is_refused() ? EAGAIN : start_thread(thread, attributes, work, given);
+}

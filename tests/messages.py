@@ -1,0 +1,358 @@
+"""The messages of a conversation as a plain model has them: what their bytes say, what they ask for by the rules of
+docs/PROTOCOL.md, which are checked one after another, and how an answer is written. `model.py` stands on it.
+"""
+import base64
+import re
+
+CRLF = b"\r\n"
+HEAD_END = CRLF + CRLF
+MAX_HEAD = 16_384
+MAX_FIELDS = 64
+MAX_CHUNK_LINE = 256
+VERSION = b"1.0.0"
+MEDIA_TYPE = b"application/offset+octet-stream"
+TEXT = (b"Content-Type", b"text/plain")
+UPLOAD_METHODS = (b"HEAD", b"GET", b"PATCH", b"DELETE")
+
+PHRASES = {
+    200: "OK",
+    201: "Created",
+    204: "No Content",
+    400: "Bad Request",
+    403: "Forbidden",
+    404: "Not Found",
+    405: "Method Not Allowed",
+    409: "Conflict",
+    412: "Precondition Failed",
+    413: "Payload Too Large",
+    415: "Unsupported Media Type",
+    422: "Unprocessable Entity",
+    431: "Request Header Fields Too Large",
+    501: "Not Implemented",
+    503: "Service Unavailable",
+}
+
+# The name and the status of each refusal that a conversation can meet.
+REFUSALS = {
+    1: ("BadHead", 400),
+    2: ("HeadTooLarge", 431),
+    3: ("BadFraming", 400),
+    4: ("UnknownCoding", 501),
+    5: ("BodyTooLarge", 413),
+    10: ("Version", 412),
+    11: ("NoSuchPath", 404),
+    12: ("Method", 405),
+    13: ("Repeated", 400),
+    14: ("BadLength", 400),
+    15: ("TooLong", 413),
+    16: ("BadConcat", 400),
+    17: ("BadMetadata", 400),
+    21: ("NotFound", 404),
+    22: ("FinalUpload", 403),
+    23: ("MediaType", 415),
+    24: ("BadOffset", 400),
+    25: ("WrongOffset", 409),
+    26: ("TooMuch", 413),
+    27: ("PartUnknown", 400),
+    28: ("PartNotPartial", 400),
+    29: ("PartUnfinished", 400),
+    30: ("SumTooLong", 413),
+    33: ("Unfinished", 409),
+    36: ("BadDeclared", 400),
+    37: ("DeclaredTooLong", 413),
+}
+
+
+class Refused(Exception):
+    """A message is refused, with one of the numbers or with what a closure said."""
+
+    def __init__(self, number, said=None, fields=()):
+        super().__init__(number)
+        name, self.status = said[::-1] if said else REFUSALS[number]
+        self.text = name if said else f"{number} {name}"
+        self.fields = [*fields, TEXT]
+
+
+# Bytes of a conversation: messages in, responses out.
+
+
+class Message:
+    """A message that was read; `cut` where the input ended inside its body."""
+
+    def __init__(self, method, target, version, fields):
+        self.method = method
+        self.target = target
+        self.version = version
+        self.fields = fields
+        self.body = b""
+        self.cut = False
+        self.continues = False
+
+    def values(self, name):
+        """The values of all fields of this name."""
+        return [value for field, value in self.fields if field.lower() == name.lower()]
+
+    def value(self, name):
+        """The value of the only field of this name, or None."""
+        return next(iter(self.values(name)), None)
+
+    @property
+    def bare(self):
+        return self.method == b"HEAD"
+
+    @property
+    def closes(self):
+        tokens = b",".join(self.values(b"Connection")).split(b",")
+        return self.version == b"HTTP/1.0" or b"close" in [token.strip().lower() for token in tokens]
+
+
+def is_digits(text):
+    return text is not None and re.fullmatch(rb"[0-9]+", text) is not None
+
+
+def read_head(data):
+    """A message without its body, and the bytes behind the head."""
+    while data.startswith(CRLF):
+        data = data[2:]
+    end = data.find(HEAD_END)
+    if not 0 <= end <= MAX_HEAD - len(HEAD_END):
+        raise Refused(1 if len(data) < MAX_HEAD else 2)
+    first, *lines = data[:end].split(CRLF)
+    start = re.fullmatch(rb"([!-~]+) ([!-~]+) (HTTP/1\.[01])", first)
+    fields = [re.fullmatch(rb"([!#-'*+.0-9A-Z^-z|~-]+):(.*)", line) for line in lines]
+    if start is None or None in fields:
+        raise Refused(1)
+    if len(fields) > MAX_FIELDS:
+        raise Refused(2)
+    fields = [(field[1], field[2].strip(b" \t")) for field in fields]
+    return Message(*start.groups(), fields), data[end + len(HEAD_END) :]
+
+
+def check_framing(message, limit):
+    """How many bytes the body has; None where it comes in chunks."""
+    lengths = message.values(b"Content-Length")
+    codings = message.values(b"Transfer-Encoding")
+    if len(lengths) + len(codings) > 1 or not all(map(is_digits, lengths)):
+        raise Refused(3)
+    if codings and message.version == b"HTTP/1.0":
+        raise Refused(3)
+    if codings and codings[0].lower() != b"chunked":
+        raise Refused(4)
+    if codings:
+        return None
+    length = int(lengths[0]) if lengths else 0
+    if length > limit:
+        raise Refused(5)
+    return length
+
+
+def expects_more(message, length):
+    """Whether the sender waits to be told to go on."""
+    expects = [value.lower() for value in message.values(b"Expect")]
+    return message.version == b"HTTP/1.1" and b"100-continue" in expects and length != 0
+
+
+def read_chunks(message, data, limit):
+    """Reads a body in chunks, and answers the bytes behind it."""
+    while True:
+        line, end, rest = data.partition(CRLF)
+        if not end:
+            message.cut = True
+            return b""
+        size = re.fullmatch(rb"([0-9A-Fa-f]{1,16})(;.*)?", line)
+        if size is None or len(line + end) > MAX_CHUNK_LINE:
+            raise Refused(3)
+        size = int(size[1], 16)
+        if size == 0:
+            return skip_trailers(message, rest)
+        if len(message.body) + size > limit:
+            raise Refused(5)
+        message.body += rest[:size]
+        if not rest[size : size + 2].startswith(CRLF[: len(rest) - size]) and len(rest) > size:
+            raise Refused(3)
+        if len(rest) < size + 2:
+            message.cut = True
+            return b""
+        data = rest[size + 2 :]
+
+
+def skip_trailers(message, data):
+    """The bytes behind the trailers of a body in chunks."""
+    while True:
+        line, end, data = data.partition(CRLF)
+        if not end:
+            message.cut = True
+        if not line or not end:
+            return data
+
+
+def read_message(data, limit):
+    """A message, and the bytes behind it. What is wrong with its body is raised with the message."""
+    message, data = read_head(data)
+    try:
+        length = check_framing(message, limit)
+        message.continues = expects_more(message, length)
+        if length is None:
+            return message, read_chunks(message, data, limit)
+    except Refused as refused:
+        refused.message = message
+        raise
+    message.body = data[:length]
+    message.cut = len(data) < length
+    return message, data[length:]
+
+
+def write_response(status, fields, body, bare, closes):
+    """The bytes of a response."""
+    lines = [f"HTTP/1.1 {status} {PHRASES[status]}".encode(), b"Tus-Resumable: " + VERSION, b"Cache-Control: no-store"]
+    lines += [name + b": " + value for name, value in fields]
+    if status != 204 and not bare:
+        lines.append(b"Content-Length: %d" % len(body))
+    if closes:
+        lines.append(b"Connection: close")
+    return CRLF.join(lines) + HEAD_END + (b"" if bare else body)
+
+
+# What a message asks for.
+
+
+class Request:
+    """What a message asks for: its name, and what it has besides."""
+
+    def __init__(self, name, **parts):
+        self.name = name
+        self.__dict__.update(parts)
+
+
+def id_text(number):
+    return b"%032x" % number
+
+
+def path_of(target):
+    """The path of a target or of a URL, in origin or in absolute form."""
+    found = re.fullmatch(rb"(?:[a-z]+://[^/?#]+)?(/[^?#]*)(\?[^#]*)?(#.*)?", target)
+    return found[1] if found else None
+
+
+def place_of(target):
+    """None at the creation URL, or the id of an upload."""
+    path = path_of(target)
+    if path in (b"/files", b"/files/"):
+        return None
+    found = re.fullmatch(rb"/files/([0-9a-f]{32})", path or b"")
+    if found is None:
+        raise Refused(11)
+    return int(found[1], 16)
+
+
+def check_repeated(message, names):
+    if any(len(message.values(name)) > 1 for name in names):
+        raise Refused(13)
+
+
+def check_version(message, method):
+    """Refuses a message of another version, where the version counts."""
+    if method not in (b"POST", b"PATCH", b"DELETE", b"HEAD"):
+        return
+    check_repeated(message, [b"Tus-Resumable"])
+    version = message.value(b"Tus-Resumable")
+    if version != VERSION and not (method == b"HEAD" and version is None):
+        raise Refused(10, fields=[(b"Tus-Version", VERSION)])
+
+
+def check_method(method, place):
+    """Refuses a method that isn't there at this place."""
+    if method in ((b"POST",) if place is None else UPLOAD_METHODS):
+        return
+    allowed = b"OPTIONS, POST" if place is None else b"OPTIONS, HEAD, GET, PATCH, DELETE"
+    raise Refused(12, fields=[(b"Allow", allowed)])
+
+
+def request_of(message, max_size):
+    """What a message asks for; the first check that fails is raised."""
+    check_repeated(message, [b"X-HTTP-Method-Override"])
+    method = message.value(b"X-HTTP-Method-Override")
+    method = message.method if method is None else method
+    if method == b"OPTIONS":
+        return Request("Options")
+    check_version(message, method)
+    place = place_of(message.target)
+    check_method(method, place)
+    if method == b"POST":
+        return creation_of(message, max_size)
+    if method == b"PATCH":
+        return patch_of(message, place)
+    return Request(method.decode().capitalize(), id=place)
+
+
+def creation_of(message, max_size):
+    """The upload that a POST asks for."""
+    names = [b"Upload-Length", b"Upload-Defer-Length", b"Upload-Metadata", b"Upload-Concat"]
+    check_repeated(message, names)
+    length, deferred, metadata, concat = [message.value(name) for name in names]
+    concat, metadata = concat or None, metadata or None
+    is_final = (concat or b"").startswith(b"final;")
+    length = 0 if is_final else length_of(length, deferred, max_size)
+    kind, parts = concat_of(concat)
+    pairs = pairs_of(metadata)
+    return Request("Create", kind=kind, length=length, parts=parts, pairs=pairs, metadata=metadata, concat=concat)
+
+
+def length_of(length, deferred, max_size):
+    """The length of a new upload, None where it comes later."""
+    if deferred is not None:
+        if length is not None or deferred != b"1":
+            raise Refused(14)
+        return None
+    if not is_digits(length):
+        raise Refused(14)
+    if int(length) > max_size:
+        raise Refused(15)
+    return int(length)
+
+
+def concat_of(concat):
+    """The kind of a new upload, and the ids of its parts."""
+    if concat is None:
+        return "Plain", []
+    if concat == b"partial":
+        return "Partial", []
+    urls = [url for url in concat[6:].split(b" ") if url]
+    if not concat.startswith(b"final;") or not urls:
+        raise Refused(16)
+    try:
+        parts = [place_of(url) for url in urls]
+    except Refused:
+        raise Refused(16) from None
+    if None in parts:
+        raise Refused(16)
+    return "Final", parts
+
+
+def pairs_of(metadata):
+    """The pairs of a metadata text."""
+    pairs = []
+    for part in metadata.split(b",") if metadata else []:
+        key, _, value = part.strip(b" ").partition(b" ")
+        value = value.strip(b" ")
+        if key == b"" or key in [other for other, _ in pairs] or not is_base64(value):
+            raise Refused(17)
+        pairs.append((key, base64.b64decode(value)))
+    return pairs
+
+
+def is_base64(text):
+    """Whether a text is just what its bytes are written as."""
+    if re.fullmatch(rb"([A-Za-z0-9+/]{4})*([A-Za-z0-9+/]{2}==|[A-Za-z0-9+/]{3}=)?", text) is None:
+        return False
+    return base64.b64encode(base64.b64decode(text)) == text
+
+
+def patch_of(message, place):
+    """The bytes that a PATCH brings, and what it says of them."""
+    check_repeated(message, [b"Content-Type", b"Upload-Offset", b"Upload-Length"])
+    media = (message.value(b"Content-Type") or b"").partition(b";")[0].rstrip(b" \t").lower() == MEDIA_TYPE
+    offset = message.value(b"Upload-Offset")
+    offset = int(offset) if is_digits(offset) else None
+    said = message.value(b"Upload-Length")
+    return Request("Patch", id=place, media=media, offset=offset, said=said, body=message.body)
