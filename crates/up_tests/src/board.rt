@@ -114,7 +114,7 @@ fn a_closed_board_answers_and_changes_nothing(rt: HostRuntime) -> Result<(), Fai
 }
 
 /// Five uploads of two bytes are made, and each gets a byte, and then each the other.
-fn fifteen<K: Keeper, R: Abort>(rt: &R, alloc: Global, keeper: &mut K) -> Result<(), Fail> {
+pub fn fifteen<K: Keeper, R: Abort>(rt: &R, alloc: Global, keeper: &mut K) -> Result<(), Fail> {
     let hooks = PreHooks::new(Vec::new(alloc));
     for number in 1..6u8 {
         let id = Id::new(u128::from(number));

@@ -1,6 +1,6 @@
 //! What the proofs can't see of lanes: that queues are made and items come through, that steps succeed, how often a lane is refilled and
 //! sleeps, and two threads.
-mod parts;
+pub mod parts;
 mod queues;
 mod running;
 mod stepping;

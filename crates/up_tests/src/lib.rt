@@ -10,6 +10,8 @@ mod connections;
 #[cfg(test)]
 mod conversations;
 #[cfg(test)]
+mod gates;
+#[cfg(test)]
 mod hooks;
 #[cfg(test)]
 mod lanes;

@@ -70,7 +70,7 @@ fn change<B: Naming, R: Wait>(
 }
 
 /// A lane over each take end, numbered from 0 on, with the post-hook at its place.
-fn lanes_over<H: PostHook + Drop>(
+pub fn lanes_over<H: PostHook + Drop>(
     alloc: Global,
     takes: Vec<TakeEnd>,
     hooks: Vec<H>,
@@ -89,7 +89,7 @@ fn lanes_over<H: PostHook + Drop>(
 }
 
 /// Runs each lane to its end, in a thread of its own.
-fn run_each<B: Naming + Send + Sync, H: PostHook + Drop, R: Threads + Wait + Sync>(
+pub fn run_each<B: Naming + Send + Sync, H: PostHook + Drop, R: Threads + Wait + Sync>(
     rt: &R,
     board: &Board<B>,
     lanes: Vec<Lane<H>>,
