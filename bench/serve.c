@@ -5,6 +5,8 @@
  *     client PORT tus|put beside BYTES                        the longest wait of a small request beside one of BYTES
  *     client PORT tus|put visit CONNECTIONS                   seconds, one connection after another
  *     client PORT tus|put stay CONNECTIONS                    "open", and then waits for the end of its input
+ *     client PORT tus lanes TURNS REQUESTS EVENTS             seconds for requests on an upload of lane 1, and for as many
+ *                                                             while as many events of lane 0 wait for their hook
  *
  * `tus` makes uploads and appends to them by PATCH, `put` writes files by PUT. A connection has a thread, and waits for
  * each reply before the next request. It needs a C compiler on Linux. Where a reply isn't the wanted one it ends with 1.
@@ -311,6 +313,44 @@ static void work_visit(int connections)
     printf("%f\n", now() - start);
 }
 
+/* An upload of one of two lanes, which its id tells. */
+static struct talk upload_of(int lane)
+{
+    for (;;) {
+        struct talk talk = {0};
+        open_talk(&talk);
+        make(&talk, 1 << 30);
+        if (strtol(talk.path + strlen(talk.path) - 1, NULL, 16) % 2 == lane) {
+            return talk;
+        }
+        close(talk.socket);
+    }
+}
+
+/* The seconds of so many small requests behind those that there were. */
+static double append_small(struct talk *talk, size_t *before, size_t requests)
+{
+    double start = now();
+    for (size_t end = *before + requests; *before < end; ++*before) {
+        append(talk, *before, 1);
+    }
+    return now() - start;
+}
+
+static void work_lanes(int turns, size_t requests, size_t events)
+{
+    struct talk slow = upload_of(0), quick = upload_of(1);
+    size_t of_slow = 0, of_quick = 0;
+    double alone = 0, beside = 0;
+    for (int turn = 0; turn < turns; turn++) {
+        sleep(2);
+        alone += append_small(&quick, &of_quick, requests);
+        append_small(&slow, &of_slow, events);
+        beside += append_small(&quick, &of_quick, requests);
+    }
+    printf("%f %f\n", alone, beside);
+}
+
 static void work_stay(int connections)
 {
     struct talk *talks = calloc(connections, sizeof *talks);
@@ -351,6 +391,8 @@ int main(int count, char **words)
         work_visit(numbers[0]);
     } else if (strcmp(work, "stay") == 0) {
         work_stay(numbers[0]);
+    } else if (strcmp(work, "lanes") == 0) {
+        work_lanes(numbers[0], numbers[1], numbers[2]);
     } else {
         stop("no such work: %s", work);
     }

@@ -26,9 +26,9 @@ os.environ["no_proxy"] = "127.0.0.1"
 MAX_SIZE = 1 << 30
 
 
-def build():
+def build(root=ROOT):
     """The path of the program `up`, which is built anew where its crates changed; that takes some minutes."""
-    folder = os.path.join(ROOT, "crates", "up")
+    folder = os.path.join(root, "crates", "up")
     with open(os.path.join(folder, "stdin"), "rb") as given:
         subprocess.run(["rt", "run"], cwd=folder, stdin=given, stdout=subprocess.DEVNULL, stderr=subprocess.DEVNULL)
     program = os.path.join(folder, "out", "up")
