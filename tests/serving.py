@@ -26,14 +26,14 @@ os.environ["no_proxy"] = "127.0.0.1"
 MAX_SIZE = 1 << 30
 
 
-def build(root=ROOT):
-    """The path of the program `up`, which is built anew where its crates changed; that takes some minutes."""
-    folder = os.path.join(root, "crates", "up")
+def build(name="up", root=ROOT):
+    """The path of a program of the crates, which is built anew where they changed; that takes some minutes."""
+    folder = os.path.join(root, "crates", name)
     with open(os.path.join(folder, "stdin"), "rb") as given:
         subprocess.run(["rt", "run"], cwd=folder, stdin=given, stdout=subprocess.DEVNULL, stderr=subprocess.DEVNULL)
-    program = os.path.join(folder, "out", "up")
+    program = os.path.join(folder, "out", name)
     if not os.path.exists(program):
-        sys.exit("up was not built")
+        sys.exit(f"{name} was not built")
     return program
 
 
@@ -229,13 +229,16 @@ def soon(holds, what):
         time.sleep(0.01)
 
 
-def words_of(about):
-    """The program to be tried, and the names of the cases that were asked for."""
+def words_of(about, **others):
+    """The program to be tried, the others, of which each has a word of the command line, and the names of the cases that
+    were asked for."""
     words = argparse.ArgumentParser(description=about)
-    words.add_argument("--program", help="the program to be tried, in place of crates/up/out/up")
+    programs = {"program": "up", **others}
+    for word, name in programs.items():
+        words.add_argument(f"--{word}", metavar="PATH", help=f"what is tried in place of crates/{name}/out/{name}")
     words.add_argument("names", nargs="*", metavar="NAME", help="the cases to be tried, in place of all")
     given = words.parse_args()
-    return given.program or build(), given.names
+    return *(getattr(given, word) or build(name) for word, name in programs.items()), given.names
 
 
 def try_all(cases, names, passed_over=()):

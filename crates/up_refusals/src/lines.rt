@@ -1,0 +1,62 @@
+//! What is told of a call.
+ghost use Rattle.std.specs.Prelude.{◌≡◌, ◌↔◌, IsTrue};
+
+use std::alloc::{AllocError, Global};
+use std::fmt::Write;
+use std::io;
+
+/// How often a call is made that is refused memory.
+pub const MOST_CALLS: u32 = 8;
+
+/// How many bytes a line has room for. Those of the stored rows have fewer.
+const ROOM: usize = 4096;
+
+/// The three lines of a call.
+#[derive(Drop)]
+pub struct Lines {
+    /// What stands before it.
+    pub before: String,
+    /// The call and its answer.
+    pub called: String,
+    /// What stands after it.
+    pub after: String,
+}
+
+/// Whether what stands after a call is what stood before it.
+fn is_same(before: &str, after: &str) -> bool
+    ensures { IsTrue result ↔ (before.now ≡ after.now) }
+{
+    before == after
+}
+
+impl Lines {
+    /// Takes the room of all lines.
+    pub fn new(alloc: Global) -> Result<Lines, AllocError> {
+        Ok(Lines {
+            before: String::with_capacity(alloc, ROOM)?,
+            called: String::with_capacity(alloc, ROOM)?,
+            after: String::with_capacity(alloc, ROOM)?,
+        })
+    }
+
+    /// Begins with the lines of this call.
+    pub fn begin(&mut self, name: &str, given: &str) -> Result<(), AllocError> {
+        self.before.clear();
+        self.called.clear();
+        self.after.clear();
+        write!(self.called, "{name}({given}) => ")
+    }
+
+    /// Prints the lines. Where the call was refused memory, the last one says whether the same stands as before.
+    pub fn tell(&self, rt: &impl Print, refused: bool) -> io::Result<()> {
+        let word = match (refused, is_same(self.before.as_str(), self.after.as_str())) {
+            (false, _) => "after",
+            (true, true) => "after, the same",
+            (true, false) => "after, not the same",
+        };
+        let (before, called, after) = (&self.before, &self.called, &self.after);
+        println!(rt; "before: {before}")?;
+        println!(rt; "{called}")?;
+        println!(rt; "{word}: {after}")
+    }
+}

@@ -1,0 +1,73 @@
+//! Messages and requests out of rows.
+ghost use Rattle.std.specs.Prelude.{IfOk};
+ghost use Rattle.up_headers.specs.Table.{FitsWithin};
+
+use http::Method;
+use std::alloc::Global;
+use std::io::{self, ErrorKind};
+use up_events::{Id, MOST_BYTES};
+use up_headers::{Request, request_of};
+use up_wire::{Field, Message, Sequence};
+
+/// Memory was refused.
+pub fn out_of_memory() -> io::Error {
+    io::Error::from(ErrorKind::OutOfMemory)
+}
+
+/// The number of a word.
+pub fn number_of(word: &str) -> io::Result<u64> {
+    match word.parse::<u64>() {
+        Ok(number) => Ok(number),
+        Err(_) => Err(io::Error::from(ErrorKind::InvalidInput)),
+    }
+}
+
+/// The id of a number.
+pub fn id_of(number: u64) -> Id {
+    Id::new(u128::from(number))
+}
+
+fn field_of(alloc: Global, name: &str, value: &str) -> io::Result<Field> {
+    Ok((
+        Sequence::from_slice(alloc, name.as_bytes())?,
+        Sequence::from_slice(alloc, value.as_bytes())?,
+    ))
+}
+
+/// The message of a row, of version 1.0.0.
+pub fn message_of(alloc: Global, row: &str) -> io::Result<Message> {
+    let mut parts = row.split(" | ");
+    let first = parts.next().unwrap_or("");
+    let (method, target) = first.split_once(' ').unwrap_or((first, ""));
+    let mut fields = Sequence::new(alloc);
+    fields.push(field_of(alloc, "Tus-Resumable", "1.0.0")?)?;
+    let mut body = Sequence::new(alloc);
+    for part in parts {
+        match part.split_once(": ") {
+            Some((name, value)) => fields.push(field_of(alloc, name, value)?)?,
+            None => body = Sequence::from_slice(alloc, part.as_bytes())?,
+        }
+    }
+    let Ok(method) = Method::from_bytes(alloc, method.as_bytes()) else {
+        return Err(out_of_memory());
+    };
+    Ok(Message {
+        method,
+        target: Sequence::from_slice(alloc, target.as_bytes())?,
+        fields,
+        body,
+        bare: false,
+        close: false,
+    })
+}
+
+/// What the message of a row asks for.
+pub fn request_in(alloc: Global, row: &str) -> io::Result<Request>
+    ensures { IfOk result (FitsWithin MOST_BYTES) }
+{
+    let message = message_of(alloc, row)?;
+    match request_of(alloc, message, MOST_BYTES) {
+        Ok(request) => Ok(request),
+        Err(_) => Err(out_of_memory()),
+    }
+}
