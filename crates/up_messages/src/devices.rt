@@ -19,7 +19,7 @@ impl Waits {
 
 /// Gives its bytes one at a time, and then ends or fails.
 #[derive(Drop)]
-pub struct Tape<'a> {
+pub struct WaitingSource<'a> {
     pub bytes: &'a [u8],
     fails: bool,
     waits: Waits,
@@ -29,9 +29,14 @@ pub struct Tape<'a> {
     has_failed: bool,
 }
 
-impl<'a> Tape<'a> {
-    pub fn new(bytes: &'a [u8], fails: bool, waits: Waits, asks: &'a Cell<u64>) -> Tape<'a> {
-        Tape {
+impl<'a> WaitingSource<'a> {
+    pub fn new(
+        bytes: &'a [u8],
+        fails: bool,
+        waits: Waits,
+        asks: &'a Cell<u64>,
+    ) -> WaitingSource<'a> {
+        WaitingSource {
             bytes,
             fails,
             waits,
@@ -42,7 +47,7 @@ impl<'a> Tape<'a> {
     }
 }
 
-impl<'a> Source for Tape<'a> {
+impl<'a> Source for WaitingSource<'a> {
     ghost device = { λ s. device_of None s.has_failed s.interruptions };
 
     fn next_byte(&mut self) -> NextByte {
@@ -70,7 +75,7 @@ impl<'a> Source for Tape<'a> {
 
 /// Takes so many bytes, one at a time, and then fails.
 #[derive(Drop)]
-pub struct Slot<'a> {
+pub struct WaitingSink<'a> {
     pub taken: Vec<u8>,
     room: usize,
     waits: Waits,
@@ -81,9 +86,9 @@ pub struct Slot<'a> {
     has_failed: bool,
 }
 
-impl<'a> Slot<'a> {
-    pub fn new(alloc: Global, room: usize, waits: Waits, asks: &'a Cell<u64>) -> Slot<'a> {
-        Slot {
+impl<'a> WaitingSink<'a> {
+    pub fn new(alloc: Global, room: usize, waits: Waits, asks: &'a Cell<u64>) -> WaitingSink<'a> {
+        WaitingSink {
             taken: Vec::new(alloc),
             room,
             waits,
@@ -95,7 +100,7 @@ impl<'a> Slot<'a> {
     }
 }
 
-impl<'a> Sink for Slot<'a> {
+impl<'a> Sink for WaitingSink<'a> {
     ghost device = { λ s. device_of None s.has_failed s.interruptions };
 
     fn write_some(&mut self, bytes: &[u8]) -> WriteSome {

@@ -1,7 +1,7 @@
 //! What messages are, in words: "POST / Host: a; [body] close asked rest [GET]", where `100 Continue` was sent on and bytes stay
 //! unread, "cut POST / [bo]", "3 BadFraming bare", or "end".
 use crate::bench::Bench;
-use crate::devices::{Slot, Tape};
+use crate::devices::{WaitingSink, WaitingSource};
 use crate::row_fault::RowFault;
 use std::alloc::{AllocError, Global};
 use std::cell::Cell;
@@ -38,19 +38,19 @@ fn push_message(words: &mut String, message: &Message) -> Result<(), AllocError>
 }
 
 /// What was written meanwhile. With `at`, also how often the source had been asked when it was sent on.
-fn push_written(words: &mut String, slot: &Slot, at: bool) -> Result<(), AllocError> {
-    if slot.taken.is_empty() {
+fn push_written(words: &mut String, sink: &WaitingSink, at: bool) -> Result<(), AllocError> {
+    if sink.taken.is_empty() {
         return Ok(());
     }
-    match slot.sent {
-        Some(asks) if slot.taken.as_slice() == CONTINUE => {
+    match sink.sent {
+        Some(asks) if sink.taken.as_slice() == CONTINUE => {
             words.push_str(" asked")?;
             if at {
                 write!(words, " at {asks}")?;
             }
             Ok(())
         }
-        _ => write!(words, " wrote [{}]", slot.taken.escape_ascii()),
+        _ => write!(words, " wrote [{}]", sink.taken.escape_ascii()),
     }
 }
 
@@ -90,11 +90,11 @@ fn read_all<R: Source>(
     let mut is_whole = false;
     for call in 0..calls {
         push_if(words, " | ", call > 0)?;
-        let mut slot = Slot::new(alloc, bench.room, bench.writes, asks);
-        let taken = read_message(alloc, source, &mut slot, &limits);
+        let mut sink = WaitingSink::new(alloc, bench.room, bench.writes, asks);
+        let taken = read_message(alloc, source, &mut sink, &limits);
         is_whole = matches!(taken, Taken::Message(_));
         push_taken(words, &taken)?;
-        push_written(words, &slot, at)?;
+        push_written(words, &sink, at)?;
     }
     Ok(is_whole)
 }
@@ -110,10 +110,10 @@ pub fn by_bytes(
 ) -> Result<String, RowFault> {
     let mut words = String::new(alloc);
     let asks = Cell::new(0);
-    let mut tape = Tape::new(input, fails, bench.reads, &asks);
-    let is_whole = read_all(alloc, bench, &mut tape, &asks, calls, all, &mut words)?;
+    let mut source = WaitingSource::new(input, fails, bench.reads, &asks);
+    let is_whole = read_all(alloc, bench, &mut source, &asks, calls, all, &mut words)?;
     if is_whole || all {
-        push_rest(&mut words, tape.bytes)?;
+        push_rest(&mut words, source.bytes)?;
     }
     Ok(words)
 }

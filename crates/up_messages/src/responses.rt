@@ -1,6 +1,6 @@
 //! What is written.
 use crate::bench::{Bench, cut};
-use crate::devices::Slot;
+use crate::devices::WaitingSink;
 use crate::row_fault::RowFault;
 use bytes::Bytes;
 use std::alloc::{AllocError, Global};
@@ -57,10 +57,10 @@ fn words_of(
 /// What a sink has that takes one byte at a time.
 fn told(alloc: Global, bench: &Bench, reply: &Reply) -> Result<String, RowFault> {
     let asks = Cell::new(0);
-    let mut slot = Slot::new(alloc, bench.room, bench.writes, &asks);
-    let ended = write_response(&mut slot, &reply.response, reply.bare, reply.closes);
-    let mut words = words_of(alloc, ended, &slot.taken)?;
-    if slot.sent.is_none() {
+    let mut sink = WaitingSink::new(alloc, bench.room, bench.writes, &asks);
+    let ended = write_response(&mut sink, &reply.response, reply.bare, reply.closes);
+    let mut words = words_of(alloc, ended, &sink.taken)?;
+    if sink.sent.is_none() {
         words.push_str(" unsent")?;
     }
     Ok(words)

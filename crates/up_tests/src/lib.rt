@@ -19,6 +19,8 @@ mod requests;
 #[cfg(test)]
 mod server;
 #[cfg(test)]
+mod streams;
+#[cfg(test)]
 mod together;
 
 pub use requests::{append, creation};

@@ -1,6 +1,7 @@
 -- The definitions that the contracts cite.
 pub mod Limits
 pub mod Device
+pub mod InMemory
 pub mod WireFaults
 pub mod Digits
 pub mod Fields
