@@ -230,7 +230,7 @@ def soon(holds, what):
 
 
 def words_of(about, **others):
-    """The program to be tried, the others, of which each has a word of the command line, and the names of the cases that
+    """The program to be tried, the others, each with its own word of the command line, and the names of the cases that
     were asked for."""
     words = argparse.ArgumentParser(description=about)
     programs = {"program": "up", **others}
