@@ -1,0 +1,89 @@
+//! Lanes over a board's queues that run while something else is done.
+ghost use Rattle.std.specs.Prelude.{◌≡◌, All, [], IfOk, length};
+ghost use Rattle.up_dispatch.specs.Parts.{IsNamed};
+
+use std::alloc::{AllocError, Global};
+use std::marker::{Send, Sync};
+use std::sync::Wait;
+use std::test::Fail;
+use std::thread;
+use std::thread::Threads;
+use up_dispatch::{Board, BoardParts, Naming};
+use up_hooks::PostHook;
+use up_lanes::{Lane, LaneEnd};
+
+/// A new board of these parts, which have two queues, and a lane over each of them, with its post-hook.
+pub fn open_board<B: Naming, H: PostHook + Drop>(
+    alloc: Global,
+    parts: BoardParts,
+    hooks: (H, H),
+) -> Result<(Board<B>, Vec<Lane<H>>), Fail>
+    requires named { IsNamed B.name B.parts B.queue parts }
+    requires lanes { length parts.queues ≡ 2 }
+    requires first { H.is_sound hooks.0 × (H.handed hooks.0 ≡ []) }
+    requires second { H.is_sound hooks.1 × (H.handed hooks.1 ≡ []) }
+    ensures own { IfOk result (λ r. All (λ l. l.queue ≡ B.queue l.lane) r.1.items) }
+{
+    let (board, takes) = Board::<B>::new(alloc, parts, 1_048_576)?;
+    let mut takes = takes.into_iter();
+    let (Some(first), Some(second)) = (takes.next(), takes.next()) else {
+        return Err("two queues".into());
+    };
+    let mut lanes = Vec::new(alloc);
+    lanes.push(Lane::new(0, first, hooks.0))?;
+    lanes.push(Lane::new(1, second, hooks.1))?;
+    Ok((board, lanes))
+}
+
+/// Runs each lane to its end, in a thread of its own.
+fn run_each<B: Naming + Send + Sync, H: PostHook + Drop, R: Threads + Wait + Sync>(
+    rt: &R,
+    board: &Board<B>,
+    lanes: Vec<Lane<H>>,
+) -> Result<Vec<LaneEnd<H>>, AllocError>
+    requires own { All (λ l. l.queue ≡ B.queue l.lane) lanes.items }
+    ensures own { IfOk result (λ v. All (λ e. e.take_end.queue ≡ B.queue e.lane) v.items) }
+{
+    thread::map_vec(
+        rt,
+        lanes,
+        &|lane: Lane<H>| -> LaneEnd<H>
+            requires { lane.queue ≡ B.queue lane.lane }
+            ensures { result.take_end.queue ≡ B.queue result.lane }
+        { lane.run(rt, board) },
+    )
+}
+
+/// Runs each lane in a thread of its own while the work is done, and behind that closes the board. Gives what the work gave, and how the
+/// lanes ended.
+pub fn run_beside<
+    B: Naming + Send + Sync,
+    H: PostHook + Drop,
+    R: Threads + Wait + Sync,
+    F: FnOnce() -> T + Send,
+    T: Send,
+>(
+    rt: &R,
+    board: &Board<B>,
+    lanes: Vec<Lane<H>>,
+    work: F,
+) -> (T, Result<Vec<LaneEnd<H>>, AllocError>)
+    requires callable { F.pre work }
+    requires own { All (λ l. l.queue ≡ B.queue l.lane) lanes.items }
+    ensures own { IfOk result.1 (λ v. All (λ e. e.take_end.queue ≡ B.queue e.lane) v.items) }
+{
+    thread::join(
+        rt,
+        ||
+            requires { F.pre work }
+        {
+            let done = work();
+            board.close(rt);
+            done
+        },
+        || -> Result<Vec<LaneEnd<H>>, AllocError>
+            requires { All (λ l. l.queue ≡ B.queue l.lane) lanes.items }
+            ensures { IfOk result (λ v. All (λ e. e.take_end.queue ≡ B.queue e.lane) v.items) }
+        { run_each(rt, board, lanes) },
+    )
+}

@@ -1,0 +1,173 @@
+//! A lane whose post-hook is refused memory: it stops, nobody else does, and it goes on where it stood.
+ghost use Rattle.std.specs.Prelude.{◌≡◌, All, [], IfOk, length};
+ghost use Rattle.up_dispatch.specs.Parts.{IsNamed};
+
+use crate::beside::{open_board, run_beside};
+use crate::board::fifteen;
+use crate::lanes::parts::Listing;
+use std::alloc::{AllocError, Global};
+use std::marker::{Brand, Send, Sync};
+use std::process::Abort;
+use std::sync::Wait;
+use std::test::Fail;
+use std::thread;
+use std::thread::Threads;
+use up_dispatch::{Board, BoardParts, Naming, Report, Seat, Seated};
+use up_events::{Event, Hook, Id};
+use up_hooks::PostHook;
+use up_lanes::{How, Lane, LaneEnd};
+
+/// What lane 0 is to be handed of five uploads of two bytes that get a byte each, and then each the other: those of uploads 2 and 4.
+const WANTED: [(u8, u64, Hook, u64); 8] = [
+    (2, 1, Hook::Create, 0),
+    (4, 1, Hook::Create, 0),
+    (2, 2, Hook::Receive, 1),
+    (4, 2, Hook::Receive, 1),
+    (2, 3, Hook::Receive, 2),
+    (2, 4, Hook::Finish, 2),
+    (4, 3, Hook::Receive, 2),
+    (4, 4, Hook::Finish, 2),
+];
+
+/// The requests are answered from the seat.
+fn answered<B: Naming, R: Wait + Abort>(
+    rt: &R,
+    alloc: Global,
+    board: &Board<B>,
+    mut seat: Seat<B>,
+) -> Result<Seat<B>, Fail> {
+    fifteen(rt, alloc, &mut Seated::new(rt, board, &mut seat))?;
+    Ok(seat)
+}
+
+/// Holds that lane 0 stopped once it had two events.
+fn has_stopped(rt: &impl Abort, ends: &[LaneEnd<Listing>]) -> Result<(), Fail> {
+    let Some(first) = ends.first() else {
+        return Err("a lane".into());
+    };
+    assert_eq!(rt; (first.lane, first.how), (0, How::Stopped));
+    assert_eq!(rt; first.hook.events.len(), 2);
+    Ok(())
+}
+
+/// Runs each lane again from where it stood, in a thread of its own.
+fn resume_each<B: Naming + Send + Sync, R: Threads + Wait + Sync>(
+    rt: &R,
+    board: &Board<B>,
+    ends: Vec<LaneEnd<Listing>>,
+) -> Result<Vec<LaneEnd<Listing>>, AllocError>
+    requires own { All (λ e. e.take_end.queue ≡ B.queue e.lane) ends.items }
+    ensures own { IfOk result (λ v. All (λ e. e.take_end.queue ≡ B.queue e.lane) v.items) }
+{
+    thread::map_vec(
+        rt,
+        ends,
+        &|end: LaneEnd<Listing>| -> LaneEnd<Listing>
+            requires { end.take_end.queue ≡ B.queue end.lane }
+            ensures { result.take_end.queue ≡ B.queue result.lane }
+        { Lane::resume(end).run(rt, board) },
+    )
+}
+
+/// The lanes as they ended, or as they end once they are resumed where that is wanted.
+fn ends_of<B: Naming + Send + Sync, R: Threads + Wait + Sync>(
+    rt: &R,
+    board: &Board<B>,
+    ends: Vec<LaneEnd<Listing>>,
+    is_resumed: bool,
+) -> Result<Vec<LaneEnd<Listing>>, AllocError>
+    requires own { All (λ e. e.take_end.queue ≡ B.queue e.lane) ends.items }
+    ensures own { IfOk result (λ v. All (λ e. e.take_end.queue ≡ B.queue e.lane) v.items) }
+{
+    if is_resumed {
+        resume_each(rt, board, ends)
+    } else {
+        Ok(ends)
+    }
+}
+
+/// The report on a board of two lanes that run while the requests are answered, and again afterwards where that is wanted.
+fn stopped<B: Naming + Send + Sync, R: Threads + Wait + Abort + Sync>(
+    rt: &R,
+    alloc: Global,
+    parts: BoardParts,
+    hooks: (Listing, Listing),
+    is_resumed: bool,
+) -> Result<Report<Listing>, Fail>
+    requires named { IsNamed B.name B.parts B.queue parts }
+    requires lanes { length parts.queues ≡ 2 }
+    requires first { ⟦<Listing as PostHook>⟧.handed hooks.0 ≡ [] }
+    requires second { ⟦<Listing as PostHook>⟧.handed hooks.1 ≡ [] }
+{
+    let (board, lanes) = open_board::<B, _>(alloc, parts, hooks)?;
+    let Some(seat) = board.seat(rt) else {
+        return Err("a seat".into());
+    };
+    let shared = &board;
+    let (seat, ends) = run_beside(rt, shared, lanes, || answered(rt, alloc, shared, seat));
+    let (seat, ends) = (seat?, ends?);
+    has_stopped(rt, &ends)?;
+    let ends = ends_of(rt, &board, ends, is_resumed)?;
+    let mut seats = Vec::new(alloc);
+    seats.push(seat)?;
+    match board.finish(alloc, seats, ends) {
+        Ok(report) => Ok(report),
+        Err(_) => Err("all are back".into()),
+    }
+}
+
+/// That report, where the post-hook of lane 0 is refused memory so often once it has two events.
+fn reported<R: Threads + Wait + Abort + Sync>(
+    rt: &R,
+    alloc: Global,
+    refusals: u64,
+    is_resumed: bool,
+) -> Result<Report<Listing>, Fail> {
+    let parts = BoardParts::new(alloc, 2, 1)?;
+    let hooks = (Listing::new(alloc, 2, refusals), Listing::new(alloc, 0, 0));
+    stopped::<Brand, _>(rt, alloc, parts, hooks, is_resumed)
+}
+
+/// Holds that lane 0 was handed so many of its events, and lane 1 all of its own.
+fn hold(
+    rt: &impl Abort,
+    report: &Report<Listing>,
+    count: usize,
+    how: How,
+    left: u64,
+) -> Result<(), Fail> {
+    assert_eq!(rt; (report.accepted.len(), report.lanes.len()), (15, 2));
+    let (Some(first), Some(second)) = (report.lanes.get(0), report.lanes.get(1)) else {
+        return Err("two lanes".into());
+    };
+    assert_eq!(rt; (first.lane, first.how, first.left), (0, how, left));
+    assert_eq!(rt; first.hook.events.len(), count);
+    for (event, (id, number, hook, offset)) in first.hook.events.iter().zip(&WANTED) {
+        let wanted = Event {
+            id: Id::new(u128::from(*id)),
+            number: *number,
+            hook: *hook,
+            offset: *offset,
+            length: Some(2),
+        };
+        assert_eq!(rt; *event, wanted);
+    }
+    assert_eq!(rt;
+        (second.lane, second.how, second.left),
+        (1, How::Drained, 0)
+    );
+    assert_eq!(rt; second.hook.events.len(), 12);
+    Ok(())
+}
+
+#[test]
+fn a_lane_that_stops_holds_nobody_up(rt: HostRuntime) -> Result<(), Fail> {
+    let report = reported(&rt, rt.alloc(), u64::MAX, false)?;
+    hold(&rt, &report, 2, How::Stopped, 6)
+}
+
+#[test]
+fn a_lane_that_stopped_is_resumed(rt: HostRuntime) -> Result<(), Fail> {
+    let report = reported(&rt, rt.alloc(), 1, true)?;
+    hold(&rt, &report, 8, How::Drained, 0)
+}

@@ -1,0 +1,25 @@
+//! The tests of the crates from the closures to the board, which use them from outside, as a program does: what no contract says of them.
+//! Outside its tests the crate has what the tests of the server need too.
+#![tactic(auto)]
+
+#[cfg(test)]
+mod beside;
+#[cfg(test)]
+mod board;
+#[cfg(test)]
+mod conversations;
+mod gate;
+#[cfg(test)]
+mod gates;
+#[cfg(test)]
+mod hooks;
+#[cfg(test)]
+mod lanes;
+mod requests;
+#[cfg(test)]
+mod streams;
+#[cfg(test)]
+mod together;
+
+pub use gate::{Gate, HEAD, POST, is_set_in_time};
+pub use requests::{append, creation};

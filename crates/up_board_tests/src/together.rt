@@ -1,0 +1,182 @@
+//! Boards with several seats, brought to their end.
+ghost use Rattle.std.specs.Prelude.{◌≡◌, [], length};
+ghost use Rattle.up_dispatch.specs.Parts.{IsNamed};
+
+use crate::beside::{open_board, run_beside};
+use crate::requests;
+use std::alloc::Global;
+use std::marker::{Brand, Send, Sync};
+use std::process::Abort;
+use std::sync::Wait;
+use std::test::Fail;
+use std::thread;
+use std::thread::Threads;
+use up_dispatch::{Board, BoardParts, FinishFault, Naming, Report, Seat, Unfinished};
+use up_events::{Event, Hook, Id};
+use up_hooks::{Outcome, PostHook, Recorder};
+use up_lanes::{How, LaneEnd};
+use up_machine::Asked;
+
+/// How many uploads there are.
+const UPLOADS: usize = 10;
+
+/// How many changes are made from each seat.
+const CHANGES: usize = 1_000;
+
+/// Makes an upload whose length comes later.
+fn make<B: Naming, R: Wait>(rt: &R, alloc: Global, board: &Board<B>, seat: &mut Seat<B>, id: Id) {
+    let request = requests::creation(alloc, None);
+    let _ = board.commit(rt, alloc, seat, request, id, &Asked::Allowed);
+}
+
+/// Puts a byte at the offset, and tells whether it was taken.
+fn append<B: Naming, R: Wait>(
+    rt: &R,
+    alloc: Global,
+    board: &Board<B>,
+    seat: &mut Seat<B>,
+    upload: usize,
+    offset: u64,
+) -> bool {
+    let Ok(request) = requests::append(alloc, Id::new(upload as u128), offset, b"a") else {
+        return false;
+    };
+    board
+        .commit(rt, alloc, seat, request, Id::new(0), &Asked::Skipped)
+        .is_ok()
+}
+
+/// Makes the changes, each at the next upload and where that then ends.
+fn change<B: Naming, R: Wait>(
+    rt: &R,
+    alloc: Global,
+    board: &Board<B>,
+    mut seat: Seat<B>,
+) -> Seat<B> {
+    let mut ends = [0u64; UPLOADS];
+    for turn in 0..CHANGES {
+        let upload = turn % UPLOADS;
+        for _ in 0..CHANGES {
+            let offset = ends[upload];
+            ends[upload] = offset.saturating_add(1);
+            if append(rt, alloc, board, &mut seat, upload, offset) {
+                break;
+            }
+        }
+    }
+    seat
+}
+
+/// Of each upload every event was handed over: it was made, and then it has a byte more each time.
+fn tells_all<F, R: Abort>(rt: &R, report: &Report<Recorder<F>>) -> Result<(), Fail> {
+    assert_eq!(rt; report.accepted.len(), UPLOADS + 2 * CHANGES);
+    let mut counts = [0u64; UPLOADS];
+    for lane in &report.lanes {
+        assert_eq!(rt; (lane.how, lane.left), (How::Drained, 0));
+        for (event, _outcome) in lane.hook.list() {
+            let upload = event.id.lane(UPLOADS as u64) as usize;
+            let before = counts[upload];
+            let hook = if before == 0 {
+                Hook::Create
+            } else {
+                Hook::Receive
+            };
+            counts[upload] = before.saturating_add(1);
+            assert_eq!(rt; (event.number, event.hook), (counts[upload], hook));
+            assert_eq!(rt; (event.offset, event.length), (before, None));
+        }
+    }
+    assert_eq!(rt; counts, [201; UPLOADS]);
+    Ok(())
+}
+
+/// A seat from which the uploads were made, and two others.
+fn seats_of<B: Naming, R: Wait>(
+    rt: &R,
+    alloc: Global,
+    board: &Board<B>,
+) -> Result<(Seat<B>, Vec<Seat<B>>), Fail> {
+    let (Some(mut maker), Some(first), Some(second)) = (
+        board.seat(rt),
+        board.seat(rt),
+        board.seat(rt),
+    ) else {
+        return Err("three seats".into());
+    };
+    for upload in 0..UPLOADS {
+        make(rt, alloc, board, &mut maker, Id::new(upload as u128));
+    }
+    let mut seats = Vec::new(alloc);
+    seats.push(first)?;
+    seats.push(second)?;
+    Ok((maker, seats))
+}
+
+/// A board of two lanes whose uploads are changed from two seats at once; it is finished once all seats and lanes are back.
+fn brought_back<B: Naming + Send + Sync, H: PostHook + Drop, R: Threads + Wait + Abort + Sync>(
+    rt: &R,
+    alloc: Global,
+    parts: BoardParts,
+    hooks: (H, H),
+) -> Result<Report<H>, Fail>
+    requires named { IsNamed B.name B.parts B.queue parts }
+    requires lanes { length parts.queues ≡ 2 }
+    requires first { H.is_sound hooks.0 × (H.handed hooks.0 ≡ []) }
+    requires second { H.is_sound hooks.1 × (H.handed hooks.1 ≡ []) }
+{
+    let (board, lanes) = open_board::<B, _>(alloc, parts, hooks)?;
+    let (maker, others) = seats_of(rt, alloc, &board)?;
+    let shared = &board;
+    let (seats, lanes) = run_beside(
+        rt,
+        shared,
+        lanes,
+        || thread::map_vec(rt, others, &|seat| change(rt, alloc, shared, seat)),
+    );
+    let (seats, lanes) = (seats?, lanes?);
+    let Err(
+        Unfinished {
+            fault,
+            board,
+            mut seats,
+            lanes,
+        },
+    ) = board.finish(alloc, seats, lanes)
+    else {
+        return Err("a seat is out".into());
+    };
+    assert_eq!(rt;
+        (fault, seats.len(), lanes.len()),
+        (FinishFault::SeatsOut, 2, 2)
+    );
+    seats.push(maker)?;
+    let none: Vec<LaneEnd<H>> = Vec::new(alloc);
+    let Err(
+        Unfinished {
+            fault,
+            board,
+            seats,
+            ..
+        },
+    ) = board.finish(alloc, seats, none)
+    else {
+        return Err("the lanes are out".into());
+    };
+    assert_eq!(rt; (fault, seats.len()), (FinishFault::LanesOut, 3));
+    match board.finish(alloc, seats, lanes) {
+        Ok(report) => Ok(report),
+        Err(_) => Err("all are back".into()),
+    }
+}
+
+#[test]
+fn two_seats_at_once(rt: HostRuntime) -> Result<(), Fail> {
+    let parts = BoardParts::new(rt.alloc(), 2, 4)?;
+    let done = |_: &Event| Outcome::Done;
+    let hooks = (
+        Recorder::new(rt.alloc(), done),
+        Recorder::new(rt.alloc(), done),
+    );
+    let report = brought_back::<Brand, _, _>(&rt, rt.alloc(), parts, hooks)?;
+    tells_all(&rt, &report)
+}

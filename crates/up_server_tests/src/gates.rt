@@ -1,0 +1,3 @@
+//! Hooks that wait for what happens elsewhere.
+mod closures;
+mod meeting;

@@ -1,0 +1,31 @@
+//! A run of the server over one conversation.
+ghost use Rattle.up_hooks.specs.Told.{GivesCodes};
+
+use std::alloc::Global;
+use std::marker::Sync;
+use std::sync::Wait;
+use std::thread::Threads;
+use up_events::Event;
+use up_hooks::{Outcome, PreHooks, new_recorders};
+use up_server::{ServerFault, Settings, replay};
+use up_wire::{Output, Source};
+
+/// How a run over this source ends, without closures that are asked and with post-hooks that answer so, and what it writes.
+pub fn replayed<F: Fn(&Event) -> Outcome + Send + Copy + Drop, R: Source, T: Threads + Wait + Sync>(
+    rt: &T,
+    alloc: Global,
+    answer: F,
+    source: &mut R,
+) -> (Result<(), ServerFault>, Vec<u8>)
+    requires callable { F.IsAlwaysCallable answer }
+    requires codes { GivesCodes F.Fn answer }
+{
+    let settings = Settings::default();
+    let Ok(recorders) = new_recorders(alloc, settings.lanes, answer) else {
+        return (Err(ServerFault::Memory), Vec::new(alloc));
+    };
+    let hooks = PreHooks::new(Vec::new(alloc));
+    let mut sink = Output::new(Vec::new(alloc));
+    let ended = replay(rt, alloc, hooks, recorders, &settings, source, &mut sink);
+    (ended, sink.into_inner())
+}

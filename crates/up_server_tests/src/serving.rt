@@ -1,0 +1,47 @@
+//! A run of the server over connections.
+ghost use Rattle.std.specs.Prelude.{◌≡◌, false, IfOk};
+ghost use Rattle.up_dispatch.specs.declared.finish.Report.{Report};
+ghost use Rattle.up_hooks.specs.Told.{GivesCodes};
+ghost use Rattle.up_hooks.specs.declared.recorder.Recorder.{Recorder};
+ghost use Rattle.up_server.specs.ReportText.{report_text};
+ghost use Rattle.up_server.specs.Reported.{IsReportOf, any_stopped};
+
+use std::alloc::Global;
+use std::marker::Sync;
+use std::net::TcpListener;
+use std::sync::Wait;
+use std::thread::Threads;
+use up_connections::Visits;
+use up_dispatch::Counting;
+use up_events::Event;
+use up_hooks::{Outcome, PostHook, PreHooks, Recorder, new_recorders};
+use up_server::{ServerFault, Settings, serve};
+use up_wire::Output;
+
+/// What a server with these closures, whose post-hooks answer so and whose ids are counted, reports once its last connection has ended.
+pub fn reported<F: Fn(&Event) -> Outcome + Send + Copy + Drop, T: Threads + Wait + Sync>(
+    rt: &T,
+    alloc: Global,
+    hooks: PreHooks,
+    answer: F,
+    settings: &Settings,
+    listener: TcpListener,
+    visits: &Visits,
+) -> Result<Vec<u8>, ServerFault>
+    requires callable { F.IsAlwaysCallable answer }
+    requires codes { GivesCodes F.Fn answer }
+    ensures { IfOk result (λ text. (report : Report (Recorder F))
+        × IsReportOf ⟦<Recorder<F> as PostHook>⟧.handed settings.now.lanes report
+        × (any_stopped report.lanes.items ≡ false)
+        × (text.items ≡ report_text report)) }
+{
+    let Ok(recorders) = new_recorders(alloc, settings.lanes, answer) else {
+        return Err(ServerFault::Memory);
+    };
+    let ids = Counting::new();
+    let mut sink = Output::new(Vec::new(alloc));
+    serve(
+        rt, alloc, hooks, recorders, settings, listener, visits, ids, &mut sink,
+    )?;
+    Ok(sink.into_inner())
+}
