@@ -1,21 +1,6 @@
 //! A message that comes in the smallest pieces.
 use super::*;
-use std::io::{self, BufReader, Read};
-
-/// Gives one byte at a time.
-#[derive(Drop)]
-struct Drip<'a> {
-    bytes: &'a [u8],
-}
-
-impl<'a> Read for Drip<'a> {
-    fn read(&mut self, buf: &mut [u8]) -> io::Result<usize> {
-        let count = self.bytes.len().min(buf.len()).min(1);
-        buf[..count].copy_from_slice(&self.bytes[..count]);
-        self.bytes = &self.bytes[count..];
-        Ok(count)
-    }
-}
+use up_wire::Tape;
 
 #[test]
 fn takes_chunks_a_byte_at_a_time(rt: HostRuntime) -> Result<(), Fail> {
@@ -35,10 +20,7 @@ fn takes_chunks_a_byte_at_a_time(rt: HostRuntime) -> Result<(), Fail> {
         00000000000000000000000000000001 2 post-receive 7/7 done\n\
         00000000000000000000000000000001 3 post-finish 7/7 done\n",
     )?;
-    let drip = Drip {
-        bytes: talk.asked.as_bytes(),
-    };
-    let mut source = Input::new(BufReader::new(rt.alloc(), drip)?);
+    let mut source = Tape::new(talk.asked.as_bytes(), 0, false);
     let mut sink = Output::new(Vec::new(rt.alloc()));
     let ended = run_plain(
         &rt,

@@ -1,27 +1,6 @@
-//! Readers and writers that fail in mid-stream.
-use super::full_writer::FullWriter;
+//! Reads and writes that fail in mid-stream.
 use super::*;
-use std::io::{self, BufReader, ErrorKind, Read};
-
-/// Gives its bytes, then fails, and would give more.
-#[derive(Drop)]
-struct CutReader<'a> {
-    bytes: &'a [u8],
-    late: &'a [u8],
-}
-
-impl<'a> Read for CutReader<'a> {
-    fn read(&mut self, buf: &mut [u8]) -> io::Result<usize> {
-        if self.bytes.is_empty() {
-            self.bytes = self.late;
-            return Err(io::Error::from(ErrorKind::ConnectionReset));
-        }
-        let count = self.bytes.len().min(buf.len());
-        buf[..count].copy_from_slice(&self.bytes[..count]);
-        self.bytes = &self.bytes[count..];
-        Ok(count)
-    }
-}
+use up_wire::{Slip, Tape};
 
 /// A POST of 75 bytes, and a PATCH whose head ends behind 249 bytes and whose body ends behind 260, with two replies and
 /// a report.
@@ -72,11 +51,7 @@ fn written_after(alloc: Global, count: usize) -> Result<String, AllocError> {
 fn keeps_what_came_before_any_read_that_fails(rt: HostRuntime) -> Result<(), Fail> {
     let talk = small_talk(rt.alloc())?;
     for count in 0..talk.asked.len() {
-        let reader = CutReader {
-            bytes: &talk.asked.as_bytes()[..count],
-            late: b"POST /files/ HTTP/1.1\r\nUpload-Length: 1\r\n\r\n",
-        };
-        let mut source = Input::new(BufReader::new(rt.alloc(), reader)?);
+        let mut source = Tape::new(&talk.asked.as_bytes()[..count], 0, true);
         let mut sink = Output::new(Vec::new(rt.alloc()));
         let ended = run_plain(
             &rt,
@@ -103,11 +78,7 @@ fn stops_at_any_write_that_fails(rt: HostRuntime) -> Result<(), Fail> {
     talk.hold(&rt, rt.alloc(), &Settings::default())?;
     for room in 0..talk.wanted.len() {
         let mut source = Input::new(talk.asked.as_bytes());
-        let mut taken = Vec::new(rt.alloc());
-        let mut sink = Output::new(FullWriter {
-            taken: &mut taken,
-            room,
-        });
+        let mut sink = Slip::new(rt.alloc(), room, 0)?;
         let ended = run_plain(
             &rt,
             rt.alloc(),
@@ -116,11 +87,7 @@ fn stops_at_any_write_that_fails(rt: HostRuntime) -> Result<(), Fail> {
             &mut sink,
         );
         assert_eq!(rt; ended, Err(ServerFault::Write), "after {room} bytes");
-        assert_eq!(rt; taken.len(), room);
-        assert!(rt;
-            talk.wanted.as_bytes().starts_with(&taken),
-            "after {room} bytes"
-        );
+        assert_eq!(rt; sink.bytes(), &talk.wanted.as_bytes()[..room]);
     }
     Ok(())
 }
