@@ -58,18 +58,24 @@ fn work_removals(alloc: Global, count: u64) -> Result<usize, Refusal> {
     Ok(book.journal().accepted().len())
 }
 
-/// How many changes of so many uploads were accepted.
-fn work(alloc: Global, count: u64) -> Result<usize, Refusal> {
-    let mut book = new_book(alloc)?;
+/// Makes so many uploads, puts eight bytes into each, and asks for each.
+fn fill(alloc: Global, book: &mut Book, count: u64) -> Result<(), Refusal> {
     for n in 0..count {
-        create(alloc, &mut book, Id::new(u128::from(n)))?;
+        create(alloc, book, Id::new(u128::from(n)))?;
     }
     for n in 0..count {
-        append(alloc, &mut book, Id::new(u128::from(n)))?;
+        append(alloc, book, Id::new(u128::from(n)))?;
     }
     for n in 0..count {
         book.plan(alloc, &Request::Head(Id::new(u128::from(n))))?;
     }
+    Ok(())
+}
+
+/// How many changes of so many uploads were accepted.
+fn work(alloc: Global, count: u64) -> Result<usize, Refusal> {
+    let mut book = new_book(alloc)?;
+    fill(alloc, &mut book, count)?;
     Ok(book.journal().accepted().len())
 }
 

@@ -180,6 +180,73 @@ impl<B: Naming> Inside<B> {
         None
     }
 
+    // A report of no lane yet, with room for all, unless something keeps the board from being finished with these.
+    fn begun<H: PostHook + Drop>(
+        &self,
+        alloc: Global,
+        seats: &[Seat<B>],
+        lanes: &[LaneEnd<H>],
+    ) -> Result<Report<H>, FinishFault>
+        ensures accepted { IfOk result (λ r. r.accepted.items ≡ self.now.book.journal.accepted) }
+        ensures room { IfOk result (λ r. (r.lanes.items ≡ []) × (length lanes.now ≤ vec_capacity r.lanes)) }
+        ensures all_seats { IfOk result (λ r. length self.now.book.journal.accepted ≤ sum seats.now) }
+        ensures all_lanes { IfOk result (λ r. IsInOrder (λ e. e.lane) self.now.book.journal.lanes lanes.now) }
+        ensures seats_out { IfErr result (λ fault. fault ≡ FinishFault.SeatsOut → sum seats.now < length self.now.book.journal.accepted) }
+        ensures lanes_out { IfErr result (λ fault. fault ≡ FinishFault.LanesOut → (length self.now.book.journal.accepted ≤ sum seats.now)
+            × ¬ IsInOrder (λ e. e.lane) self.now.book.journal.lanes lanes.now) }
+        ensures no_memory { IfErr result (λ fault. fault ≡ FinishFault.NoMemory → (length self.now.book.journal.accepted ≤ sum seats.now)
+            × IsInOrder (λ e. e.lane) self.now.book.journal.lanes lanes.now) }
+    {
+        if let Some(fault) = self.fault(seats, lanes) {
+            return Err(fault);
+        }
+        let Ok(accepted) = accepted_by(alloc, &self.book) else {
+            return Err(FinishFault::NoMemory);
+        };
+        match Vec::with_capacity(alloc, lanes.len()) {
+            Ok(lanes) => Ok(Report { accepted, lanes }),
+            Err(_) => Err(FinishFault::NoMemory),
+        }
+    }
+
+    // The report with what each lane handed over.
+    fn completed<H: PostHook + Drop>(
+        self,
+        report: Report<H>,
+        seats: Vec<Seat<B>>,
+        lanes: Vec<LaneEnd<H>>,
+    ) -> Report<H>
+        requires queues { All (λ e. e.take_end.queue ≡ B.queue e.lane) lanes.items }
+        requires accepted { report.accepted.items ≡ self.book.journal.accepted }
+        requires room { (report.lanes.items ≡ []) × (vec_len lanes ≤ vec_capacity report.lanes) }
+        requires all_seats { length self.book.journal.accepted ≤ sum seats.items }
+        requires all_lanes { IsInOrder (λ e. e.lane) self.book.journal.lanes lanes.items }
+        ensures accepted { result.accepted.items ≡ self.book.journal.accepted }
+        ensures legal { IsLegal result.accepted.items }
+        ensures counts { vec_len result.accepted ≡ sum seats.items }
+        ensures lanes { (vec_len result.lanes ≡ vec_len lanes) × EachPair (λ e x. (x.lane ≡ e.lane) × (x.hook ≡ e.hook) × (x.how ≡ e.how)) lanes.items result.lanes.items }
+        ensures handed { HandOver H.handed (vec_len result.lanes) result.accepted.items result.lanes.items }
+        ensures delivered { TellEachUpload H.handed (vec_len result.lanes) result.accepted.items result.lanes.items }
+    {
+        let Inside {
+            book,
+            feeds,
+            given: _,
+            rest,
+            mut total,
+        } = self;
+        let mut all = gathered(rest, seats);
+        total.audit(&mut all);
+        let Report {
+            accepted,
+            lanes: reports,
+        } = report;
+        Report {
+            accepted,
+            lanes: settle(&book, reports, feeds, lanes),
+        }
+    }
+
     /// As `Board::finish`, without a lock.
     pub fn finish<H: PostHook + Drop>(
         self,
@@ -201,41 +268,15 @@ impl<B: Naming> Inside<B> {
         ensures handed { IfOk result (λ r. HandOver H.handed (vec_len r.lanes) r.accepted.items r.lanes.items) }
         ensures delivered { IfOk result (λ r. TellEachUpload H.handed (vec_len r.lanes) r.accepted.items r.lanes.items) }
     {
-        if let Some(fault) = self.fault(seats.as_slice(), lanes.as_slice()) {
-            return Err(Unfinished {
+        match self.begun(alloc, seats.as_slice(), lanes.as_slice()) {
+            Ok(report) => Ok(self.completed(report, seats, lanes)),
+            Err(fault) => Err(Unfinished {
                 fault,
                 board: self,
                 seats,
                 lanes,
-            });
+            }),
         }
-        let Ok(accepted) = accepted_by(alloc, &self.book) else {
-            return Err(Unfinished {
-                fault: FinishFault::NoMemory,
-                board: self,
-                seats,
-                lanes,
-            });
-        };
-        let Ok(reports) = Vec::with_capacity(alloc, lanes.len()) else {
-            return Err(Unfinished {
-                fault: FinishFault::NoMemory,
-                board: self,
-                seats,
-                lanes,
-            });
-        };
-        let Inside {
-            book,
-            feeds,
-            given: _,
-            rest,
-            mut total,
-        } = self;
-        let mut all = gathered(rest, seats);
-        total.audit(&mut all);
-        let lanes = settle(&book, reports, feeds, lanes);
-        Ok(Report { accepted, lanes })
     }
 }
 

@@ -8,7 +8,7 @@ use std::io;
 use std::sync::Wait;
 use up_events::{Accepted, Journal, Kind, MOST_BYTES};
 use up_headers::{HeaderFault, MetadataFault, pairs_of, request_of};
-use up_machine::{Asked, Book, Refusal};
+use up_machine::{Asked, Book, Plan, Refusal};
 use up_queue::{Item, QueueFault, compare, lane_queue};
 
 /// A book and a journal, each of two lanes, and the lines of the last call.
@@ -82,14 +82,17 @@ fn note(words: &mut String, journal: &mut Journal, word: &str) -> io::Result<boo
     Ok(noted.is_err())
 }
 
-fn plan(words: &mut String, book: &Book, alloc: Global, row: &str) -> io::Result<bool> {
-    let request = request_in(alloc, row)?;
-    let planned = book.plan(alloc, &request);
-    match &planned {
+fn push_planned(words: &mut String, planned: &Result<Plan, Refusal>) -> io::Result<bool> {
+    match planned {
         Ok(plan) => push_plan(words, plan)?,
         Err(refusal) => write!(words, "{refusal}")?,
     }
     Ok(matches!(planned, Err(Refusal::NoMemory)))
+}
+
+fn plan(words: &mut String, book: &Book, alloc: Global, row: &str) -> io::Result<bool> {
+    let request = request_in(alloc, row)?;
+    push_planned(words, &book.plan(alloc, &request))
 }
 
 fn commit(words: &mut String, book: &mut Book, alloc: Global, row: &str) -> io::Result<bool> {

@@ -87,6 +87,28 @@ fn fill<B: Naming, R: Wait>(rt: &R, alloc: Global, board: &Board<B>) -> io::Resu
     Ok(seat)
 }
 
+/// Steps a lane, and tells of it.
+fn told_step<H: PostHook + Drop>(
+    rt: &(impl Print + Wait),
+    lines: &mut Lines,
+    handed: &AtomicU64,
+    number: &str,
+    lane: &mut Lane<H>,
+) -> io::Result<StepEnd>
+    ensures { (lane.new.lane ≡ lane.old.lane) × (lane.new.queue ≡ lane.old.queue) }
+{
+    lines.begin("step", number)?;
+    push_handed(&mut lines.before, handed)?;
+    let end = lane.step(rt);
+    match end {
+        StepEnd::NoMemory => lines.called.push_str("out of memory")?,
+        _ => write!(lines.called, "{end:?}")?,
+    }
+    push_handed(&mut lines.after, handed)?;
+    lines.tell(rt, end == StepEnd::NoMemory)?;
+    Ok(end)
+}
+
 /// Steps a lane to its end.
 fn stepped<B: Naming + Send + Sync, H: PostHook + Drop, R: Print + Wait>(
     rt: &R,
@@ -99,16 +121,7 @@ fn stepped<B: Naming + Send + Sync, H: PostHook + Drop, R: Print + Wait>(
     ensures { IfOk result (λ end. (end.lane ≡ lane.lane) × (end.take_end.queue ≡ lane.queue)) }
 {
     for _ in 0..MOST_STEPS {
-        lines.begin("step", number)?;
-        push_handed(&mut lines.before, handed)?;
-        let end = lane.step(rt);
-        match end {
-            StepEnd::NoMemory => lines.called.push_str("out of memory")?,
-            _ => write!(lines.called, "{end:?}")?,
-        }
-        push_handed(&mut lines.after, handed)?;
-        lines.tell(rt, end == StepEnd::NoMemory)?;
-        if end == StepEnd::Ended {
+        if told_step(rt, lines, handed, number, &mut lane)? == StepEnd::Ended {
             return Ok(lane.run(rt, board));
         }
     }

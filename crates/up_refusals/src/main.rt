@@ -25,23 +25,34 @@ mod messages;
 mod words;
 
 use crate::bench::Bench;
+use std::alloc::Global;
 use std::io;
 use std::process::ExitCode;
 use std::sync::Wait;
+
+/// Makes the call of each row.
+fn call_rows(
+    rt: &(impl Print + Wait),
+    alloc: Global,
+    bench: &mut Bench,
+    text: &str,
+) -> io::Result<()> {
+    for row in text.lines() {
+        let (name, given) = row.split_once(' ').unwrap_or((row, ""));
+        match name {
+            "" | "#" => {}
+            "board" => boards::call_all(rt, alloc, &mut bench.lines)?,
+            _ => bench.call_on(rt, alloc, name, given)?,
+        }
+    }
+    Ok(())
+}
 
 /// Makes the calls of all rows.
 fn call_all(rt: &(impl Input + Print + AllocGlobal + Wait)) -> io::Result<()> {
     let text = io::read_to_string(rt.alloc(), rt.reader())?;
     let mut bench = Bench::new(rt.alloc())?;
-    for row in text.as_str().lines() {
-        let (name, given) = row.split_once(' ').unwrap_or((row, ""));
-        match name {
-            "" | "#" => {}
-            "board" => boards::call_all(rt, rt.alloc(), &mut bench.lines)?,
-            _ => bench.call_on(rt, rt.alloc(), name, given)?,
-        }
-    }
-    Ok(())
+    call_rows(rt, rt.alloc(), &mut bench, text.as_str())
 }
 
 fn main(rt: HostRuntime) -> io::Result<ExitCode> {

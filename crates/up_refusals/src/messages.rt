@@ -34,26 +34,31 @@ fn field_of(alloc: Global, name: &str, value: &str) -> io::Result<Field> {
     ))
 }
 
-/// The message of a row, of version 1.0.0.
-pub fn message_of(alloc: Global, row: &str) -> io::Result<Message> {
-    let mut parts = row.split(" | ");
-    let first = parts.next().unwrap_or("");
-    let (method, target) = first.split_once(' ').unwrap_or((first, ""));
-    let mut fields = Sequence::new(alloc);
+/// The fields and the body of a row, which stand behind what is asked for.
+fn content_of(alloc: Global, parts: &str) -> io::Result<(Sequence<Field>, Sequence<u8>)> {
+    let (mut fields, mut body) = (Sequence::new(alloc), Sequence::new(alloc));
     fields.push(field_of(alloc, "Tus-Resumable", "1.0.0")?)?;
-    let mut body = Sequence::new(alloc);
-    for part in parts {
+    for part in parts.split(" | ") {
         match part.split_once(": ") {
             Some((name, value)) => fields.push(field_of(alloc, name, value)?)?,
             None => body = Sequence::from_slice(alloc, part.as_bytes())?,
         }
     }
+    Ok((fields, body))
+}
+
+/// The message of a row, of version 1.0.0.
+pub fn message_of(alloc: Global, row: &str) -> io::Result<Message> {
+    let (first, parts) = row.split_once(" | ").unwrap_or((row, ""));
+    let (method, target) = first.split_once(' ').unwrap_or((first, ""));
     let Ok(method) = Method::from_bytes(alloc, method.as_bytes()) else {
         return Err(out_of_memory());
     };
+    let target = Sequence::from_slice(alloc, target.as_bytes())?;
+    let (fields, body) = content_of(alloc, parts)?;
     Ok(Message {
         method,
-        target: Sequence::from_slice(alloc, target.as_bytes())?,
+        target,
         fields,
         body,
         bare: false,

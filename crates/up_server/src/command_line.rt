@@ -35,115 +35,152 @@ impl From<Error> for WordsFault {
     }
 }
 
-/// A number from 1 on that has a default.
-fn number<'a>(alloc: Global, id: &'a str, most: u64, default: &'a str, help: &'a str) -> Arg<'a> {
-    Arg::new(alloc, id)
-        .long(id)
-        .value_name("N")
-        .value_parser(ValueParser::unsigned(1, most))
-        .default_value(default)
-        .help(help)
+/// What stands behind a word.
+#[derive(Clone, Copy)]
+enum Kind<'a> {
+    Nothing,
+    /// A text, by the name that the help gives it.
+    Text(&'a str),
+    /// A number between these, both included.
+    Number(u64, u64),
 }
 
-/// The words that say how large a server is.
-fn with_size<'a>(alloc: Global, command: Command<'a>) -> Result<Command<'a>, AllocError> {
-    let lanes = number(
-        alloc,
-        "lanes",
-        MOST_LANES,
-        "2",
-        "How many lanes hand events over, from 1 to 16",
-    );
-    let capacity = number(
-        alloc,
-        "capacity",
-        MOST_CAPACITY,
-        "16",
-        "How many items the queue of a lane holds, from 1 to 4096",
-    );
-    let max_size = number(
-        alloc,
-        "max-size",
-        MOST_BYTES,
-        "1048576",
-        "The most bytes of an upload, from 1 to 1073741824",
-    );
-    command.arg(lanes)?.arg(capacity)?.arg(max_size)
+/// A word of the command line.
+#[derive(Clone, Copy)]
+struct Word<'a> {
+    name: &'a str,
+    kind: Kind<'a>,
+    /// What stands behind it where it isn't given.
+    default: Option<&'a str>,
+    help: &'a str,
 }
 
-/// The words that ask for rules.
-fn with_rules<'a>(alloc: Global, command: Command<'a>) -> Result<Command<'a>, AllocError> {
-    let require_key = Arg::new(alloc, "require-key")
-        .long("require-key")
-        .value_name("K")
-        .help("Refuse a plain or final upload whose metadata has no key K");
-    let max_length = Arg::new(alloc, "max-length")
-        .long("max-length")
-        .value_name("N")
-        .value_parser(ValueParser::unsigned(0, u64::MAX))
-        .help("Refuse an upload of more than N bytes, from 0 to 18446744073709551615");
-    let keep = Arg::new(alloc, "keep")
-        .long("keep")
-        .action(ArgAction::SetTrue)
-        .help("Refuse to remove an upload");
-    let max_finish = Arg::new(alloc, "max-finish")
-        .long("max-finish")
-        .value_name("N")
-        .value_parser(ValueParser::unsigned(0, u64::MAX))
-        .help("Refuse to complete an upload of more than N bytes, from 0 to 18446744073709551615");
-    command
-        .arg(require_key)?
-        .arg(max_length)?
-        .arg(keep)?
-        .arg(max_finish)
-}
+/// The words that any server has: how large it is, what it refuses, and what it tells.
+const COMMON: [Word<'static>; 8] = [
+    Word {
+        name: "lanes",
+        kind: Kind::Number(1, MOST_LANES),
+        default: Some("2"),
+        help: "How many lanes hand events over, from 1 to 16",
+    },
+    Word {
+        name: "capacity",
+        kind: Kind::Number(1, MOST_CAPACITY),
+        default: Some("16"),
+        help: "How many items the queue of a lane holds, from 1 to 4096",
+    },
+    Word {
+        name: "max-size",
+        kind: Kind::Number(1, MOST_BYTES),
+        default: Some("1048576"),
+        help: "The most bytes of an upload, from 1 to 1073741824",
+    },
+    Word {
+        name: "require-key",
+        kind: Kind::Text("K"),
+        default: None,
+        help: "Refuse a plain or final upload whose metadata has no key K",
+    },
+    Word {
+        name: "max-length",
+        kind: Kind::Number(0, u64::MAX),
+        default: None,
+        help: "Refuse an upload of more than N bytes, from 0 to 18446744073709551615",
+    },
+    Word {
+        name: "keep",
+        kind: Kind::Nothing,
+        default: None,
+        help: "Refuse to remove an upload",
+    },
+    Word {
+        name: "max-finish",
+        kind: Kind::Number(0, u64::MAX),
+        default: None,
+        help: "Refuse to complete an upload of more than N bytes, from 0 to 18446744073709551615",
+    },
+    Word {
+        name: "events",
+        kind: Kind::Nothing,
+        default: None,
+        help: "Write each event to standard output as a line, as it is handed over",
+    },
+];
 
 /// The words that say which connections are served.
-fn with_connections<'a>(alloc: Global, command: Command<'a>) -> Result<Command<'a>, AllocError> {
-    let address = Arg::new(alloc, "address")
-        .long("address")
-        .value_name("HOST:PORT")
-        .default_value("127.0.0.1:1080")
-        .help("Where to listen; at port 0 the system picks one");
-    let connections = Arg::new(alloc, "connections")
-        .long("connections")
-        .value_name("N")
-        .value_parser(ValueParser::unsigned(1, MOST_CONNECTIONS))
-        .help("End and report after N connections, from 1 to 65536; without it the server goes on");
-    let open = number(
-        alloc,
-        "open",
-        MOST_OPEN,
-        "1024",
-        "How many connections are open at a time, from 1 to 4096; others wait",
-    );
-    command.arg(address)?.arg(connections)?.arg(open)
+const CONNECTIONS: [Word<'static>; 3] = [
+    Word {
+        name: "address",
+        kind: Kind::Text("HOST:PORT"),
+        default: Some("127.0.0.1:1080"),
+        help: "Where to listen; at port 0 the system picks one",
+    },
+    Word {
+        name: "connections",
+        kind: Kind::Number(1, MOST_CONNECTIONS),
+        default: None,
+        help: "End and report after N connections, from 1 to 65536; without it the server goes on",
+    },
+    Word {
+        name: "open",
+        kind: Kind::Number(1, MOST_OPEN),
+        default: Some("1024"),
+        help: "How many connections are open at a time, from 1 to 4096; others wait",
+    },
+];
+
+/// A word, as `clap` is told of it.
+fn arg_of<'a>(alloc: Global, word: Word<'a>) -> Arg<'a> {
+    let arg = Arg::new(alloc, word.name).long(word.name).help(word.help);
+    let arg = match word.kind {
+        Kind::Nothing => arg.action(ArgAction::SetTrue),
+        Kind::Text(name) => arg.value_name(name),
+        Kind::Number(least, most) => arg
+            .value_name("N")
+            .value_parser(ValueParser::unsigned(least, most)),
+    };
+    match word.default {
+        Some(text) => arg.default_value(text),
+        None => arg,
+    }
 }
 
-/// The words that any server has.
-fn with_common<'a>(alloc: Global, command: Command<'a>) -> Result<Command<'a>, AllocError> {
-    let events = Arg::new(alloc, "events")
-        .long("events")
-        .action(ArgAction::SetTrue)
-        .help("Write each event to standard output as a line, as it is handed over");
-    with_rules(alloc, with_size(alloc, command)?)?.arg(events)
+/// A command that knows these words too.
+fn with_words<'a>(
+    alloc: Global,
+    mut command: Command<'a>,
+    words: &[Word<'a>],
+) -> Result<Command<'a>, AllocError> {
+    for word in words {
+        command = command.arg(arg_of(alloc, *word))?;
+    }
+    Ok(command)
+}
+
+/// `replay` and its words.
+fn replay<'a>(alloc: Global) -> Result<Command<'a>, AllocError> {
+    let replay = Command::new(alloc, "replay").about(
+        "Serves the messages on standard input as one conversation, and reports what was handed over",
+    );
+    with_words(alloc, replay, &COMMON)
+}
+
+/// `serve` and its words.
+fn serve<'a>(alloc: Global) -> Result<Command<'a>, AllocError> {
+    let serve = Command::new(alloc, "serve").about(
+        "Serves connections, each as a conversation of its own, and reports what was handed over",
+    );
+    with_words(alloc, with_words(alloc, serve, &CONNECTIONS)?, &COMMON)
 }
 
 /// The words that are known.
 fn command<'a>(alloc: Global) -> Result<Command<'a>, AllocError> {
-    let replay = Command::new(alloc, "replay").about(
-        "Serves the messages on standard input as one conversation, and reports what was handed over",
-    );
-    let serve = Command::new(alloc, "serve").about(
-        "Serves connections, each as a conversation of its own, and reports what was handed over",
-    );
-    Command::new(alloc, "up")
+    let up = Command::new(alloc, "up")
         .about("An upload server for the tus resumable upload protocol 1.0.0")
         .no_binary_name(true)
-        .bin_name("up")?
         .subcommand_required(true)
-        .subcommand(with_common(alloc, replay)?)?
-        .subcommand(with_common(alloc, with_connections(alloc, serve)?)?)
+        .bin_name("up")?;
+    up.subcommand(replay(alloc)?)?.subcommand(serve(alloc)?)
 }
 
 /// A number of the command line. `clap` has seen to its limits.

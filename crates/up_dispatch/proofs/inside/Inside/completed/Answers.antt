@@ -1,0 +1,34 @@
+use Rattle.std.proofs.Common.{◌≡◌, ◌∙◌, List, get_or, length, vec_len, arith, sym, ap, subst}
+use Rattle.std.proofs.lemmas.List.Elements.{All-get_or}
+use Rattle.up_events.specs.declared.event.Accepted.{Accepted}
+use Rattle.up_events.specs.Log.{log_of}
+use Rattle.up_events.specs.Records.{lane_log}
+use Rattle.up_lanes.specs.HowOf.{is_drained}
+use Rattle.up_dispatch.specs.Fed.{IsFed}
+use Rattle.up_dispatch.specs.Reports.{IsHandedOver, TellsUploads}
+use Rattle.up_dispatch.specs.Standing.{Standing}
+use Rattle.up_dispatch.proofs.Uploads.{tells_uploads}
+use Rattle.up_dispatch.proofs.inside.Inside.completed.Goals as goal
+
+pub settle-requires-clause-fed : goal.settle-requires-clause-fed
+settle-requires-clause-fed g c κs within = λ k f e below.
+    let book = c.self.inside.book in
+    let lanes = c.args.lanes.items in
+    let queue : (get_or lanes k e).take_end.queue ≡ g.B.Naming.queue k =
+    All-get_or (λ x. x.take_end.queue ≡ g.B.Naming.queue x.lane) lanes k e (omega (arith, below, c.args.lanes.ok.0)) c.requires.queues ∙ ap g.B.Naming.queue (c.requires.all_lanes.1 k e (omega (arith, below, c.args.lanes.ok.0))) in
+    subst (λ q. IsFed q (lane_log book.journal k) book.closed (get_or c.self.inside.feeds.items k f)) (sym queue)
+    (c.self.invariant.fed k f (omega (arith, below, c.args.lanes.ok.0, c.requires.all_lanes.0, c.self.invariant.lanes, ap (λ (s : Standing). s.book.journal.lanes) c.self.view_is)))
+
+pub returns-clause-handed : goal.returns-clause-handed
+returns-clause-handed g c = λ k d within.
+    let journal = c.self.inside.book.journal in
+    let r = get_or c.settle.result.items k d in
+    let handed = g.H.PostHook.handed r.hook in
+    let accepted : c.args.report.accepted.items ≡ journal.accepted = c.requires.accepted ∙ sym (ap (λ (s : Standing). s.book.journal.accepted) c.self.view_is) in
+    let lanes : journal.lanes ≡ vec_len c.settle.result =
+    omega (arith, c.settle.ensures.count, c.requires.all_lanes.0, c.args.lanes.ok.0, ap (λ (s : Standing). s.book.journal.lanes) c.self.view_is) in
+    subst (λ n. IsHandedOver (log_of n c.args.report.accepted.items k) handed (is_drained r.how) r.left) lanes
+    (subst (λ (l : List Accepted). IsHandedOver (log_of journal.lanes l k) handed (is_drained r.how) r.left) (sym accepted) (c.settle.ensures.handed k d within))
+
+pub returns-clause-delivered : goal.returns-clause-delivered
+returns-clause-delivered g c = λ k d within. tells_uploads _ k (get_or c.settle.result.items k d).left _ _ _ (returns-clause-handed g c k d within)
