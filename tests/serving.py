@@ -1,6 +1,6 @@
-"""What `tests/clients`, `tests/hostile`, `tests/memory` and `bench/serve` share: the program `up`, a server of it for the
-time of a `with`, connections that speak HTTP/1.1 byte for byte, and the count of cases. It needs nothing but Python 3 and
-prints nothing by itself.
+"""What the scripts of `tests/`, `bench/memory` and `bench/serve` share: the program `up`, a server of it for the time of
+a `with`, connections that speak HTTP/1.1 byte for byte, work in many threads at once, and the count of cases. It needs
+nothing but Python 3 and prints nothing by itself.
 """
 import argparse
 import os
@@ -12,6 +12,7 @@ import socket
 import subprocess
 import sys
 import tempfile
+import threading
 import time
 
 ROOT = os.path.dirname(os.path.dirname(os.path.abspath(__file__)))
@@ -208,6 +209,38 @@ class Connection:
         return not self.read and not self.more()
 
 
+def at_once(work, count, meeting=None):
+    """Does this work in so many threads, each with its number; the first fault of a thread fails the case. Those that
+    wait at a meeting, a barrier, are let go then."""
+    faults = []
+
+    def one(number):
+        try:
+            work(number)
+        except Exception as fault:
+            faults.append(fault)
+            if meeting:
+                meeting.abort()
+
+    threads = [threading.Thread(target=one, args=(number,)) for number in range(count)]
+    for thread in threads:
+        thread.start()
+    for thread in threads:
+        thread.join()
+    if faults:
+        raise faults[0]
+
+
+def events_of(text):
+    """The events of each upload that the lines of a text tell of, in order."""
+    events = {}
+    for line in text.splitlines():
+        found = re.fullmatch(r"([0-9a-f]{32}) (.*)", line)
+        if found:
+            events.setdefault("/files/" + found[1], []).append(found[2])
+    return events
+
+
 def same(got, wanted, what):
     """Fails the case where what came isn't what was wanted."""
     if got != wanted:
@@ -254,7 +287,7 @@ def try_all(cases, names, passed_over=()):
             passed += 1
             front = f"{told}, " if told else ""
             print(f"passed: {case.__name__}: {case.__doc__} ({front}{time.monotonic() - start:.1f} s)", flush=True)
-        except (AssertionError, OSError, subprocess.SubprocessError, KeyError, ValueError) as fault:
+        except (AssertionError, OSError, subprocess.SubprocessError, LookupError, ValueError) as fault:
             failed += 1
             print(f"failed: {case.__name__}: {case.__doc__} {type(fault).__name__}: {fault}", flush=True)
     for what in passed_over:
