@@ -47,6 +47,20 @@ fn talk<K: Keeper, I: Ids>(
     (ended, sink.into_inner())
 }
 
+/// Holds that a conversation ends so, and writes this.
+fn hold<K: Keeper, I: Ids, R: Abort>(
+    rt: &R,
+    alloc: Global,
+    keeper: &mut K,
+    ids: &mut I,
+    asked: &str,
+    wanted: (Ended, &str),
+) -> Result<(), Fail> {
+    let (ended, written) = talk(alloc, keeper, ids, asked);
+    assert_eq!(rt; (ended, str::from_utf8(&written)?), wanted);
+    Ok(())
+}
+
 /// The append has no answer.
 fn breaks_off<K: Keeper, I: Ids, R: Abort>(
     rt: &R,
@@ -54,14 +68,9 @@ fn breaks_off<K: Keeper, I: Ids, R: Abort>(
     keeper: &mut K,
     ids: &mut I,
 ) -> Result<(), Fail> {
-    let (ended, written) = talk(alloc, keeper, ids, CUT);
-    assert_eq!(rt; ended, Ended::Cut);
-    assert_eq!(rt;
-        str::from_utf8(&written)?,
-        "HTTP/1.1 201 Created\r\nTus-Resumable: 1.0.0\r\nCache-Control: no-store\r\n\
-        Location: /files/00000000000000000000000000000001\r\nContent-Length: 0\r\n\r\n"
-    );
-    Ok(())
+    let created = "HTTP/1.1 201 Created\r\nTus-Resumable: 1.0.0\r\nCache-Control: no-store\r\n\
+        Location: /files/00000000000000000000000000000001\r\nContent-Length: 0\r\n\r\n";
+    hold(rt, alloc, keeper, ids, CUT, (Ended::Cut, created))
 }
 
 /// The bytes that came before it broke off are there.
@@ -71,14 +80,9 @@ fn has_four<K: Keeper, I: Ids, R: Abort>(
     keeper: &mut K,
     ids: &mut I,
 ) -> Result<(), Fail> {
-    let (ended, written) = talk(alloc, keeper, ids, HEAD);
-    assert_eq!(rt; ended, Ended::Closed);
-    assert_eq!(rt;
-        str::from_utf8(&written)?,
-        "HTTP/1.1 200 OK\r\nTus-Resumable: 1.0.0\r\nCache-Control: no-store\r\n\
-        Upload-Offset: 4\r\nUpload-Length: 10\r\n\r\n"
-    );
-    Ok(())
+    let standing = "HTTP/1.1 200 OK\r\nTus-Resumable: 1.0.0\r\nCache-Control: no-store\r\n\
+        Upload-Offset: 4\r\nUpload-Length: 10\r\n\r\n";
+    hold(rt, alloc, keeper, ids, HEAD, (Ended::Closed, standing))
 }
 
 #[test]
@@ -90,6 +94,33 @@ fn keeps_what_came_of_a_cut_append(rt: HostRuntime) -> Result<(), Fail> {
 }
 
 /// The upload is made from one seat and asked for from the other, with one source of ids.
+fn talk_from_two_seats<B: Naming, R: Wait + Abort>(
+    rt: &R,
+    alloc: Global,
+    board: &Board<B>,
+) -> Result<(), Fail> {
+    let (Some(mut first), Some(mut second)) = (board.seat(rt), board.seat(rt)) else {
+        return Err("a seat".into());
+    };
+    let ids = Mutex::new(Counting::new());
+    let mut shared = SharedIds { rt, ids: &ids };
+    breaks_off(
+        rt,
+        alloc,
+        &mut Seated::new(rt, board, &mut first),
+        &mut shared,
+    )?;
+    has_four(
+        rt,
+        alloc,
+        &mut Seated::new(rt, board, &mut second),
+        &mut shared,
+    )?;
+    assert_eq!(rt; (first.count(), second.count()), (2, 0));
+    Ok(())
+}
+
+/// Two seats of a new board of these parts.
 fn two_seats<B: Naming, R: Wait + Abort>(
     rt: &R,
     alloc: Global,
@@ -99,25 +130,7 @@ fn two_seats<B: Naming, R: Wait + Abort>(
     requires lanes { length parts.queues ≡ 2 }
 {
     let (board, _takes) = Board::<B>::new(alloc, parts, MAX_SIZE)?;
-    let (Some(mut first), Some(mut second)) = (board.seat(rt), board.seat(rt)) else {
-        return Err("a seat".into());
-    };
-    let ids = Mutex::new(Counting::new());
-    let mut shared = SharedIds { rt, ids: &ids };
-    breaks_off(
-        rt,
-        alloc,
-        &mut Seated::new(rt, &board, &mut first),
-        &mut shared,
-    )?;
-    has_four(
-        rt,
-        alloc,
-        &mut Seated::new(rt, &board, &mut second),
-        &mut shared,
-    )?;
-    assert_eq!(rt; (first.count(), second.count()), (2, 0));
-    Ok(())
+    talk_from_two_seats(rt, alloc, &board)
 }
 
 #[test]
@@ -143,19 +156,22 @@ impl Ids for Five {
 #[test]
 fn never_gives_an_id_again(rt: HostRuntime) -> Result<(), Fail> {
     let mut book = Book::new(rt.alloc(), 2, MAX_SIZE)?;
-    let (ended, written) = talk(rt.alloc(), &mut Lent::new(&mut book), &mut Five, CREATIONS);
-    assert_eq!(rt; ended, Ended::Closed);
-    assert_eq!(rt;
-        str::from_utf8(&written)?,
-        "HTTP/1.1 201 Created\r\nTus-Resumable: 1.0.0\r\nCache-Control: no-store\r\n\
+    let replies = "HTTP/1.1 201 Created\r\nTus-Resumable: 1.0.0\r\nCache-Control: no-store\r\n\
         Location: /files/00000000000000000000000000000005\r\nContent-Length: 0\r\n\r\n\
         HTTP/1.1 500 Internal Server Error\r\nTus-Resumable: 1.0.0\r\nCache-Control: no-store\r\n\
         Content-Type: text/plain\r\nContent-Length: 11\r\n\r\n32 IdTaken\n\
         HTTP/1.1 204 No Content\r\nTus-Resumable: 1.0.0\r\nCache-Control: no-store\r\n\r\n\
         HTTP/1.1 500 Internal Server Error\r\nTus-Resumable: 1.0.0\r\nCache-Control: no-store\r\n\
-        Content-Type: text/plain\r\nContent-Length: 11\r\n\r\n32 IdTaken\n"
-    );
-    Ok(())
+        Content-Type: text/plain\r\nContent-Length: 11\r\n\r\n32 IdTaken\n";
+    let mut keeper = Lent::new(&mut book);
+    hold(
+        &rt,
+        rt.alloc(),
+        &mut keeper,
+        &mut Five,
+        CREATIONS,
+        (Ended::Closed, replies),
+    )
 }
 
 #[test]

@@ -1,5 +1,7 @@
 //! Conversations whose streams break off or are interrupted, wherever they may be, and the most that one conversation
 //! takes: what is answered, how it ends, and what is kept.
+ghost use Rattle.std.specs.Prelude.{◌≤◌};
+
 use std::alloc::{AllocError, Global};
 use std::process::Abort;
 use std::test::Fail;
@@ -98,9 +100,9 @@ fn hold<S: Source, R: Abort>(
 ) -> Result<(), Fail> {
     let mut sink = Slip::new(alloc, ROOM, writes)?;
     let left = serve(alloc, source, &mut sink)?;
-    assert_eq!(rt; left, wanted, "at {at}");
     let text = format!(in alloc; "{first}{second}")?;
-    assert_eq!(rt; str::from_utf8(sink.bytes())?, text.as_str(), "at {at}");
+    let written = str::from_utf8(sink.bytes())?;
+    assert_eq!(rt; (left, written), (wanted, text.as_str()), "at {at}");
     Ok(())
 }
 
@@ -154,10 +156,9 @@ fn stops_at_any_write_that_fails(rt: HostRuntime) -> Result<(), Fail> {
         let mut sink = Slip::new(rt.alloc(), room, 0)?;
         let mut source = Tape::new(INPUT.as_bytes(), 0, false);
         let left = serve(rt.alloc(), &mut source, &mut sink)?;
-        assert_eq!(rt; left, wanted, "with room for {room}");
         assert_eq!(rt;
-            sink.bytes(),
-            &replies.as_bytes()[..room],
+            (left, sink.bytes()),
+            (wanted, &replies.as_bytes()[..room]),
             "with room for {room}"
         );
     }
@@ -211,36 +212,44 @@ fn repeated(
     Ok(whole)
 }
 
+/// Serves a request whose head has so many bytes, and compares the reply.
+fn hold_head(rt: &impl Abort, alloc: Global, size: u64, reply: &str) -> Result<(), Fail>
+    requires { 27 ≤ size }
+{
+    let start = "OPTIONS * HTTP/1.1\r\nX: ";
+    let head = repeated(alloc, start, "a", size - 27, "\r\n\r\n")?;
+    assert_eq!(rt; head.len() as u64, size);
+    let mut source = Tape::new(head.as_bytes(), 0, false);
+    let wanted = ([reply, ""], (Ended::Closed, 0, None));
+    hold(rt, alloc, &mut source, 0, wanted, size)
+}
+
 #[test]
 fn takes_a_head_of_16384_bytes_and_no_longer_one(rt: HostRuntime) -> Result<(), Fail> {
     let abilities = format!(in rt.alloc(); "{ABILITIES}\r\n")?;
-    for (size, reply) in [(16_384u64, abilities.as_str()), (16_385, HEAD_TOO_LARGE)] {
-        let head = repeated(
-            rt.alloc(),
-            "OPTIONS * HTTP/1.1\r\nX: ",
-            "a",
-            size - 27,
-            "\r\n\r\n",
-        )?;
-        assert_eq!(rt; head.len() as u64, size);
-        let mut source = Tape::new(head.as_bytes(), 0, false);
-        let wanted = ([reply, ""], (Ended::Closed, 0, None));
-        hold(&rt, rt.alloc(), &mut source, 0, wanted, size)?;
-    }
-    Ok(())
+    hold_head(&rt, rt.alloc(), 16_384, abilities.as_str())?;
+    hold_head(&rt, rt.alloc(), 16_385, HEAD_TOO_LARGE)
+}
+
+/// 10,001 requests, and the replies to all but the last.
+fn many(alloc: Global) -> Result<(String, String), AllocError> {
+    let requests = repeated(alloc, "", OPTIONS, 10_001, "")?;
+    let each = format!(in alloc; "{ABILITIES}\r\n")?;
+    let last = format!(in alloc; "{ABILITIES}Connection: close\r\n\r\n")?;
+    let replies = repeated(alloc, "", each.as_str(), 9_999, last.as_str())?;
+    Ok((requests, replies))
 }
 
 #[test]
 fn closes_with_the_ten_thousandth_reply(rt: HostRuntime) -> Result<(), Fail> {
-    let input = repeated(rt.alloc(), "", OPTIONS, 10_001, "")?;
-    let each = format!(in rt.alloc(); "{ABILITIES}\r\n")?;
-    let last = format!(in rt.alloc(); "{ABILITIES}Connection: close\r\n\r\n")?;
-    let replies = repeated(rt.alloc(), "", each.as_str(), 9_999, last.as_str())?;
-    let mut source = Tape::new(input.as_bytes(), 0, false);
+    let (requests, replies) = many(rt.alloc())?;
+    let mut source = Tape::new(requests.as_bytes(), 0, false);
     let mut sink = Slip::new(rt.alloc(), replies.len(), 0)?;
     let left = serve(rt.alloc(), &mut source, &mut sink)?;
-    assert_eq!(rt; left, (Ended::Closed, 0, None));
     assert!(rt; sink.bytes() == replies.as_bytes());
-    assert_eq!(rt; source.rest(), OPTIONS.as_bytes());
+    assert_eq!(rt;
+        (left, source.rest()),
+        ((Ended::Closed, 0, None), OPTIONS.as_bytes())
+    );
     Ok(())
 }

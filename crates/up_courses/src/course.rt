@@ -7,7 +7,7 @@ use std::alloc::Global;
 use std::fmt::Write;
 use up_events::{Accepted, Added, Id, Journal, Kind};
 use up_headers::Request;
-use up_machine::{Asked, Book, Plan, Reason, Refusal, response_of};
+use up_machine::{Asked, Book, Plan, Reason, Refusal};
 
 /// A book, what is said before each commit, and bytes that were given.
 #[derive(Drop)]
@@ -56,22 +56,50 @@ fn reason(alloc: Global, numbers: &str) -> Result<String, RowFault> {
     }
 }
 
-/// Where the events of new uploads of no bytes stand in a journal, as "LANE FIRST COUNT; " each. A number that stands twice is skipped.
+/// Notes a new upload of no bytes, and puts where its events stand as "LANE FIRST COUNT; ". One that is known is skipped.
+fn push_place(words: &mut String, journal: &mut Journal, id: Id) -> Result<(), RowFault> {
+    if !journal.knows(id) {
+        let Added { lane, first, count } = journal.note(Accepted::Created {
+            id,
+            length: Some(0),
+            kind: Kind::Plain,
+        })?;
+        write!(words, "{lane} {first} {count}; ")?;
+    }
+    Ok(())
+}
+
+/// Where the events of new uploads of no bytes stand in a journal.
 fn places(alloc: Global, numbers: &str) -> Result<String, RowFault> {
     let mut journal = Journal::new(alloc, 2)?;
     let mut words = String::new(alloc);
     for number in numbers.split_ascii_whitespace() {
-        let id = id_of(number)?;
-        if !journal.knows(id) {
-            let Added { lane, first, count } = journal.note(Accepted::Created {
-                id,
-                length: Some(0),
-                kind: Kind::Plain,
-            })?;
-            write!(words, "{lane} {first} {count}; ")?;
-        }
+        push_place(&mut words, &mut journal, id_of(number)?)?;
     }
     Ok(words)
+}
+
+/// The value of a key of what is asked at planning.
+fn value_of(alloc: Global, planned: &Result<Plan, Refusal>, key: &str) -> Result<String, RowFault> {
+    match planned {
+        Ok(Plan::Ask(ask)) => in_brackets(alloc, ask.value(key.as_bytes())),
+        Ok(_) => Err(RowFault::Text),
+        Err(_) => Err(RowFault::Refused),
+    }
+}
+
+/// The request of a row that begins with its number.
+fn numbered(alloc: Global, row: &str) -> Result<Request, RowFault> {
+    let (number, rest) = cut(row);
+    request_of(alloc, id_of(number)?, rest)
+}
+
+/// Fails where a book does not show what it did before.
+fn hold_unchanged(alloc: Global, book: &Book, before: &str) -> Result<(), RowFault> {
+    if words::state(alloc, book)?.as_str() != before {
+        return Err(RowFault::Changed);
+    }
+    Ok(())
 }
 
 impl Course {
@@ -83,34 +111,50 @@ impl Course {
         })
     }
 
+    /// Begins a new book, whose uploads have at most so many bytes.
+    fn begin(&mut self, alloc: Global, size: &str) -> Result<(), RowFault> {
+        self.book = Book::new(alloc, 2, size_of(size)?)?;
+        Ok(())
+    }
+
+    /// What is said of a request at planning, in words.
+    fn planned(&self, alloc: Global, row: &str) -> Result<String, RowFault> {
+        let request = numbered(alloc, row)?;
+        words::of_plan(alloc, &self.book.plan(alloc, &request))
+    }
+
     /// What is said of a request at planning, in words, which changes nothing.
     fn plan(&self, alloc: Global, row: &str) -> Result<String, RowFault> {
-        let (number, rest) = cut(row);
-        let request = request_of(alloc, id_of(number)?, rest)?;
         let before = words::state(alloc, &self.book)?;
-        let planned = words::of_plan(alloc, &self.book.plan(alloc, &request))?;
-        if words::state(alloc, &self.book)?.as_str() != before.as_str() {
-            return Err(RowFault::Changed);
-        }
+        let planned = self.planned(alloc, row)?;
+        hold_unchanged(alloc, &self.book, before.as_str())?;
         Ok(planned)
+    }
+
+    /// What a request changes, and what is answered to it, in words.
+    fn decided(
+        &mut self,
+        alloc: Global,
+        row: &str,
+    ) -> Result<(Option<Accepted>, String), RowFault> {
+        let (number, rest) = cut(row);
+        let id = id_of(number)?;
+        let request = request_of(alloc, id, rest)?;
+        let decided = self.book.commit(alloc, request, id, &self.asked);
+        Ok((words::change_of(&decided), words::of_done(alloc, &decided)?))
     }
 
     /// What comes of a request, in words. A change must be the last of the journal, and without one the book is as it was.
     fn commit(&mut self, alloc: Global, row: &str) -> Result<String, RowFault> {
-        let (number, rest) = cut(row);
-        let id = id_of(number)?;
-        let request = request_of(alloc, id, rest)?;
         let before = words::state(alloc, &self.book)?;
         let count = self.book.journal().accepted().len();
-        let decided = self.book.commit(alloc, request, id, &self.asked);
-        if let Some(change) = words::change_of(&decided) {
-            if !is_last(&self.book, change, count) {
-                return Err(RowFault::NotLast);
-            }
-        } else if words::state(alloc, &self.book)?.as_str() != before.as_str() {
-            return Err(RowFault::Changed);
+        let (change, found) = self.decided(alloc, row)?;
+        match change {
+            Some(change) if is_last(&self.book, change, count) => {}
+            Some(_) => return Err(RowFault::NotLast),
+            None => hold_unchanged(alloc, &self.book, before.as_str())?,
         }
-        words::of_done(alloc, &decided)
+        Ok(found)
     }
 
     /// What comes of a request, in words, which is what the plan says where that is a response.
@@ -127,12 +171,8 @@ impl Course {
     fn value(&self, alloc: Global, row: &str) -> Result<String, RowFault> {
         let (key, row) = row.split_once("] ").unwrap_or((row, ""));
         let key = key.strip_prefix("[").unwrap_or(key);
-        let (number, rest) = cut(row);
-        let request = request_of(alloc, id_of(number)?, rest)?;
-        match &self.book.plan(alloc, &request)? {
-            Plan::Ask(ask) => in_brackets(alloc, ask.value(key.as_bytes())),
-            _ => Err(RowFault::Text),
-        }
+        let request = numbered(alloc, row)?;
+        value_of(alloc, &self.book.plan(alloc, &request), key)
     }
 
     /// Keeps the bytes that are given of an upload.
@@ -148,7 +188,7 @@ impl Course {
         let (word, rest) = cut(row);
         match word {
             "" | "#" => {}
-            "book" => self.book = Book::new(alloc, 2, size_of(rest)?)?,
+            "book" => self.begin(alloc, rest)?,
             "close" => self.book.close(),
             "said" => self.asked = asked_of(rest)?,
             "keep" => self.keep(alloc, rest)?,
@@ -156,7 +196,7 @@ impl Course {
             "plan" => return self.plan(alloc, rest),
             "value" => return self.value(alloc, rest),
             "reason" => return reason(alloc, rest),
-            "wanting" => return words::of_response(alloc, &response_of(alloc, &Refusal::NoMemory)?),
+            "wanting" => return words::of_refusal(alloc, &Refusal::NoMemory),
             "uploads" => return words::of_uploads(alloc, &self.book),
             "accepted" => return words::of_changes(alloc, &self.book),
             "events" => return words::of_events(alloc, &self.book, number_of(rest)?),

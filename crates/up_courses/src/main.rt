@@ -30,7 +30,6 @@ mod row_fault;
 mod words;
 
 use crate::course::Course;
-use crate::row_fault::RowFault;
 use std::alloc::{AllocError, Global};
 use std::io;
 use up_machine::{post_finish_is_asked, refusals_of_plans_are_kept};
@@ -38,10 +37,11 @@ use up_machine::{post_finish_is_asked, refusals_of_plans_are_kept};
 /// What is printed of a row that is not as it must be.
 fn difference(
     alloc: Global,
-    found: Result<String, RowFault>,
+    course: &mut Course,
+    row: &str,
     wanted: &str,
 ) -> Result<Option<String>, AllocError> {
-    match &found {
+    match course.take(alloc, row) {
         Ok(found) if found.trim() == wanted.trim() => Ok(None),
         Ok(found) => Ok(Some(format!(in alloc; "wanted{wanted}, found {found}")?)),
         Err(fault) => Ok(Some(fault.to_string(alloc)?)),
@@ -49,18 +49,12 @@ fn difference(
 }
 
 /// Holds the rows of a text to what they must come to, and prints those that differ.
-fn hold_all(rt: &(impl Print + AllocGlobal), mut course: Course, text: &str) -> io::Result<()> {
+fn hold_all(rt: &(impl Print + AllocGlobal), course: &mut Course, text: &str) -> io::Result<()> {
     let (mut rows, mut differing) = (0u64, 0u64);
     for (before, line) in text.lines().enumerate() {
-        let (done, wanted) = match line.split_once(" =>") {
-            Some(row) => {
-                rows = rows.saturating_add(1);
-                row
-            }
-            None => (line, ""),
-        };
-        let found = course.take(rt.alloc(), done);
-        if let Some(found) = difference(rt.alloc(), found, wanted)? {
+        rows = rows.saturating_add(u64::from(line.contains(" =>")));
+        let (row, wanted) = line.split_once(" =>").unwrap_or((line, ""));
+        if let Some(found) = difference(rt.alloc(), course, row, wanted)? {
             differing = differing.saturating_add(1);
             println!(rt; "line {}: {found}", before.saturating_add(1))?;
         }
@@ -73,7 +67,7 @@ fn main(rt: HostRuntime) -> io::Result<()> {
     post_finish_is_asked();
     let text = io::read_to_string(rt.alloc(), rt.reader())?;
     match Course::new(rt.alloc()) {
-        Ok(course) => hold_all(&rt, course, text.as_str()),
+        Ok(mut course) => hold_all(&rt, &mut course, text.as_str()),
         Err(fault) => println!(rt; "{fault}"),
     }
 }

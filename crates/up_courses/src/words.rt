@@ -28,6 +28,11 @@ pub fn of_response(alloc: Global, response: &Response) -> Result<String, RowFaul
     Ok(format!(in alloc; "{status} {fields}[{body}]")?)
 }
 
+/// What is answered where a request is refused.
+pub fn of_refusal(alloc: Global, refusal: &Refusal) -> Result<String, RowFault> {
+    of_response(alloc, &response_of(alloc, refusal)?)
+}
+
 /// What closures are asked, as "Create None Plain 0/Some(5) [name: ab; ]": point, target, kind, offset and length, and pairs.
 fn of_ask(alloc: Global, ask: &Ask) -> Result<String, RowFault> {
     let (point, target, kind, offset, length) = (
@@ -37,17 +42,20 @@ fn of_ask(alloc: Global, ask: &Ask) -> Result<String, RowFault> {
     Ok(format!(in alloc; "{point:?} {target:?} {kind:?} {offset}/{length:?} [{pairs}]")?)
 }
 
+/// What two closures are asked.
+fn of_both(alloc: Global, first: &Ask, second: &Ask) -> Result<String, RowFault> {
+    let (first, second) = (of_ask(alloc, first)?, of_ask(alloc, second)?);
+    Ok(format!(in alloc; "{first}, {second}")?)
+}
+
 /// What is said at planning.
 pub fn of_plan(alloc: Global, planned: &Result<Plan, Refusal>) -> Result<String, RowFault> {
     match planned {
         Ok(Plan::Answer(response)) => of_response(alloc, response),
         Ok(Plan::Ask(ask)) => of_ask(alloc, ask),
-        Ok(Plan::AskBoth(first, second)) => {
-            let (first, second) = (of_ask(alloc, first)?, of_ask(alloc, second)?);
-            Ok(format!(in alloc; "{first}, {second}")?)
-        }
+        Ok(Plan::AskBoth(first, second)) => of_both(alloc, first, second),
         Ok(Plan::Ready) => Ok(String::from_str(alloc, "Ready")?),
-        Err(refusal) => of_response(alloc, &response_of(alloc, refusal)?),
+        Err(refusal) => of_refusal(alloc, refusal),
     }
 }
 
@@ -55,7 +63,7 @@ pub fn of_plan(alloc: Global, planned: &Result<Plan, Refusal>) -> Result<String,
 pub fn of_done(alloc: Global, decided: &Result<Done, Refusal>) -> Result<String, RowFault> {
     match decided {
         Ok(done) => of_response(alloc, &done.response),
-        Err(refusal) => of_response(alloc, &response_of(alloc, refusal)?),
+        Err(refusal) => of_refusal(alloc, refusal),
     }
 }
 

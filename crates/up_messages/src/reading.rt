@@ -76,6 +76,33 @@ fn push_taken(words: &mut String, taken: &Taken) -> Result<(), AllocError> {
     }
 }
 
+/// Puts what was read and what was written meanwhile, and answers whether that is a whole message.
+fn push_read(
+    words: &mut String,
+    taken: &Taken,
+    sink: &WaitingSink,
+    at: bool,
+) -> Result<bool, AllocError> {
+    push_taken(words, taken)?;
+    push_written(words, sink, at)?;
+    Ok(matches!(taken, Taken::Message(_)))
+}
+
+/// Puts what a call of `read_message` gives, and answers whether it is a whole message.
+fn read_one<R: Source>(
+    alloc: Global,
+    bench: &Bench,
+    source: &mut R,
+    asks: &Cell<u64>,
+    at: bool,
+    words: &mut String,
+) -> Result<bool, AllocError> {
+    let limits = Limits { max_body: LIMIT };
+    let mut sink = WaitingSink::new(alloc, bench.room, bench.writes, asks);
+    let taken = read_message(alloc, source, &mut sink, &limits);
+    push_read(words, &taken, &sink, at)
+}
+
 /// Puts what so many calls of `read_message` give, and answers whether the last is a whole message.
 fn read_all<R: Source>(
     alloc: Global,
@@ -86,15 +113,10 @@ fn read_all<R: Source>(
     at: bool,
     words: &mut String,
 ) -> Result<bool, AllocError> {
-    let limits = Limits { max_body: LIMIT };
     let mut is_whole = false;
     for call in 0..calls {
         push_if(words, " | ", call > 0)?;
-        let mut sink = WaitingSink::new(alloc, bench.room, bench.writes, asks);
-        let taken = read_message(alloc, source, &mut sink, &limits);
-        is_whole = matches!(taken, Taken::Message(_));
-        push_taken(words, &taken)?;
-        push_written(words, &sink, at)?;
+        is_whole = read_one(alloc, bench, source, asks, at, words)?;
     }
     Ok(is_whole)
 }

@@ -103,6 +103,13 @@ fn push_fault(words: &mut String, fault: HeaderFault) -> Result<(), AllocError> 
     }
 }
 
+fn push_asked(words: &mut String, asked: &Result<Request, HeaderFault>) -> Result<(), AllocError> {
+    match asked {
+        Ok(request) => push_request(words, request),
+        Err(fault) => push_fault(words, *fault),
+    }
+}
+
 /// What a message asks for.
 pub fn asked(alloc: Global, text: &[u8]) -> Result<String, RowFault> {
     let text = str::from_utf8(text).unwrap_or("");
@@ -110,10 +117,7 @@ pub fn asked(alloc: Global, text: &[u8]) -> Result<String, RowFault> {
         return Err(RowFault::Text);
     };
     let mut words = String::new(alloc);
-    match &request_of(alloc, message, MAX_SIZE) {
-        Ok(request) => push_request(&mut words, request)?,
-        Err(fault) => push_fault(&mut words, *fault)?,
-    }
+    push_asked(&mut words, &request_of(alloc, message, MAX_SIZE))?;
     Ok(words)
 }
 
@@ -130,9 +134,7 @@ pub fn metadata(alloc: Global, text: &[u8]) -> Result<String, RowFault> {
     Ok(words)
 }
 
-/// Each fault of a message, its status and its text.
-pub fn faults(alloc: Global) -> Result<String, RowFault> {
-    let mut words = String::new(alloc);
+fn push_wire_faults(words: &mut String) -> Result<(), AllocError> {
     for fault in [
         WireFault::BadHead,
         WireFault::HeadTooLarge,
@@ -146,6 +148,10 @@ pub fn faults(alloc: Global) -> Result<String, RowFault> {
         let text = fault.text().as_bytes().escape_ascii();
         write!(words, "{:?} {text} ", fault.status())?;
     }
+    Ok(())
+}
+
+fn push_header_faults(words: &mut String) -> Result<(), AllocError> {
     let of_upload = true;
     for fault in [
         HeaderFault::Version,
@@ -161,6 +167,14 @@ pub fn faults(alloc: Global) -> Result<String, RowFault> {
         let text = fault.text().as_bytes().escape_ascii();
         write!(words, "{} {text} ", fault.status())?;
     }
+    Ok(())
+}
+
+/// Each fault of a message, its status and its text.
+pub fn faults(alloc: Global) -> Result<String, RowFault> {
+    let mut words = String::new(alloc);
+    push_wire_faults(&mut words)?;
+    push_header_faults(&mut words)?;
     write!(words, "{}", MetadataFault::NoMemory)?;
     Ok(words)
 }

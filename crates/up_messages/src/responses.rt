@@ -5,7 +5,6 @@ use crate::row_fault::RowFault;
 use bytes::Bytes;
 use std::alloc::{AllocError, Global};
 use std::cell::Cell;
-use std::fmt::Write;
 use std::io::BufWriter;
 use up_escape::put_bytes;
 use up_wire::{Output, Response, WriteFailed, flush, write_pieces, write_response};
@@ -18,13 +17,18 @@ struct Reply {
     closes: bool,
 }
 
+/// The bytes of a text.
+fn body_of(alloc: Global, text: &str) -> Result<Bytes, RowFault> {
+    let mut bytes = Vec::new(alloc);
+    put_bytes(&mut bytes, text)?;
+    Ok(Bytes::copy_from_slice(alloc, &bytes)?)
+}
+
 /// A response with two fields.
 fn response_of(alloc: Global, status: u16, text: &str) -> Result<Response, RowFault> {
-    let mut body = Vec::new(alloc);
-    put_bytes(&mut body, text)?;
-    let body = Bytes::copy_from_slice(alloc, &body)?;
-    let made = Response::new(alloc, status).with_field(alloc, b"X", b"1")?;
-    Ok(made.with_field(alloc, b"Y", b"")?.with_body(body))
+    let made = Response::new(alloc, status).with_body(body_of(alloc, text)?);
+    let made = made.with_field(alloc, b"X", b"1")?;
+    Ok(made.with_field(alloc, b"Y", b"")?)
 }
 
 fn reply_of(alloc: Global, text: &str) -> Result<Reply, RowFault> {
@@ -40,18 +44,15 @@ fn reply_of(alloc: Global, text: &str) -> Result<Reply, RowFault> {
     })
 }
 
-/// What was written, and whether that failed.
+/// What was written, whether that failed, and the mark behind it.
 fn words_of(
     alloc: Global,
     ended: Result<(), WriteFailed>,
     bytes: &[u8],
-) -> Result<String, AllocError> {
-    let mut words = String::new(alloc);
-    if ended.is_err() {
-        words.push_str("failed ")?;
-    }
-    write!(words, "[{}]", bytes.escape_ascii())?;
-    Ok(words)
+    mark: &str,
+) -> Result<String, RowFault> {
+    let failed = if ended.is_err() { "failed " } else { "" };
+    Ok(format!(in alloc; "{failed}[{}]{mark}", bytes.escape_ascii())?)
 }
 
 /// What a sink has that takes one byte at a time.
@@ -59,11 +60,8 @@ fn told(alloc: Global, bench: &Bench, reply: &Reply) -> Result<String, RowFault>
     let asks = Cell::new(0);
     let mut sink = WaitingSink::new(alloc, bench.room, bench.writes, &asks);
     let ended = write_response(&mut sink, &reply.response, reply.bare, reply.closes);
-    let mut words = words_of(alloc, ended, &sink.taken)?;
-    if sink.sent.is_none() {
-        words.push_str(" unsent")?;
-    }
-    Ok(words)
+    let mark = if sink.sent.is_none() { " unsent" } else { "" };
+    words_of(alloc, ended, &sink.taken, mark)
 }
 
 pub fn written(alloc: Global, bench: &Bench, text: &str) -> Result<String, RowFault> {
@@ -78,12 +76,15 @@ fn holding(alloc: Global) -> Result<Output<BufWriter<Vec<u8>>>, RowFault> {
     }
 }
 
-/// What such a writer has sent on of a response.
-pub fn sent(alloc: Global, text: &str) -> Result<String, RowFault> {
-    let reply = reply_of(alloc, text)?;
+/// What such a writer has sent on of a reply.
+fn sent_on(alloc: Global, reply: &Reply) -> Result<String, RowFault> {
     let mut sink = holding(alloc)?;
     let ended = write_response(&mut sink, &reply.response, reply.bare, reply.closes);
-    Ok(words_of(alloc, ended, sink.into_inner().get_ref())?)
+    words_of(alloc, ended, sink.into_inner().get_ref(), "")
+}
+
+pub fn sent(alloc: Global, text: &str) -> Result<String, RowFault> {
+    sent_on(alloc, &reply_of(alloc, text)?)
 }
 
 /// What such a writer has sent on of three pieces.
@@ -93,18 +94,15 @@ pub fn pieces_sent(alloc: Global, flushes: bool) -> Result<String, RowFault> {
     if flushes && ended.is_ok() {
         ended = flush(&mut sink);
     }
-    Ok(words_of(alloc, ended, sink.into_inner().get_ref())?)
+    words_of(alloc, ended, sink.into_inner().get_ref(), "")
 }
 
 /// A body, and whether the response shares it with another owner.
 pub fn shared(alloc: Global, text: &[u8]) -> Result<String, RowFault> {
     let body = Bytes::copy_from_slice(alloc, text)?;
     let made = Response::new(alloc, 200).with_body(body.clone()?);
-    let mut words = words_of(alloc, Ok(()), made.body.as_slice())?;
-    if !body.is_unique() {
-        words.push_str(" shared")?;
-    }
-    Ok(words)
+    let mark = if body.is_unique() { "" } else { " shared" };
+    words_of(alloc, Ok(()), made.body.as_slice(), mark)
 }
 
 pub fn refused(alloc: Global, bench: &Bench) -> Result<String, RowFault> {

@@ -79,16 +79,24 @@ fn push_steps<R: Source>(
     Ok(())
 }
 
+/// Puts what a slice as a source answers to these steps, and what is left of it.
+fn push_slice(
+    alloc: Global,
+    mut reader: &[u8],
+    steps: &str,
+    words: &mut String,
+) -> Result<(), AllocError> {
+    push_steps(alloc, &mut Input::new(&mut reader), steps, words)?;
+    write!(words, "rest [{}]", reader.escape_ascii())
+}
+
 /// What a slice as a source answers, and what is left of it.
 pub fn of_slice(alloc: Global, text: &str) -> Result<String, RowFault> {
     let (steps, text) = text.split_once(" : ").unwrap_or(("", text));
     let mut bytes = Vec::new(alloc);
     put_bytes(&mut bytes, text)?;
     let mut words = String::new(alloc);
-    let mut reader = bytes.as_slice();
-    let mut source = Input::new(&mut reader);
-    push_steps(alloc, &mut source, steps, &mut words)?;
-    write!(words, "rest [{}]", reader.escape_ascii())?;
+    push_slice(alloc, bytes.as_slice(), steps, &mut words)?;
     Ok(words)
 }
 

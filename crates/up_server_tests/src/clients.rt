@@ -1,6 +1,8 @@
 //! Clients over sockets of this machine.
-use std::io::Write;
+use std::alloc::Global;
+use std::io::{Read, Write};
 use std::net::{Shutdown, SocketAddr, TcpStream};
+use std::process::Abort;
 use std::test::Fail;
 
 /// Connects, asks, and sends no more. What is answered is still to be read.
@@ -9,4 +11,32 @@ pub fn ask(rt: &HostRuntime, address: SocketAddr, asked: &[u8]) -> Result<TcpStr
     stream.write_all(asked)?;
     stream.shutdown(Shutdown::Write)?;
     Ok(stream)
+}
+
+/// Connects so many times as there are requests, and asks one by each.
+pub fn ask_each(
+    rt: &HostRuntime,
+    address: SocketAddr,
+    requests: &[&[u8]],
+) -> Result<Vec<TcpStream>, Fail> {
+    let mut clients = Vec::new(rt.alloc());
+    for asked in requests {
+        clients.push(ask(rt, address, asked)?)?;
+    }
+    Ok(clients)
+}
+
+/// Reads what is answered to its end, and holds that it starts and ends so.
+pub fn hold_answer(
+    rt: &impl Abort,
+    alloc: Global,
+    client: &mut TcpStream,
+    start: &[u8],
+    end: &[u8],
+) -> Result<(), Fail> {
+    let mut answer = Vec::new(alloc);
+    client.read_to_end(&mut answer)?;
+    assert!(rt; answer.starts_with(start));
+    assert!(rt; answer.ends_with(end));
+    Ok(())
 }

@@ -139,10 +139,18 @@ impl Talk {
         let mut source = Input::new(self.asked.as_bytes());
         let mut sink = Output::new(Vec::new(alloc));
         let ended = run_with(rt, alloc, hooks, settings, &mut source, &mut sink);
-        let written = sink.into_inner();
-        let text = str::from_utf8(&written)?;
-        assert_eq!(rt; text, self.wanted.as_str());
-        assert_eq!(rt; ended, Ok(()));
+        self.compare(rt, ended, &sink.into_inner())
+    }
+
+    /// Compares what a run wrote that was to end well.
+    fn compare(
+        &self,
+        rt: &impl Abort,
+        ended: Result<(), ServerFault>,
+        written: &[u8],
+    ) -> Result<(), Fail> {
+        let text = str::from_utf8(written)?;
+        assert_eq!(rt; (ended, text), (Ok(()), self.wanted.as_str()));
         Ok(())
     }
 }

@@ -38,20 +38,25 @@ mod twin;
 
 use crate::comparison::compare;
 use crate::reading::talks_of;
-use crate::serving::serve;
+use crate::serving::{Served, serve};
 use crate::talk::Talk;
 use std::marker::Sync;
 use std::sync::Wait;
 use std::thread::Threads;
 use std::{fs, io};
 
+/// Prints how what came of a talk stands to what must come of it.
+fn tell(rt: &(impl Print + AllocGlobal), talk: &Talk, served: &Served) -> io::Result<()> {
+    let comparison = compare(rt.alloc(), talk, served)?;
+    let name = &talk.name;
+    println!(rt; "{name}: {comparison}")
+}
+
 /// Serves a talk, and prints how it stands.
 fn hold(rt: &(impl Print + AllocGlobal + Threads + Wait + Sync), mut talk: Talk) -> io::Result<()> {
     let words = talk.words.take().unwrap_or_default();
     let served = serve(rt, rt.alloc(), &words, &talk.asked)?;
-    let comparison = compare(rt.alloc(), &talk, &served)?;
-    let name = &talk.name;
-    println!(rt; "{name}: {comparison}")
+    tell(rt, &talk, &served)
 }
 
 /// Holds the talks of a text in their order, or prints which of its lines can't be read.

@@ -6,8 +6,36 @@ use up_machine::Book;
 use up_server::Settings;
 use up_wire::{Input, Output};
 
-/// The replies of a book that is lent to one conversation, its ids counted from 1, and behind them the line of a report that tells how
-/// many changes the book accepted.
+/// The replies of a book that is lent to one conversation, its ids counted from 1.
+fn replies(
+    alloc: Global,
+    book: &mut Book,
+    hooks: &PreHooks,
+    settings: &Settings,
+    asked: &[u8],
+) -> Vec<u8> {
+    let mut source = Input::new(asked);
+    let mut sink = Output::new(Vec::new(alloc));
+    let mut ids = Counting::new();
+    converse_by_book(
+        alloc,
+        book,
+        hooks,
+        &mut ids,
+        settings.max_size,
+        &mut source,
+        &mut sink,
+    );
+    sink.into_inner()
+}
+
+/// Puts the line of a report that tells how many changes the book accepted.
+fn put_count(alloc: Global, text: &mut Vec<u8>, book: &Book) -> Result<(), AllocError> {
+    let count = book.journal().accepted().len();
+    text.extend_from_slice(format!(in alloc; "\naccepted {count}\n")?.as_bytes())
+}
+
+/// The replies of a book, and behind them the line of a report that tells how many changes it accepted.
 pub fn replies_of_book(
     alloc: Global,
     hooks: &PreHooks,
@@ -15,20 +43,7 @@ pub fn replies_of_book(
     asked: &[u8],
 ) -> Result<Vec<u8>, AllocError> {
     let mut book = Book::new(alloc, settings.lanes, settings.max_size).map_err(|_| AllocError)?;
-    let mut source = Input::new(asked);
-    let mut sink = Output::new(Vec::new(alloc));
-    let mut ids = Counting::new();
-    converse_by_book(
-        alloc,
-        &mut book,
-        hooks,
-        &mut ids,
-        settings.max_size,
-        &mut source,
-        &mut sink,
-    );
-    let mut replies = sink.into_inner();
-    let count = book.journal().accepted().len();
-    replies.extend_from_slice(format!(in alloc; "\naccepted {count}\n")?.as_bytes())?;
-    Ok(replies)
+    let mut text = replies(alloc, &mut book, hooks, settings, asked);
+    put_count(alloc, &mut text, &book)?;
+    Ok(text)
 }

@@ -57,6 +57,28 @@ fn talk_meanwhile<B: Naming, R: Wait>(
 }
 
 /// An upload is made from one seat, and asked for from the other.
+fn talk_from_two_seats<B: Naming + Send + Sync, R: Threads + Wait + Abort + Sync>(
+    rt: &R,
+    alloc: Global,
+    board: &Board<B>,
+    hooks: &PreHooks,
+    gate: &Gate,
+) -> Result<(), Fail> {
+    let (Some(mut first), Some(second)) = (board.seat(rt), board.seat(rt)) else {
+        return Err("two seats".into());
+    };
+    let ((ended, made), (was_called, shown)) = thread::join(
+        rt,
+        || talk(rt, alloc, board, &mut first, hooks, POST),
+        || talk_meanwhile(rt, alloc, board, second, hooks, gate),
+    );
+    assert_eq!(rt; (was_called, ended), (true, Ended::Closed));
+    assert!(rt; shown.starts_with(b"HTTP/1.1 404 "));
+    assert!(rt; made.starts_with(b"HTTP/1.1 201 "));
+    Ok(())
+}
+
+/// Two seats of a new board of these parts.
 fn two_seats<B: Naming + Send + Sync, R: Threads + Wait + Abort + Sync>(
     rt: &R,
     alloc: Global,
@@ -68,20 +90,7 @@ fn two_seats<B: Naming + Send + Sync, R: Threads + Wait + Abort + Sync>(
     requires lanes { length parts.queues ≡ 2 }
 {
     let (board, _takes) = Board::<B>::new(alloc, parts, MAX_SIZE)?;
-    let (Some(mut first), Some(second)) = (board.seat(rt), board.seat(rt)) else {
-        return Err("two seats".into());
-    };
-    let shared = &board;
-    let ((ended, made), (was_called, shown)) = thread::join(
-        rt,
-        || talk(rt, alloc, shared, &mut first, hooks, POST),
-        || talk_meanwhile(rt, alloc, shared, second, hooks, gate),
-    );
-    assert!(rt; was_called);
-    assert!(rt; shown.starts_with(b"HTTP/1.1 404 "));
-    assert_eq!(rt; ended, Ended::Closed);
-    assert!(rt; made.starts_with(b"HTTP/1.1 201 "));
-    Ok(())
+    talk_from_two_seats(rt, alloc, &board, hooks, gate)
 }
 
 #[test]

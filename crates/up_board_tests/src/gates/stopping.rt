@@ -12,22 +12,34 @@ use std::sync::Wait;
 use std::test::Fail;
 use std::thread;
 use std::thread::Threads;
-use up_dispatch::{Board, BoardParts, Naming, Report, Seat, Seated};
+use up_dispatch::{Board, BoardParts, LaneReport, Naming, Report, Seat, Seated};
 use up_events::{Event, Hook, Id};
 use up_hooks::PostHook;
 use up_lanes::{How, Lane, LaneEnd};
 
+fn event(id: u128, number: u64, hook: Hook, offset: u64) -> Event {
+    Event {
+        id: Id::new(id),
+        number,
+        hook,
+        offset,
+        length: Some(2),
+    }
+}
+
 /// What lane 0 is to be handed of five uploads of two bytes that get a byte each, and then each the other: those of uploads 2 and 4.
-const WANTED: [(u8, u64, Hook, u64); 8] = [
-    (2, 1, Hook::Create, 0),
-    (4, 1, Hook::Create, 0),
-    (2, 2, Hook::Receive, 1),
-    (4, 2, Hook::Receive, 1),
-    (2, 3, Hook::Receive, 2),
-    (2, 4, Hook::Finish, 2),
-    (4, 3, Hook::Receive, 2),
-    (4, 4, Hook::Finish, 2),
-];
+fn wanted() -> [Event; 8] {
+    [
+        event(2, 1, Hook::Create, 0),
+        event(4, 1, Hook::Create, 0),
+        event(2, 2, Hook::Receive, 1),
+        event(4, 2, Hook::Receive, 1),
+        event(2, 3, Hook::Receive, 2),
+        event(2, 4, Hook::Finish, 2),
+        event(4, 3, Hook::Receive, 2),
+        event(4, 4, Hook::Finish, 2),
+    ]
+}
 
 /// The requests are answered from the seat.
 fn answered<B: Naming, R: Wait + Abort>(
@@ -128,6 +140,11 @@ fn reported<R: Threads + Wait + Abort + Sync>(
     stopped::<Brand, _>(rt, alloc, parts, hooks, is_resumed)
 }
 
+/// The lane, how it ended, how many events were left and how many were handed over.
+fn told(lane: &LaneReport<Listing>) -> (u64, How, u64, usize) {
+    (lane.lane, lane.how, lane.left, lane.hook.events.len())
+}
+
 /// Holds that lane 0 was handed so many of its events, and lane 1 all of its own.
 fn hold(
     rt: &impl Abort,
@@ -136,27 +153,13 @@ fn hold(
     how: How,
     left: u64,
 ) -> Result<(), Fail> {
-    assert_eq!(rt; (report.accepted.len(), report.lanes.len()), (15, 2));
-    let (Some(first), Some(second)) = (report.lanes.get(0), report.lanes.get(1)) else {
+    let [first, second] = report.lanes.as_slice() else {
         return Err("two lanes".into());
     };
-    assert_eq!(rt; (first.lane, first.how, first.left), (0, how, left));
-    assert_eq!(rt; first.hook.events.len(), count);
-    for (event, (id, number, hook, offset)) in first.hook.events.iter().zip(&WANTED) {
-        let wanted = Event {
-            id: Id::new(u128::from(*id)),
-            number: *number,
-            hook: *hook,
-            offset: *offset,
-            length: Some(2),
-        };
-        assert_eq!(rt; *event, wanted);
-    }
-    assert_eq!(rt;
-        (second.lane, second.how, second.left),
-        (1, How::Drained, 0)
-    );
-    assert_eq!(rt; second.hook.events.len(), 12);
+    assert_eq!(rt; report.accepted.len(), 15);
+    assert_eq!(rt; told(first), (0, how, left, count));
+    assert_eq!(rt; told(second), (1, How::Drained, 0, 12));
+    assert_eq!(rt; Some(first.hook.events.as_slice()), wanted().get(..count));
     Ok(())
 }
 

@@ -2,7 +2,7 @@
 ghost use Rattle.std.specs.Prelude.{IsTrue};
 ghost use Rattle.up_hooks.specs.Verdicts.{is_lawful};
 
-use std::alloc::Global;
+use std::alloc::{AllocError, Global};
 use std::process::Abort;
 use std::sync::Arc;
 use std::sync::atomic::{AtomicU64, Ordering};
@@ -67,6 +67,28 @@ fn ask_of(alloc: Global, point: Point, length: u64) -> Ask {
     }
 }
 
+/// So many counts of calls.
+fn new_counters(alloc: Global, count: usize) -> Result<Vec<Arc<AtomicU64>>, AllocError> {
+    let mut counters = Vec::new(alloc);
+    for _ in 0..count {
+        counters.push(Arc::new(alloc, AtomicU64::new(0))?)?;
+    }
+    Ok(counters)
+}
+
+/// Holds that all closures of a point answer this together.
+fn hold_answer(
+    rt: &impl Abort,
+    alloc: Global,
+    hooks: &PreHooks,
+    point: Point,
+    wanted: Option<Refusal>,
+) -> Result<(), Fail> {
+    let asked = hooks.ask(&ask_of(alloc, point, 5));
+    assert_eq!(rt; asked, asked_of(point, wanted)?);
+    Ok(())
+}
+
 /// Holds that closures that refuse so, or allow, are called as often as is said behind each, and that together they answer this.
 fn hold(
     rt: &impl Abort,
@@ -75,12 +97,11 @@ fn hold(
     point: Point,
     wanted: Option<Refusal>,
 ) -> Result<(), Fail> {
+    let counters = new_counters(alloc, closures.len())?;
     let mut hooks = Vec::new(alloc);
-    let mut counters = Vec::new(alloc);
-    for (point, refusal, _) in closures {
+    for ((point, refusal, _), calls) in closures.iter().zip(&counters) {
         let verdict = verdict_of(*refusal)?;
-        let calls = Arc::new(alloc, AtomicU64::new(0))?;
-        let counter = Arc::try_clone(&calls)?;
+        let counter = Arc::try_clone(calls)?;
         let judge = Box::new(
             alloc,
             move |_: &Ask| -> Verdict
@@ -88,13 +109,8 @@ fn hold(
             { counted(&counter, verdict) },
         )?;
         hooks.push(PreHook::new(*point, judge))?;
-        counters.push(calls)?;
     }
-    let hooks = PreHooks::new(hooks);
-    assert_eq!(rt;
-        hooks.ask(&ask_of(alloc, point, 5)),
-        asked_of(point, wanted)?
-    );
+    hold_answer(rt, alloc, &PreHooks::new(hooks), point, wanted)?;
     for ((_, _, times), calls) in closures.iter().zip(&counters) {
         assert_eq!(rt; calls.load(Ordering::SeqCst), *times);
     }

@@ -18,20 +18,20 @@ fn event(number: u64, hook: Hook, offset: u64) -> Event {
     }
 }
 
-/// What came of these events, one after another.
+/// The events of these pairs, handed over one after another, with what came of each.
 fn hand_all<H: PostHook>(
     alloc: Global,
     hook: &mut H,
-    events: &[Event],
-) -> Result<Vec<Outcome>, Fail>
+    pairs: &[(Event, Outcome)],
+) -> Result<Vec<(Event, Outcome)>, Fail>
     requires { H.is_sound hook.old }
 {
-    let mut outcomes = Vec::new(alloc);
-    for event in events {
+    let mut handed = Vec::new(alloc);
+    for (event, _) in pairs {
         hook.ready()?;
-        outcomes.push(hook.hand(event))?;
+        handed.push((*event, hook.hand(event)))?;
     }
-    Ok(outcomes)
+    Ok(handed)
 }
 
 #[test]
@@ -51,27 +51,17 @@ fn goes_on_after_a_failure(rt: HostRuntime) -> Result<(), Fail> {
             }
         },
     );
-    let events = [
-        event(1, Hook::Create, 0),
-        event(2, Hook::Receive, 6),
-        event(3, Hook::Receive, 11),
-        event(4, Hook::Finish, 11),
-        event(5, Hook::Terminate, 11),
-    ];
     let wanted = [
-        Outcome::Done,
-        Outcome::Failed(7),
-        Outcome::Failed(7),
-        Outcome::Failed(99),
-        Outcome::Failed(1),
+        (event(1, Hook::Create, 0), Outcome::Done),
+        (event(2, Hook::Receive, 6), Outcome::Failed(7)),
+        (event(3, Hook::Receive, 11), Outcome::Failed(7)),
+        (event(4, Hook::Finish, 11), Outcome::Failed(99)),
+        (event(5, Hook::Terminate, 11), Outcome::Failed(1)),
     ];
-    let outcomes = hand_all(rt.alloc(), &mut recorder, &events)?;
-    assert_eq!(rt; outcomes.as_slice(), wanted.as_slice());
+    let handed = hand_all(rt.alloc(), &mut recorder, &wanted)?;
+    assert_eq!(rt; handed.as_slice(), wanted.as_slice());
+    assert_eq!(rt; recorder.list(), wanted.as_slice());
     assert_eq!(rt; calls.load(Ordering::SeqCst), 5);
-    assert_eq!(rt; recorder.list().len(), 5);
-    for (place, pair) in recorder.list().iter().enumerate() {
-        assert_eq!(rt; *pair, (events[place], wanted[place]));
-    }
     Ok(())
 }
 

@@ -4,10 +4,13 @@ ghost use Rattle.up_events.specs.Log.{IsLawful};
 ghost use Rattle.up_queue.specs.Line.{IsOrderly};
 
 use std::alloc::{AllocError, Global};
+use std::process::Abort;
 use std::sync::Wait;
+use std::test::Fail;
 use std::thread;
 use up_events::{Accepted, Event, Hook, Id, Journal, Kind, NoMemory, logs_are_lawful};
 use up_hooks::{Outcome, PostHook};
+use up_lanes::{How, LaneEnd};
 use up_queue::{Item, PutEnd, PutFault};
 
 /// The log of so many uploads of no bytes.
@@ -44,7 +47,7 @@ pub fn items(alloc: Global, uploads: u64) -> Result<Vec<Item>, NoMemory>
 }
 
 /// The events of so many uploads of no bytes, as they are to be handed over.
-pub fn wanted(alloc: Global, uploads: u64) -> Result<Vec<Event>, AllocError> {
+fn wanted(alloc: Global, uploads: u64) -> Result<Vec<Event>, AllocError> {
     let mut events = Vec::new(alloc);
     for upload in 0..uploads {
         for (number, hook) in [(1, Hook::Create), (2, Hook::Finish)] {
@@ -58,6 +61,22 @@ pub fn wanted(alloc: Global, uploads: u64) -> Result<Vec<Event>, AllocError> {
         }
     }
     Ok(events)
+}
+
+/// Holds that a lane ended so, once it was handed all events of so many uploads of no bytes.
+pub fn hold(
+    rt: &impl Abort,
+    alloc: Global,
+    end: &LaneEnd<Listing>,
+    how: How,
+    uploads: u64,
+) -> Result<(), Fail> {
+    let wanted = wanted(alloc, uploads)?;
+    assert_eq!(rt;
+        (end.how, end.hook.events.as_slice()),
+        (how, wanted.as_slice())
+    );
+    Ok(())
 }
 
 /// Puts the item at this place behind those before it.

@@ -2,7 +2,7 @@
 ghost use Rattle.std.specs.Prelude.{◌≡◌, ◌≤◌, [], length, take};
 ghost use Rattle.up_queue.specs.Line.{IsOrderly};
 
-use super::parts::{Listing, items, put_all, put_at, wanted};
+use super::parts::{Listing, hold, items, put_all, put_at};
 use std::marker::Model;
 use std::sync::atomic::{AtomicU64, Ordering};
 use std::sync::{Mutex, Wait};
@@ -67,6 +67,27 @@ struct Counted {
     strays: AtomicU64,
 }
 
+impl Counted {
+    fn new(supply: Supply, fills_by_refill: bool) -> Counted {
+        Counted {
+            supply: Mutex::new(supply),
+            fills_by_refill,
+            refills: AtomicU64::new(0),
+            waits: AtomicU64::new(0),
+            strays: AtomicU64::new(0),
+        }
+    }
+
+    /// How many refills, waits and strays there were.
+    fn counts(&self) -> [u64; 3] {
+        [
+            self.refills.load(Ordering::SeqCst),
+            self.waits.load(Ordering::SeqCst),
+            self.strays.load(Ordering::SeqCst),
+        ]
+    }
+}
+
 impl Refill for Counted {
     fn refill<R: Wait>(&self, rt: &R, lane: u64) {
         self.refills.fetch_add(1, Ordering::SeqCst);
@@ -91,22 +112,11 @@ impl Refill for Counted {
 fn refills_first_and_then_sleeps(rt: HostRuntime) -> Result<(), Fail> {
     for (fills_by_refill, wanted_waits) in [(true, 0), (false, 9)] {
         let (put_end, take_end) = lane_queue(rt.alloc(), 1)?;
-        let counted = Counted {
-            supply: Mutex::new(Supply::new(put_end, items(rt.alloc(), 4)?)),
-            fills_by_refill,
-            refills: AtomicU64::new(0),
-            waits: AtomicU64::new(0),
-            strays: AtomicU64::new(0),
-        };
+        let supply = Supply::new(put_end, items(rt.alloc(), 4)?);
+        let counted = Counted::new(supply, fills_by_refill);
         let end = Lane::new(7, take_end, Listing::new(rt.alloc(), 0, 0)).run(&rt, &counted);
-        assert_eq!(rt; (end.lane, end.how), (7, How::Drained));
-        assert_eq!(rt;
-            end.hook.events.as_slice(),
-            wanted(rt.alloc(), 4)?.as_slice()
-        );
-        assert_eq!(rt; counted.refills.load(Ordering::SeqCst), 9);
-        assert_eq!(rt; counted.waits.load(Ordering::SeqCst), wanted_waits);
-        assert_eq!(rt; counted.strays.load(Ordering::SeqCst), 0);
+        hold(&rt, rt.alloc(), &end, How::Drained, 4)?;
+        assert_eq!(rt; (end.lane, counted.counts()), (7, [9, wanted_waits, 0]));
     }
     Ok(())
 }
@@ -135,10 +145,5 @@ fn runs_in_a_thread_of_its_own(rt: HostRuntime) -> Result<(), Fail> {
         { put_all(&rt, put_end, all) },
         || lane.run(&rt, &Elsewhere),
     );
-    assert_eq!(rt; end.how, How::Drained);
-    assert_eq!(rt;
-        end.hook.events.as_slice(),
-        wanted(rt.alloc(), 4)?.as_slice()
-    );
-    Ok(())
+    hold(&rt, rt.alloc(), &end, How::Drained, 4)
 }

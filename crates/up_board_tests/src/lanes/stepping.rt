@@ -1,5 +1,7 @@
 //! Lanes that are stepped by hand.
-use super::parts::{Listing, fill, items, put_at, wanted};
+use super::parts::{Listing, fill, hold, items, put_at};
+use std::alloc::Global;
+use std::process::Abort;
 use std::sync::Wait;
 use std::test::Fail;
 use up_lanes::{How, Lane, Refill, StepEnd};
@@ -14,24 +16,24 @@ impl Refill for NoMore {
     fn wait<R: Wait>(&self, _rt: &R, _lane: u64, _taken: u64) {}
 }
 
+/// Holds that a lane over a queue of this capacity is handed an event at each step, and that it is handed all of them in order.
+fn hands_over_in_order(rt: &(impl Wait + Abort), alloc: Global, capacity: u64) -> Result<(), Fail> {
+    let items = items(alloc, 4)?;
+    let (mut put_end, take_end) = lane_queue(alloc, capacity)?;
+    let mut lane = Lane::new(0, take_end, Listing::new(alloc, 0, 0));
+    let mut place = 0;
+    for _ in 0..8 {
+        place = fill(rt, &mut put_end, &items, place);
+        assert_eq!(rt; lane.step(rt), StepEnd::Handed);
+    }
+    fill(rt, &mut put_end, &items, place);
+    hold(rt, alloc, &lane.run(rt, &NoMore), How::Drained, 4)
+}
+
 #[test]
 fn hands_over_in_order_at_every_capacity(rt: HostRuntime) -> Result<(), Fail> {
     for capacity in 1..5 {
-        let items = items(rt.alloc(), 4)?;
-        let (mut put_end, take_end) = lane_queue(rt.alloc(), capacity)?;
-        let mut lane = Lane::new(0, take_end, Listing::new(rt.alloc(), 0, 0));
-        let mut place = 0;
-        for _ in 0..8 {
-            place = fill(&rt, &mut put_end, &items, place);
-            assert_eq!(rt; lane.step(&rt), StepEnd::Handed);
-        }
-        fill(&rt, &mut put_end, &items, place);
-        let end = lane.run(&rt, &NoMore);
-        assert_eq!(rt; end.how, How::Drained);
-        assert_eq!(rt;
-            end.hook.events.as_slice(),
-            wanted(rt.alloc(), 4)?.as_slice()
-        );
+        hands_over_in_order(&rt, rt.alloc(), capacity)?;
     }
     Ok(())
 }
@@ -42,45 +44,49 @@ fn finds_nothing_until_more_is_put(rt: HostRuntime) -> Result<(), Fail> {
     let (mut put_end, take_end) = lane_queue(rt.alloc(), 1)?;
     let mut lane = Lane::new(0, take_end, Listing::new(rt.alloc(), 0, 0));
     for place in 0..items.len() {
-        assert_eq!(rt; lane.step(&rt), StepEnd::Nothing);
+        let before = lane.step(&rt);
         put_at(&rt, &mut put_end, &items, place)?;
         let wanted = match items[place] {
             Item::Event(_) => StepEnd::Handed,
             Item::End => StepEnd::Ended,
         };
-        assert_eq!(rt; lane.step(&rt), wanted);
+        assert_eq!(rt; [before, lane.step(&rt)], [StepEnd::Nothing, wanted]);
     }
-    assert_eq!(rt; lane.step(&rt), StepEnd::Ended);
-    assert_eq!(rt; lane.step(&rt), StepEnd::Ended);
+    assert_eq!(rt; [lane.step(&rt), lane.step(&rt)], [StepEnd::Ended; 2]);
     Ok(())
+}
+
+/// A lane over all events of four uploads, whose post-hook is refused memory so often once it has the events of the first.
+fn refused_lane(
+    rt: &(impl Wait + Abort),
+    alloc: Global,
+    refusals: u64,
+) -> Result<Lane<Listing>, Fail> {
+    let items = items(alloc, 4)?;
+    let (mut put_end, take_end) = lane_queue(alloc, 9)?;
+    assert_eq!(rt; fill(rt, &mut put_end, &items, 0), 9);
+    Ok(Lane::new(0, take_end, Listing::new(alloc, 2, refusals)))
+}
+
+/// Holds that a lane that ended so steps no further, and ends so again.
+fn stays_so(rt: &(impl Wait + Abort), mut lane: Lane<Listing>, how: How) {
+    let last = if how.is_drained() {
+        StepEnd::Ended
+    } else {
+        StepEnd::NoMemory
+    };
+    assert_eq!(rt; lane.step(rt), last);
+    assert_eq!(rt; lane.run(rt, &NoMore).how, how);
 }
 
 #[test]
 fn goes_on_where_it_stood(rt: HostRuntime) -> Result<(), Fail> {
     for (refusals, how, uploads) in [(1, How::Drained, 4), (u64::MAX, How::Stopped, 1)] {
-        let items = items(rt.alloc(), 4)?;
-        let (mut put_end, take_end) = lane_queue(rt.alloc(), 9)?;
-        assert_eq!(rt; fill(&rt, &mut put_end, &items, 0), 9);
-        let end = Lane::new(0, take_end, Listing::new(rt.alloc(), 2, refusals)).run(&rt, &NoMore);
-        assert_eq!(rt; end.how, How::Stopped);
-        assert_eq!(rt;
-            end.hook.events.as_slice(),
-            wanted(rt.alloc(), 1)?.as_slice()
-        );
+        let end = refused_lane(&rt, rt.alloc(), refusals)?.run(&rt, &NoMore);
+        hold(&rt, rt.alloc(), &end, How::Stopped, 1)?;
         let end = Lane::resume(end).run(&rt, &NoMore);
-        assert_eq!(rt; end.how, how);
-        assert_eq!(rt;
-            end.hook.events.as_slice(),
-            wanted(rt.alloc(), uploads)?.as_slice()
-        );
-        let mut lane = Lane::resume(end);
-        let last = if how.is_drained() {
-            StepEnd::Ended
-        } else {
-            StepEnd::NoMemory
-        };
-        assert_eq!(rt; lane.step(&rt), last);
-        assert_eq!(rt; lane.run(&rt, &NoMore).how, how);
+        hold(&rt, rt.alloc(), &end, how, uploads)?;
+        stays_so(&rt, Lane::resume(end), how);
     }
     Ok(())
 }

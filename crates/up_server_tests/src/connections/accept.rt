@@ -2,9 +2,8 @@
 ghost use Rattle.std.specs.Prelude.{◌≡◌, length};
 ghost use Rattle.up_dispatch.specs.Parts.{NamesQueues};
 
-use crate::clients::ask;
+use crate::clients::{ask_each, hold_answer};
 use std::alloc::Global;
-use std::io::Read;
 use std::marker::{Brand, Send, Sync};
 use std::net::TcpListener;
 use std::sync::Wait;
@@ -45,11 +44,7 @@ fn counts<B: Naming + Send + Sync, T: Threads + Wait + Sync>(
 fn serves_three_from_one_seat(rt: HostRuntime) -> Result<(), Fail> {
     let listener = TcpListener::bind(&rt, "127.0.0.1:0")?;
     let address = listener.local_addr()?;
-    let mut clients = [
-        ask(&rt, address, ASKED)?,
-        ask(&rt, address, ASKED)?,
-        ask(&rt, address, ASKED)?,
-    ];
+    let mut clients = ask_each(&rt, address, &[ASKED; 3])?;
     let visits = Visits {
         connections: Some(3),
         open: 1,
@@ -58,10 +53,13 @@ fn serves_three_from_one_seat(rt: HostRuntime) -> Result<(), Fail> {
     let made = counts::<Brand, _>(&rt, rt.alloc(), parts, &listener, &visits)?;
     assert_eq!(rt; made.as_slice(), [3u64].as_slice());
     for client in &mut clients {
-        let mut answer = Vec::new(rt.alloc());
-        client.read_to_end(&mut answer)?;
-        assert!(rt; answer.starts_with(b"HTTP/1.1 201 Created\r\n"));
-        assert!(rt; answer.ends_with(b"\r\nConnection: close\r\n\r\n"));
+        hold_answer(
+            &rt,
+            rt.alloc(),
+            client,
+            b"HTTP/1.1 201 Created\r\n",
+            b"\r\nConnection: close\r\n\r\n",
+        )?;
     }
     Ok(())
 }

@@ -2,7 +2,7 @@
 ghost use Rattle.std.specs.Prelude.{IsTrue};
 ghost use Rattle.up_hooks.specs.Verdicts.{is_lawful};
 
-use crate::clients::ask;
+use crate::clients::{ask, hold_answer};
 use crate::serving::reported;
 use std::alloc::Global;
 use std::io::{Read, Write};
@@ -61,8 +61,5 @@ fn a_closure_waits_for_another_connection(rt: HostRuntime) -> Result<(), Fail> {
     );
     assert!(rt; told?.starts_with(b"HTTP/1.1 404 "));
     assert_eq!(rt; str::from_utf8(&report?)?, REPORT);
-    let mut answer = Vec::new(rt.alloc());
-    client.read_to_end(&mut answer)?;
-    assert!(rt; answer.starts_with(b"HTTP/1.1 201 "));
-    Ok(())
+    hold_answer(&rt, rt.alloc(), &mut client, b"HTTP/1.1 201 ", b"")
 }

@@ -2,10 +2,9 @@
 ghost use Rattle.std.specs.Prelude.{IsTrue};
 ghost use Rattle.up_hooks.specs.Told.{has_code};
 
-use crate::clients::ask;
+use crate::clients::{ask_each, hold_answer};
 use crate::replaying::replayed;
 use crate::serving::reported;
-use std::io::Read;
 use std::net::TcpListener;
 use std::sync::atomic::{AtomicBool, Ordering};
 use std::test::Fail;
@@ -89,7 +88,7 @@ fn post_hooks_of_two_lanes_meet(rt: HostRuntime) -> Result<(), Fail> {
 fn post_hooks_meet_by_two_connections(rt: HostRuntime) -> Result<(), Fail> {
     let listener = TcpListener::bind(&rt, "127.0.0.1:0")?;
     let address = listener.local_addr()?;
-    let mut clients = [ask(&rt, address, POST)?, ask(&rt, address, POST)?];
+    let mut clients = ask_each(&rt, address, &[POST, POST])?;
     let meeting = Meeting::new();
     let shared = &meeting;
     let answer = move |event: &Event| -> Outcome
@@ -104,9 +103,7 @@ fn post_hooks_meet_by_two_connections(rt: HostRuntime) -> Result<(), Fail> {
     let report = reported(&rt, rt.alloc(), hooks, answer, &settings, listener, &visits)?;
     assert_eq!(rt; str::from_utf8(&report)?, REPORT);
     for client in &mut clients {
-        let mut answer = Vec::new(rt.alloc());
-        client.read_to_end(&mut answer)?;
-        assert!(rt; answer.starts_with(b"HTTP/1.1 201 "));
+        hold_answer(&rt, rt.alloc(), client, b"HTTP/1.1 201 ", b"")?;
     }
     Ok(())
 }

@@ -1,16 +1,20 @@
 //! What the words of the command line ask for.
 use std::alloc::{AllocError, Global};
-use std::process::Abort;
 use std::test::Fail;
 use up_server::{Settings, Words, WordsFault, words};
 
-/// What these words ask for.
-fn read(alloc: Global, given: &[&str]) -> Result<Result<Words, WordsFault>, AllocError> {
+/// The words as the server is given them.
+fn list_of(alloc: Global, given: &[&str]) -> Result<Vec<String>, AllocError> {
     let mut list = Vec::new(alloc);
     for word in given {
         list.push(String::from_str(alloc, word)?)?;
     }
-    Ok(words(alloc, list))
+    Ok(list)
+}
+
+/// What these words ask for.
+fn read(alloc: Global, given: &[&str]) -> Result<Words, WordsFault> {
+    words(alloc, list_of(alloc, given)?)
 }
 
 /// The key, the most length and whether uploads are kept.
@@ -24,7 +28,7 @@ fn rules(words: &Words) -> (Option<&str>, Option<u64>, bool) {
 
 #[test]
 fn reads_settings(rt: HostRuntime) -> Result<(), Fail> {
-    let plain = read(rt.alloc(), &["replay"])??.settings;
+    let plain = read(rt.alloc(), &["replay"])?.settings;
     assert_eq!(rt;
         (plain.lanes, plain.capacity, plain.max_size),
         (2, 16, 1_048_576)
@@ -39,7 +43,7 @@ fn reads_settings(rt: HostRuntime) -> Result<(), Fail> {
         "--max-size",
         "5",
     ];
-    let small = read(rt.alloc(), &given)??.settings;
+    let small = read(rt.alloc(), &given)?.settings;
     assert_eq!(rt; (small.lanes, small.capacity, small.max_size), (1, 4, 5));
     Ok(())
 }
@@ -55,7 +59,7 @@ fn reads_settings_at_their_limits(rt: HostRuntime) -> Result<(), Fail> {
         "--max-size",
         "1073741824",
     ];
-    let large = read(rt.alloc(), &given)??.settings;
+    let large = read(rt.alloc(), &given)?.settings;
     assert_eq!(rt;
         (large.lanes, large.capacity, large.max_size),
         (16, 4096, 1_073_741_824)
@@ -107,15 +111,24 @@ const RULES: [(&[&str], (Option<&str>, Option<u64>, bool)); 10] = [
 #[test]
 fn reads_rules(rt: HostRuntime) -> Result<(), Fail> {
     for (i, (line, wanted)) in RULES.iter().enumerate() {
-        let found = read(rt.alloc(), line)??;
+        let found = read(rt.alloc(), line)?;
         assert_eq!(rt; rules(&found), *wanted, "at {i}");
     }
     Ok(())
 }
 
-/// Words, and the address, the connections, the open ones and whether events are written that they ask for.
-const CONNECTIONS: [(&[&str], (&str, Option<u64>, u64, bool)); 5] = [
-    (&["serve"], ("127.0.0.1:1080", None, 1024, false)),
+/// The address, the connections and the open ones, where connections are served, and whether events are written.
+fn connections(words: &Words) -> (Option<(&str, Option<u64>, u64)>, bool) {
+    let served = match &words.serve {
+        Some(serving) => Some((serving.address.as_str(), serving.connections, serving.open)),
+        None => None,
+    };
+    (served, words.events)
+}
+
+/// Words, and the address, the connections and the open ones that they ask for, and whether events are written.
+const CONNECTIONS: [(&[&str], (Option<(&str, Option<u64>, u64)>, bool)); 6] = [
+    (&["serve"], (Some(("127.0.0.1:1080", None, 1024)), false)),
     (
         &[
             "serve",
@@ -126,36 +139,26 @@ const CONNECTIONS: [(&[&str], (&str, Option<u64>, u64, bool)); 5] = [
             "--open",
             "1",
         ],
-        ("[::1]:0", Some(1), 1, false),
+        (Some(("[::1]:0", Some(1), 1)), false),
     ),
     (
         &["serve", "--connections", "65536", "--open", "4096"],
-        ("127.0.0.1:1080", Some(65_536), 4096, false),
+        (Some(("127.0.0.1:1080", Some(65_536), 4096)), false),
     ),
-    (&["serve", "--address="], ("", None, 1024, false)),
+    (&["serve", "--address="], (Some(("", None, 1024)), false)),
     (
         &["serve", "--events", "--lanes", "3"],
-        ("127.0.0.1:1080", None, 1024, true),
+        (Some(("127.0.0.1:1080", None, 1024)), true),
     ),
+    (&["replay", "--events"], (None, true)),
 ];
 
 #[test]
 fn reads_which_connections_are_served(rt: HostRuntime) -> Result<(), Fail> {
     for (i, (line, wanted)) in CONNECTIONS.iter().enumerate() {
-        let found = read(rt.alloc(), line)??;
-        let Some(serving) = &found.serve else {
-            return Err("connections".into());
-        };
-        let read = (
-            serving.address.as_str(),
-            serving.connections,
-            serving.open,
-            found.events,
-        );
-        assert_eq!(rt; read, *wanted, "at {i}");
+        let found = read(rt.alloc(), line)?;
+        assert_eq!(rt; connections(&found), *wanted, "at {i}");
     }
-    let replay = read(rt.alloc(), &["replay", "--events"])??;
-    assert_eq!(rt; (replay.events, replay.serve.is_none()), (true, true));
     Ok(())
 }
 
@@ -177,7 +180,7 @@ fn reads_sizes_and_rules_of_connections(rt: HostRuntime) -> Result<(), Fail> {
         "--max-finish",
         "6",
     ];
-    let found = read(rt.alloc(), &given)??;
+    let found = read(rt.alloc(), &given)?;
     let settings = found.settings;
     assert_eq!(rt;
         (settings.lanes, settings.capacity, settings.max_size),
@@ -224,7 +227,7 @@ fn refuses_other_words(rt: HostRuntime) -> Result<(), Fail> {
         &["--help"],
     ];
     for (i, line) in lines.iter().enumerate() {
-        let outcome = read(rt.alloc(), line)?;
+        let outcome = read(rt.alloc(), line);
         assert!(rt; matches!(&outcome, Err(WordsFault::Refused(_))), "at {i}");
     }
     Ok(())

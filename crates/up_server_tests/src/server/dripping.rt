@@ -3,9 +3,8 @@ use super::*;
 use crate::replaying::replayed;
 use up_wire::Tape;
 
-#[test]
-fn takes_chunks_a_byte_at_a_time(rt: HostRuntime) -> Result<(), Fail> {
-    let mut talk = Talk::new(rt.alloc());
+/// Adds an upload whose bytes are sent in chunks, and the report.
+fn add_chunks(talk: &mut Talk) -> Result<(), AllocError> {
     talk.ask_post("7")?;
     talk.want_created(U1)?;
     talk.ask(
@@ -20,10 +19,14 @@ fn takes_chunks_a_byte_at_a_time(rt: HostRuntime) -> Result<(), Fail> {
         00000000000000000000000000000001 1 post-create 0/7 done\n\
         00000000000000000000000000000001 2 post-receive 7/7 done\n\
         00000000000000000000000000000001 3 post-finish 7/7 done\n",
-    )?;
+    )
+}
+
+#[test]
+fn takes_chunks_a_byte_at_a_time(rt: HostRuntime) -> Result<(), Fail> {
+    let mut talk = Talk::new(rt.alloc());
+    add_chunks(&mut talk)?;
     let mut source = Tape::new(talk.asked.as_bytes(), 0, false);
     let (ended, written) = replayed(&rt, rt.alloc(), |_: &Event| Outcome::Done, &mut source);
-    assert_eq!(rt; ended, Ok(()));
-    assert_eq!(rt; str::from_utf8(&written)?, talk.wanted.as_str());
-    Ok(())
+    talk.compare(&rt, ended, &written)
 }

@@ -3,10 +3,9 @@ use super::*;
 use crate::replaying::replayed;
 use up_wire::{Slip, Tape};
 
-/// A POST of 75 bytes, and a PATCH whose head ends behind 249 bytes and whose body ends behind 260, with two replies and
-/// a report.
-fn small_talk(alloc: Global) -> Result<Talk, AllocError> {
-    let mut talk = Talk::new(alloc);
+/// Adds a POST of 75 bytes, and a PATCH whose head ends behind 249 bytes and whose body ends behind 260, with two replies
+/// and a report.
+fn add_small_talk(talk: &mut Talk) -> Result<(), AllocError> {
     talk.ask_post("11")?;
     talk.want_created(U1)?;
     talk.ask_patch(U1, "0", "hello world")?;
@@ -16,8 +15,7 @@ fn small_talk(alloc: Global) -> Result<Talk, AllocError> {
         00000000000000000000000000000001 1 post-create 0/11 done\n\
         00000000000000000000000000000001 2 post-receive 11/11 done\n\
         00000000000000000000000000000001 3 post-finish 11/11 done\n",
-    )?;
-    Ok(talk)
+    )
 }
 
 /// The report where the POST was served, and so many bytes of the body came.
@@ -48,27 +46,44 @@ fn written_after(alloc: Global, count: usize) -> Result<String, AllocError> {
     Ok(talk.wanted)
 }
 
+/// Serves this part of the talk, behind which a read fails, and compares.
+fn hold_part(
+    rt: &(impl Threads + Wait + Abort + Sync),
+    alloc: Global,
+    part: &[u8],
+) -> Result<(), Fail> {
+    let count = part.len();
+    let mut source = Tape::new(part, 0, true);
+    let (ended, written) = replayed(rt, alloc, |_: &Event| Outcome::Done, &mut source);
+    let end = if count < 249 {
+        Err(ServerFault::Read)
+    } else {
+        Ok(())
+    };
+    let wanted = written_after(alloc, count)?;
+    let text = str::from_utf8(&written)?;
+    assert_eq!(rt;
+        (ended, text),
+        (end, wanted.as_str()),
+        "after {count} bytes"
+    );
+    Ok(())
+}
+
 #[test]
 fn keeps_what_came_before_any_read_that_fails(rt: HostRuntime) -> Result<(), Fail> {
-    let talk = small_talk(rt.alloc())?;
+    let mut talk = Talk::new(rt.alloc());
+    add_small_talk(&mut talk)?;
     for count in 0..talk.asked.len() {
-        let mut source = Tape::new(&talk.asked.as_bytes()[..count], 0, true);
-        let (ended, written) = replayed(&rt, rt.alloc(), |_: &Event| Outcome::Done, &mut source);
-        let wanted = if count < 249 {
-            Err(ServerFault::Read)
-        } else {
-            Ok(())
-        };
-        assert_eq!(rt; ended, wanted, "after {count} bytes");
-        let wanted = written_after(rt.alloc(), count)?;
-        assert_eq!(rt; str::from_utf8(&written)?, wanted.as_str());
+        hold_part(&rt, rt.alloc(), &talk.asked.as_bytes()[..count])?;
     }
     Ok(())
 }
 
 #[test]
 fn stops_at_any_write_that_fails(rt: HostRuntime) -> Result<(), Fail> {
-    let talk = small_talk(rt.alloc())?;
+    let mut talk = Talk::new(rt.alloc());
+    add_small_talk(&mut talk)?;
     talk.hold(&rt, rt.alloc(), &Settings::default())?;
     for room in 0..talk.wanted.len() {
         let mut source = Input::new(talk.asked.as_bytes());
@@ -80,8 +95,11 @@ fn stops_at_any_write_that_fails(rt: HostRuntime) -> Result<(), Fail> {
             &mut source,
             &mut sink,
         );
-        assert_eq!(rt; ended, Err(ServerFault::Write), "after {room} bytes");
-        assert_eq!(rt; sink.bytes(), &talk.wanted.as_bytes()[..room]);
+        assert_eq!(rt;
+            (ended, sink.bytes()),
+            (Err(ServerFault::Write), &talk.wanted.as_bytes()[..room]),
+            "after {room} bytes"
+        );
     }
     Ok(())
 }

@@ -1,7 +1,6 @@
 //! Connections over sockets of this machine, and what is reported of them.
-use crate::clients::ask;
+use crate::clients::{ask_each, hold_answer};
 use crate::serving::reported;
-use std::io::Read;
 use std::net::TcpListener;
 use std::test::Fail;
 use up_connections::Visits;
@@ -29,11 +28,7 @@ const REPORT: &str = "\naccepted 2\nlane 0 drained 0\nlane 1 drained 3\n\
 fn reports_what_each_connection_did(rt: HostRuntime) -> Result<(), Fail> {
     let listener = TcpListener::bind(&rt, "127.0.0.1:0")?;
     let address = listener.local_addr()?;
-    let mut clients = [
-        ask(&rt, address, ASKED[0])?,
-        ask(&rt, address, ASKED[1])?,
-        ask(&rt, address, ASKED[2])?,
-    ];
+    let mut clients = ask_each(&rt, address, &ASKED)?;
     let visits = Visits {
         connections: Some(3),
         open: 1,
@@ -45,9 +40,7 @@ fn reports_what_each_connection_did(rt: HostRuntime) -> Result<(), Fail> {
     assert_eq!(rt; str::from_utf8(&report)?, REPORT);
     let wanted: [&[u8]; 3] = [b"HTTP/1.1 201 ", b"HTTP/1.1 204 ", b"HTTP/1.1 404 "];
     for (client, start) in clients.iter_mut().zip(wanted) {
-        let mut answer = Vec::new(rt.alloc());
-        client.read_to_end(&mut answer)?;
-        assert!(rt; answer.starts_with(start));
+        hold_answer(&rt, rt.alloc(), client, start, b"")?;
     }
     Ok(())
 }

@@ -44,6 +44,18 @@ fn by_length(ask: &Ask) -> Verdict
     }
 }
 
+/// Adds uploads of one byte to seven, each of which is refused, and the report.
+fn add_refused_by_length(talk: &mut Talk) -> Result<(), AllocError> {
+    let lines = ["1", "2", "3", "4", "5", "6"];
+    for (line, status) in lines.iter().zip(STATUSES.iter()) {
+        talk.ask_post(line)?;
+        talk.want_refused(status, "2", line)?;
+    }
+    talk.ask_post("7")?;
+    talk.want_refused("429 Too Many Requests", "81", EIGHTY)?;
+    talk.want(NOTHING)
+}
+
 #[test]
 fn refuses_with_the_status_and_reason_of_a_closure(rt: HostRuntime) -> Result<(), Fail> {
     let mut hooks = Vec::new(rt.alloc());
@@ -52,14 +64,7 @@ fn refuses_with_the_status_and_reason_of_a_closure(rt: HostRuntime) -> Result<()
     { by_length(ask) };
     hooks.push(PreHook::new(Point::Create, Box::new(rt.alloc(), judge)?))?;
     let mut talk = Talk::new(rt.alloc());
-    let lines = ["1", "2", "3", "4", "5", "6"];
-    for (line, status) in lines.iter().zip(STATUSES.iter()) {
-        talk.ask_post(line)?;
-        talk.want_refused(status, "2", line)?;
-    }
-    talk.ask_post("7")?;
-    talk.want_refused("429 Too Many Requests", "81", EIGHTY)?;
-    talk.want(NOTHING)?;
+    add_refused_by_length(&mut talk)?;
     talk.hold_with(&rt, rt.alloc(), PreHooks::new(hooks), &Settings::default())
 }
 
@@ -71,9 +76,8 @@ fn counted(calls: &AtomicU64) -> Verdict
     Verdict::Allow
 }
 
-/// What is refused before any closure is asked, and then an upload that is made, filled, shown and removed.
-fn refused_and_removed(alloc: Global) -> Result<Talk, AllocError> {
-    let mut talk = Talk::new(alloc);
+/// Adds what is refused before any closure is asked, and then an upload that is made, filled, shown and removed, and the report.
+fn add_refused_and_removed(talk: &mut Talk) -> Result<(), AllocError> {
     talk.ask_post("1048577")?;
     talk.want_refused("413 Payload Too Large", "11", "15 TooLong")?;
     talk.ask(
@@ -102,35 +106,31 @@ fn refused_and_removed(alloc: Global) -> Result<Talk, AllocError> {
         00000000000000000000000000000002 2 post-receive 1/1 done\n\
         00000000000000000000000000000002 3 post-finish 1/1 done\n\
         00000000000000000000000000000002 4 post-terminate 1/1 done\nlane 1 drained 0\n",
-    )?;
-    Ok(talk)
+    )
 }
 
 #[test]
 fn asks_only_where_nothing_else_refuses(rt: HostRuntime) -> Result<(), Fail> {
+    let mut talk = Talk::new(rt.alloc());
+    add_refused_and_removed(&mut talk)?;
     let made = Arc::new(rt.alloc(), AtomicU64::new(0))?;
     let removed = Arc::new(rt.alloc(), AtomicU64::new(0))?;
     let mut hooks = Vec::new(rt.alloc());
-    let calls = Arc::try_clone(&made)?;
-    let judge = move |_: &Ask| -> Verdict
-        ensures { IsTrue (is_lawful result) }
-    { counted(&calls) };
-    hooks.push(PreHook::new(Point::Create, Box::new(rt.alloc(), judge)?))?;
-    let calls = Arc::try_clone(&removed)?;
-    let judge = move |_: &Ask| -> Verdict
-        ensures { IsTrue (is_lawful result) }
-    { counted(&calls) };
-    hooks.push(PreHook::new(Point::Terminate, Box::new(rt.alloc(), judge)?))?;
-    let talk = refused_and_removed(rt.alloc())?;
+    for (point, calls) in [(Point::Create, &made), (Point::Terminate, &removed)] {
+        let counter = Arc::try_clone(calls)?;
+        let judge = move |_: &Ask| -> Verdict
+            ensures { IsTrue (is_lawful result) }
+        { counted(&counter) };
+        hooks.push(PreHook::new(point, Box::new(rt.alloc(), judge)?))?;
+    }
     talk.hold_with(&rt, rt.alloc(), PreHooks::new(hooks), &Settings::default())?;
-    assert_eq!(rt; made.load(Ordering::SeqCst), 1);
-    assert_eq!(rt; removed.load(Ordering::SeqCst), 1);
+    let calls = [made.load(Ordering::SeqCst), removed.load(Ordering::SeqCst)];
+    assert_eq!(rt; calls, [1, 1]);
     Ok(())
 }
 
-/// Two uploads that become complete, and a report in which the post-hook fails at each event but the first of each.
-fn two_that_fail(alloc: Global) -> Result<Talk, AllocError> {
-    let mut talk = Talk::new(alloc);
+/// Adds two uploads that become complete, and a report in which the post-hook fails at each event but the first of each.
+fn add_two_that_fail(talk: &mut Talk) -> Result<(), AllocError> {
     talk.ask_post("3")?;
     talk.want_created(U1)?;
     talk.ask_post("1")?;
@@ -150,13 +150,13 @@ fn two_that_fail(alloc: Global) -> Result<Talk, AllocError> {
         00000000000000000000000000000001 2 post-receive 2/3 failed 7\n\
         00000000000000000000000000000001 3 post-receive 3/3 failed 7\n\
         00000000000000000000000000000001 4 post-finish 3/3 failed 99\n",
-    )?;
-    Ok(talk)
+    )
 }
 
 #[test]
 fn goes_on_after_a_post_hook_that_fails(rt: HostRuntime) -> Result<(), Fail> {
-    let talk = two_that_fail(rt.alloc())?;
+    let mut talk = Talk::new(rt.alloc());
+    add_two_that_fail(&mut talk)?;
     let answer = |event: &Event| -> Outcome
         ensures { IsTrue (has_code result) }
     {
@@ -168,7 +168,5 @@ fn goes_on_after_a_post_hook_that_fails(rt: HostRuntime) -> Result<(), Fail> {
     };
     let mut source = Input::new(talk.asked.as_bytes());
     let (ended, written) = replayed(&rt, rt.alloc(), answer, &mut source);
-    assert_eq!(rt; ended, Ok(()));
-    assert_eq!(rt; str::from_utf8(&written)?, talk.wanted.as_str());
-    Ok(())
+    talk.compare(&rt, ended, &written)
 }

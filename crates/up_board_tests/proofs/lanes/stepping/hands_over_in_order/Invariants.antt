@@ -1,5 +1,5 @@
 use Rattle.std.proofs.Common.{◌≡◌, ◌≤◌, length, take}
-use Rattle.up_board_tests.proofs.lanes.stepping.hands_over_in_order_at_every_capacity.Given as goal
+use Rattle.up_board_tests.proofs.lanes.stepping.hands_over_in_order.Given as goal
 
 abbrev pub invariant-loop : goal.invariant-loop
 invariant-loop g l = record {
