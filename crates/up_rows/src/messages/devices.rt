@@ -9,8 +9,8 @@ use up_wire::{NextByte, Sink, Source, WriteSome};
 /// How often a device is interrupted before its first byte, and before each byte behind that.
 #[derive(Clone, Copy, PartialEq, Eq)]
 pub struct Waits {
-    pub before: u32,
-    pub each: u32,
+    pub before: u64,
+    pub each: u64,
 }
 
 impl Waits {

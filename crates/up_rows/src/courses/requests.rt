@@ -3,22 +3,13 @@ ghost use Rattle.std.specs.Prelude.{◌≤◌, IfOk};
 ghost use Rattle.up_headers.specs.Creations.{IsWithin};
 ghost use Rattle.up_headers.specs.Table.{FitsWithin};
 
+use crate::line::{cut, number_of};
 use crate::row_fault::RowFault;
 use std::alloc::Global;
 use up_events::{Id, Kind, MOST_BYTES};
 use up_headers::{NewUpload, NotDigits, Patch, Request, pairs_of};
 use up_machine::{Asked, Reason};
 use up_wire::Sequence;
-
-/// The first word of a text, and what stands behind it.
-pub fn cut(text: &str) -> (&str, &str) {
-    text.split_once(' ').unwrap_or((text, ""))
-}
-
-/// The number of a word.
-pub fn number_of(word: &str) -> Result<u64, RowFault> {
-    word.parse::<u64>().map_err(|_| RowFault::Number)
-}
 
 /// A text as bytes. One that is empty is none.
 fn text_of(alloc: Global, text: &str) -> Result<Option<Sequence<u8>>, RowFault> {

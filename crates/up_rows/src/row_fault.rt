@@ -1,6 +1,7 @@
 //! Why a row of the input can't be read, or what is wrong behind it.
 use std::alloc::AllocError;
 use thiserror::Error;
+use up_escape::EscapeFault;
 use up_events::NoMemory;
 use up_machine::Refusal;
 
@@ -13,6 +14,8 @@ pub enum RowFault {
     Number,
     #[error("no such text")]
     Text,
+    #[error("no such escape")]
+    Escape,
     #[error("the book is not as it was")]
     Changed,
     #[error("the change is not the last of the journal")]
@@ -21,8 +24,17 @@ pub enum RowFault {
     OtherPlan,
     #[error("refused")]
     Refused,
-    #[error(transparent)]
+    #[error("out of memory")]
     Memory(#[from(alloc)] AllocError),
+}
+
+impl From<EscapeFault> for RowFault {
+    fn from(fault: EscapeFault) -> Self {
+        match fault {
+            EscapeFault::Escape => RowFault::Escape,
+            EscapeFault::Memory(error) => RowFault::Memory(error),
+        }
+    }
 }
 
 impl From<NoMemory> for RowFault {

@@ -1,6 +1,7 @@
 //! What is written.
-use crate::bench::{Bench, cut};
-use crate::devices::WaitingSink;
+use crate::line::cut;
+use crate::messages::Messages;
+use crate::messages::devices::WaitingSink;
 use crate::row_fault::RowFault;
 use bytes::Bytes;
 use std::alloc::{AllocError, Global};
@@ -56,16 +57,16 @@ fn words_of(
 }
 
 /// What a sink has that takes one byte at a time.
-fn told(alloc: Global, bench: &Bench, reply: &Reply) -> Result<String, RowFault> {
+fn told(alloc: Global, rows: &Messages, reply: &Reply) -> Result<String, RowFault> {
     let asks = Cell::new(0);
-    let mut sink = WaitingSink::new(alloc, bench.room, bench.writes, &asks);
+    let mut sink = WaitingSink::new(alloc, rows.room, rows.writes, &asks);
     let ended = write_response(&mut sink, &reply.response, reply.bare, reply.closes);
     let mark = if sink.sent.is_none() { " unsent" } else { "" };
     words_of(alloc, ended, &sink.taken, mark)
 }
 
-pub fn written(alloc: Global, bench: &Bench, text: &str) -> Result<String, RowFault> {
-    told(alloc, bench, &reply_of(alloc, text)?)
+pub fn written(alloc: Global, rows: &Messages, text: &str) -> Result<String, RowFault> {
+    told(alloc, rows, &reply_of(alloc, text)?)
 }
 
 /// A writer that holds back what it is given until it is flushed.
@@ -105,20 +106,20 @@ pub fn shared(alloc: Global, text: &[u8]) -> Result<String, RowFault> {
     words_of(alloc, Ok(()), made.body.as_slice(), mark)
 }
 
-pub fn refused(alloc: Global, bench: &Bench) -> Result<String, RowFault> {
+pub fn refused(alloc: Global, rows: &Messages) -> Result<String, RowFault> {
     let reply = Reply {
         response: Response::refused(alloc, 404, "no such path\n")?,
         bare: false,
         closes: false,
     };
-    told(alloc, bench, &reply)
+    told(alloc, rows, &reply)
 }
 
-pub fn lost(alloc: Global, bench: &Bench) -> Result<String, RowFault> {
+pub fn lost(alloc: Global, rows: &Messages) -> Result<String, RowFault> {
     let reply = Reply {
         response: Response::out_of_memory(alloc),
         bare: false,
         closes: false,
     };
-    told(alloc, bench, &reply)
+    told(alloc, rows, &reply)
 }

@@ -1,7 +1,11 @@
-//! A course: a book, and what is done with it.
-use crate::requests::{asked_of, cut, number_of, request_of, size_of};
+//! Rows of a course: a book, and what is done with it.
+mod requests;
+mod words;
+mod working;
+
+use crate::courses::requests::{asked_of, request_of, size_of};
+use crate::line::{cut, number_of};
 use crate::row_fault::RowFault;
-use crate::words;
 use bytes::Bytes;
 use std::alloc::Global;
 use std::fmt::Write;
@@ -183,26 +187,46 @@ impl Course {
         Ok(())
     }
 
+    /// Takes what a line says of the rows behind it.
+    pub fn set(&mut self, alloc: Global, line: &str) -> Result<(), RowFault> {
+        let (word, rest) = cut(line);
+        match word {
+            "book" => self.begin(alloc, rest),
+            "keep" => self.keep(alloc, rest),
+            "close" => {
+                self.book.close();
+                Ok(())
+            }
+            "said" => {
+                self.asked = asked_of(rest)?;
+                Ok(())
+            }
+            _ => Err(RowFault::Mark),
+        }
+    }
+
     /// What comes of a row, in words.
-    pub fn take(&mut self, alloc: Global, row: &str) -> Result<String, RowFault> {
+    fn found(&mut self, alloc: Global, row: &str) -> Result<String, RowFault> {
         let (word, rest) = cut(row);
         match word {
-            "" | "#" => {}
-            "book" => self.begin(alloc, rest)?,
-            "close" => self.book.close(),
-            "said" => self.asked = asked_of(rest)?,
-            "keep" => self.keep(alloc, rest)?,
-            "kept" => return in_brackets(alloc, Some(self.kept.as_slice())),
-            "plan" => return self.plan(alloc, rest),
-            "value" => return self.value(alloc, rest),
-            "reason" => return reason(alloc, rest),
-            "wanting" => return words::of_refusal(alloc, &Refusal::NoMemory),
-            "uploads" => return words::of_uploads(alloc, &self.book),
-            "accepted" => return words::of_changes(alloc, &self.book),
-            "events" => return words::of_events(alloc, &self.book, number_of(rest)?),
-            "places" => return places(alloc, rest),
-            _ => return self.step(alloc, row),
+            "kept" => in_brackets(alloc, Some(self.kept.as_slice())),
+            "plan" => self.plan(alloc, rest),
+            "value" => self.value(alloc, rest),
+            "reason" => reason(alloc, rest),
+            "wanting" => words::of_refusal(alloc, &Refusal::NoMemory),
+            "uploads" => words::of_uploads(alloc, &self.book),
+            "accepted" => words::of_changes(alloc, &self.book),
+            "events" => words::of_events(alloc, &self.book, number_of(rest)?),
+            "places" => places(alloc, rest),
+            "fill" => working::filled(alloc, number_of(rest)?),
+            "removals" => working::removed(alloc, number_of(rest)?),
+            _ => self.step(alloc, row),
         }
-        Ok(String::new(alloc))
+    }
+
+    /// What comes of a row, in words, without spaces behind them.
+    pub fn take(&mut self, alloc: Global, row: &str) -> Result<String, RowFault> {
+        let found = self.found(alloc, row)?;
+        Ok(String::from_str(alloc, found.trim_end())?)
     }
 }

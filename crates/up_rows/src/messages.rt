@@ -1,30 +1,25 @@
-//! What the next row is about, and what comes of it.
-use crate::devices::Waits;
+//! Rows of messages: what the next one is about, and what comes of it.
+mod asked;
+mod counting;
+mod devices;
+mod reading;
+mod responses;
+mod turns;
+
+use crate::line::{cut, number_of};
+use crate::messages::devices::Waits;
 use crate::row_fault::RowFault;
-use crate::{reading, requests, responses, turns};
-use std::alloc::{AllocError, Global};
+use std::alloc::Global;
 use up_escape::put_bytes;
 
 /// How the next row's text begins, and how its devices are.
 #[derive(Drop)]
-pub struct Bench {
+pub struct Messages {
     start: Vec<u8>,
     text: Vec<u8>,
     pub reads: Waits,
     pub writes: Waits,
     pub room: usize,
-}
-
-/// The first word of a text, and what stands behind it.
-pub fn cut(text: &str) -> (&str, &str) {
-    text.split_once(' ').unwrap_or((text, ""))
-}
-
-fn number_of(word: &str) -> Result<u32, RowFault> {
-    match word.parse::<u32>() {
-        Ok(number) => Ok(number),
-        Err(_) => Err(RowFault::Number),
-    }
 }
 
 /// The two numbers of a text.
@@ -36,9 +31,9 @@ fn waits_of(text: &str) -> Result<Waits, RowFault> {
     })
 }
 
-impl Bench {
+impl Messages {
     pub fn new(alloc: Global) -> Self {
-        Bench {
+        Messages {
             start: Vec::new(alloc),
             text: Vec::new(alloc),
             reads: Waits::NONE,
@@ -52,17 +47,6 @@ impl Bench {
         self.reads != Waits::NONE || self.writes != Waits::NONE || self.room != 1000
     }
 
-    /// Takes what a line says of the rows behind it, and answers what is wrong with it.
-    pub fn note(&mut self, alloc: Global, line: &str) -> Result<Option<String>, AllocError> {
-        if line.is_empty() || line.starts_with('#') {
-            return Ok(None);
-        }
-        match self.set(line) {
-            Ok(()) => Ok(None),
-            Err(fault) => Ok(Some(fault.to_string(alloc)?)),
-        }
-    }
-
     fn put_times(&mut self, text: &str) -> Result<(), RowFault> {
         let (count, text) = cut(text);
         for _ in 0..number_of(count)? {
@@ -71,7 +55,8 @@ impl Bench {
         Ok(())
     }
 
-    fn set(&mut self, line: &str) -> Result<(), RowFault> {
+    /// Takes what a line says of the next row, or of all rows behind it.
+    pub fn set(&mut self, line: &str) -> Result<(), RowFault> {
         let (mark, text) = cut(line);
         match mark {
             "start" => {
@@ -133,9 +118,11 @@ impl Bench {
             "shared" => responses::shared(alloc, bytes),
             "refused" => responses::refused(alloc, self),
             "lost" => responses::lost(alloc, self),
-            "faults" => requests::faults(alloc),
-            "metadata" => requests::metadata(alloc, bytes),
-            "request" => requests::asked(alloc, bytes),
+            "faults" => asked::faults(alloc),
+            "metadata" => asked::metadata(alloc, bytes),
+            "request" => asked::asked(alloc, bytes),
+            "count" => counting::counted(alloc, bytes),
+            "pass" => counting::passed(alloc, bytes),
             _ => Err(RowFault::Mark),
         }
     }

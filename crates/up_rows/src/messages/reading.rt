@@ -1,7 +1,7 @@
 //! What messages are, in words: "POST / Host: a; [body] close asked rest [GET]", where `100 Continue` was sent on and bytes stay
 //! unread, "cut POST / [bo]", "3 BadFraming bare", or "end".
-use crate::bench::Bench;
-use crate::devices::{WaitingSink, WaitingSource};
+use crate::messages::Messages;
+use crate::messages::devices::{WaitingSink, WaitingSource};
 use crate::row_fault::RowFault;
 use std::alloc::{AllocError, Global};
 use std::cell::Cell;
@@ -91,14 +91,14 @@ fn push_read(
 /// Puts what a call of `read_message` gives, and answers whether it is a whole message.
 fn read_one<R: Source>(
     alloc: Global,
-    bench: &Bench,
+    rows: &Messages,
     source: &mut R,
     asks: &Cell<u64>,
     at: bool,
     words: &mut String,
 ) -> Result<bool, AllocError> {
     let limits = Limits { max_body: LIMIT };
-    let mut sink = WaitingSink::new(alloc, bench.room, bench.writes, asks);
+    let mut sink = WaitingSink::new(alloc, rows.room, rows.writes, asks);
     let taken = read_message(alloc, source, &mut sink, &limits);
     push_read(words, &taken, &sink, at)
 }
@@ -106,7 +106,7 @@ fn read_one<R: Source>(
 /// Puts what so many calls of `read_message` give, and answers whether the last is a whole message.
 fn read_all<R: Source>(
     alloc: Global,
-    bench: &Bench,
+    rows: &Messages,
     source: &mut R,
     asks: &Cell<u64>,
     calls: usize,
@@ -116,7 +116,7 @@ fn read_all<R: Source>(
     let mut is_whole = false;
     for call in 0..calls {
         push_if(words, " | ", call > 0)?;
-        is_whole = read_one(alloc, bench, source, asks, at, words)?;
+        is_whole = read_one(alloc, rows, source, asks, at, words)?;
     }
     Ok(is_whole)
 }
@@ -124,7 +124,7 @@ fn read_all<R: Source>(
 /// What is read byte by byte. With `all`, what a fault leaves unread is told too, and when `100 Continue` was sent on.
 pub fn by_bytes(
     alloc: Global,
-    bench: &Bench,
+    rows: &Messages,
     input: &[u8],
     fails: bool,
     calls: usize,
@@ -132,8 +132,8 @@ pub fn by_bytes(
 ) -> Result<String, RowFault> {
     let mut words = String::new(alloc);
     let asks = Cell::new(0);
-    let mut source = WaitingSource::new(input, fails, bench.reads, &asks);
-    let is_whole = read_all(alloc, bench, &mut source, &asks, calls, all, &mut words)?;
+    let mut source = WaitingSource::new(input, fails, rows.reads, &asks);
+    let is_whole = read_all(alloc, rows, &mut source, &asks, calls, all, &mut words)?;
     if is_whole || all {
         push_rest(&mut words, source.bytes)?;
     }
@@ -141,12 +141,17 @@ pub fn by_bytes(
 }
 
 /// What is read of a slice.
-fn by_slice(alloc: Global, bench: &Bench, input: &[u8], calls: usize) -> Result<String, RowFault> {
+fn by_slice(
+    alloc: Global,
+    rows: &Messages,
+    input: &[u8],
+    calls: usize,
+) -> Result<String, RowFault> {
     let mut words = String::new(alloc);
     let asks = Cell::new(0);
     let mut reader = input;
     let mut source = Input::new(&mut reader);
-    if read_all(alloc, bench, &mut source, &asks, calls, false, &mut words)? {
+    if read_all(alloc, rows, &mut source, &asks, calls, false, &mut words)? {
         push_rest(&mut words, reader)?;
     }
     Ok(words)
@@ -164,23 +169,23 @@ fn joined(mut one: String, other: &str) -> Result<String, RowFault> {
 /// What is read byte by byte and of a slice.
 pub fn either_way(
     alloc: Global,
-    bench: &Bench,
+    rows: &Messages,
     input: &[u8],
     calls: usize,
 ) -> Result<String, RowFault> {
-    let by_slice = by_slice(alloc, bench, input, calls)?;
-    let by_bytes = by_bytes(alloc, bench, input, false, calls, false)?;
+    let by_slice = by_slice(alloc, rows, input, calls)?;
+    let by_bytes = by_bytes(alloc, rows, input, false, calls, false)?;
     joined(by_bytes, by_slice.as_str())
 }
 
 /// What is read where the input ends, and where a read fails.
 pub fn at_both_ends(
     alloc: Global,
-    bench: &Bench,
+    rows: &Messages,
     input: &[u8],
     calls: usize,
 ) -> Result<String, RowFault> {
-    let at_end = either_way(alloc, bench, input, calls)?;
-    let where_it_fails = by_bytes(alloc, bench, input, true, calls, false)?;
+    let at_end = either_way(alloc, rows, input, calls)?;
+    let where_it_fails = by_bytes(alloc, rows, input, true, calls, false)?;
     joined(where_it_fails, at_end.as_str())
 }

@@ -1,10 +1,6 @@
-//! Reads messages from standard input, and the metadata of each, to see how long that takes. Writes how many messages, bytes
-//! of bodies and pairs of metadata there were. Where a word is given, it only passes over the bytes, and writes their sum.
-#![tactic(auto)]
-
-use std::alloc::{AllocError, Global};
-use std::io::{self, BufReader, BufWriter};
-use std::process::ExitCode;
+//! How much stands in many messages, and a plain pass over them, which `bench/heads` times.
+use crate::row_fault::RowFault;
+use std::alloc::Global;
 use up_headers::pairs_of;
 use up_wire::{
     Input, Limits, Message, Output, Run, Sink, Source, Taken, Values, find_value, read_message,
@@ -57,6 +53,18 @@ fn read<R: Source, W: Sink>(alloc: Global, source: &mut R, sink: &mut W) -> Tall
     tally
 }
 
+/// How many messages an input has, bytes of their bodies, and pairs of their metadata.
+pub fn counted(alloc: Global, mut input: &[u8]) -> Result<String, RowFault> {
+    let mut sink = Output::new(Vec::new(alloc));
+    let tally = read(alloc, &mut Input::new(&mut input), &mut sink);
+    let Tally {
+        messages,
+        bytes,
+        pairs,
+    } = tally;
+    Ok(format!(in alloc; "{messages} {bytes} {pairs}")?)
+}
+
 fn sum(bytes: &[u8]) -> u64 {
     let mut sum = 0u64;
     for byte in bytes {
@@ -66,7 +74,7 @@ fn sum(bytes: &[u8]) -> u64 {
 }
 
 /// The sum of the bytes up to the end of the source.
-fn pass<R: Source>(alloc: Global, source: &mut R) -> Result<u64, AllocError> {
+fn pass<R: Source>(alloc: Global, source: &mut R) -> Result<u64, RowFault> {
     let mut all = 0u64;
     for _ in 0..u64::MAX {
         let mut run = Vec::with_capacity(alloc, ROOM)?;
@@ -80,17 +88,8 @@ fn pass<R: Source>(alloc: Global, source: &mut R) -> Result<u64, AllocError> {
     Ok(all)
 }
 
-fn main(rt: HostRuntime) -> io::Result<ExitCode> {
-    let Ok(mut words) = std::env::args(&rt) else {
-        return Ok(ExitCode::FAILURE);
-    };
-    let mut source = Input::new(BufReader::new(rt.alloc(), rt.reader())?);
-    if words.nth(1).is_some() {
-        println!(rt; "{}", pass(rt.alloc(), &mut source)?)?;
-        return Ok(ExitCode::SUCCESS);
-    }
-    let mut sink = Output::new(BufWriter::new(rt.alloc(), io::writer(&rt))?);
-    let tally = read(rt.alloc(), &mut source, &mut sink);
-    println!(rt; "{} {} {}", tally.messages, tally.bytes, tally.pairs)?;
-    Ok(ExitCode::SUCCESS)
+/// The sum of an input's bytes.
+pub fn passed(alloc: Global, mut input: &[u8]) -> Result<String, RowFault> {
+    let all = pass(alloc, &mut Input::new(&mut input))?;
+    Ok(format!(in alloc; "{all}")?)
 }

@@ -1,0 +1,87 @@
+//! Many requests to a book, which `bench/replay` times to see how its time and its memory grow with their number.
+use crate::row_fault::RowFault;
+use std::alloc::Global;
+use up_events::{Id, Kind, NoMemory};
+use up_headers::{NewUpload, Patch, Request};
+use up_machine::{Asked, Book, Refusal};
+use up_wire::Sequence;
+
+/// A book of two lanes, for uploads of 8 bytes.
+fn new_book(alloc: Global) -> Result<Book, NoMemory> {
+    Book::new(alloc, 2, 8)
+}
+
+fn create(alloc: Global, book: &mut Book, id: Id) -> Result<(), Refusal> {
+    let new = NewUpload {
+        kind: Kind::Plain,
+        length: Some(8),
+        parts: Sequence::new(alloc),
+        pairs: Sequence::new(alloc),
+        metadata: None,
+        concat: None,
+    };
+    book.commit(alloc, Request::Create(new), id, &Asked::Skipped)?;
+    Ok(())
+}
+
+fn append(alloc: Global, book: &mut Book, id: Id) -> Result<(), Refusal> {
+    let bytes = Sequence::from_slice(alloc, b"12345678").map_err(|_| Refusal::NoMemory)?;
+    let patch = Patch {
+        id,
+        media: true,
+        offset: Some(0),
+        length: None,
+        bytes,
+    };
+    book.commit(alloc, Request::Patch(patch), id, &Asked::AllowedFinish)?;
+    Ok(())
+}
+
+fn remove(alloc: Global, book: &mut Book, id: Id) -> Result<(), Refusal> {
+    book.commit(alloc, Request::Delete(id), id, &Asked::Allowed)?;
+    Ok(())
+}
+
+/// Makes so many uploads, puts eight bytes into each, and asks for each.
+fn fill(alloc: Global, book: &mut Book, count: u64) -> Result<(), Refusal> {
+    for n in 0..count {
+        create(alloc, book, Id::new(u128::from(n)))?;
+    }
+    for n in 0..count {
+        append(alloc, book, Id::new(u128::from(n)))?;
+    }
+    for n in 0..count {
+        book.plan(alloc, &Request::Head(Id::new(u128::from(n))))?;
+    }
+    Ok(())
+}
+
+/// Makes so many uploads, and removes each before the next.
+fn replace(alloc: Global, book: &mut Book, count: u64) -> Result<(), Refusal> {
+    for n in 0..count {
+        let id = Id::new(u128::from(n));
+        create(alloc, book, id)?;
+        remove(alloc, book, id)?;
+    }
+    Ok(())
+}
+
+/// How many changes a book accepted, in words.
+fn count_of(alloc: Global, book: &Book) -> Result<String, RowFault> {
+    let accepted = book.journal().accepted().len();
+    Ok(format!(in alloc; "{accepted}")?)
+}
+
+/// How many changes are accepted where so many uploads are made and filled.
+pub fn filled(alloc: Global, count: u64) -> Result<String, RowFault> {
+    let mut book = new_book(alloc)?;
+    fill(alloc, &mut book, count)?;
+    count_of(alloc, &book)
+}
+
+/// How many changes are accepted where so many uploads are made, and each is removed before the next.
+pub fn removed(alloc: Global, count: u64) -> Result<String, RowFault> {
+    let mut book = new_book(alloc)?;
+    replace(alloc, &mut book, count)?;
+    count_of(alloc, &book)
+}

@@ -1,0 +1,74 @@
+//! A row, and what it must come to.
+use crate::courses::Course;
+use crate::messages::Messages;
+use crate::row_fault::RowFault;
+use std::alloc::{AllocError, Global};
+
+/// The messages and the course that rows are about.
+#[derive(Drop)]
+pub struct Rows {
+    messages: Messages,
+    course: Course,
+}
+
+impl Rows {
+    pub fn new(alloc: Global) -> Result<Self, RowFault> {
+        Ok(Rows {
+            messages: Messages::new(alloc),
+            course: Course::new(alloc)?,
+        })
+    }
+
+    /// What comes of a row, in words. A mark that messages don't have is one of a course.
+    fn take(&mut self, alloc: Global, row: &str, wanted: &str) -> Result<String, RowFault> {
+        match self.messages.take(alloc, row, wanted) {
+            Err(RowFault::Mark) => self.course.take(alloc, row),
+            taken => taken,
+        }
+    }
+
+    /// Takes what a line says of the rows behind it.
+    fn note(&mut self, alloc: Global, line: &str) -> Result<(), RowFault> {
+        if line.is_empty() || line.starts_with('#') {
+            return Ok(());
+        }
+        match self.messages.set(line) {
+            Err(RowFault::Mark) => self.course.set(alloc, line),
+            set => set,
+        }
+    }
+
+    /// How what comes of a row differs from what must.
+    fn difference(
+        &mut self,
+        alloc: Global,
+        row: &str,
+        wanted: &str,
+    ) -> Result<Option<String>, RowFault> {
+        let found = self.take(alloc, row, wanted)?;
+        if found.as_str() == wanted {
+            return Ok(None);
+        }
+        Ok(Some(format!(in alloc; "wanted {wanted}, found {found}")?))
+    }
+
+    fn hold_line(&mut self, alloc: Global, line: &str) -> Result<Option<String>, RowFault> {
+        match line.split_once(" =>") {
+            Some((row, wanted)) => {
+                self.difference(alloc, row, wanted.strip_prefix(" ").unwrap_or(wanted))
+            }
+            None => {
+                self.note(alloc, line)?;
+                Ok(None)
+            }
+        }
+    }
+
+    /// What is printed of a line, where it has a row that differs or can't be read.
+    pub fn fault_of(&mut self, alloc: Global, line: &str) -> Result<Option<String>, AllocError> {
+        match self.hold_line(alloc, line) {
+            Ok(difference) => Ok(difference),
+            Err(fault) => Ok(Some(fault.to_string(alloc)?)),
+        }
+    }
+}
