@@ -98,6 +98,12 @@ fn numbered(alloc: Global, row: &str) -> Result<Request, RowFault> {
     request_of(alloc, id_of(number)?, rest)
 }
 
+/// The bytes that a book gives of an upload.
+fn given(book: &mut Book, alloc: Global, id: Id, asked: &Asked) -> Result<Bytes, RowFault> {
+    let given = book.commit(alloc, Request::Get(id), id, asked)?;
+    Ok(given.response.body.clone()?)
+}
+
 /// Fails where a book does not show what it did before.
 fn hold_unchanged(alloc: Global, book: &Book, before: &str) -> Result<(), RowFault> {
     if words::state(alloc, book)?.as_str() != before {
@@ -182,8 +188,7 @@ impl Course {
     /// Keeps the bytes that are given of an upload.
     fn keep(&mut self, alloc: Global, number: &str) -> Result<(), RowFault> {
         let id = id_of(number)?;
-        let given = self.book.commit(alloc, Request::Get(id), id, &self.asked)?;
-        self.kept = given.response.body.clone()?;
+        self.kept = given(&mut self.book, alloc, id, &self.asked)?;
         Ok(())
     }
 

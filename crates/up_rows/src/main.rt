@@ -67,7 +67,9 @@ mod row_fault;
 mod rows;
 
 use crate::rows::Rows;
-use std::{fs, io};
+use std::env::{self, Env};
+use std::fs::{self, Files};
+use std::io;
 use up_machine::{post_finish_is_asked, refusals_of_plans_are_kept};
 
 /// Holds the row of a line, if it has one, to what it must come to, and prints how it differs. Answers whether it does.
@@ -95,17 +97,36 @@ fn hold_all(rt: &(impl Print + AllocGlobal), rows: &mut Rows, text: &str) -> io:
     println!(rt; "{count} rows, of which {differing} differ")
 }
 
+fn hold_input(rt: &(impl Input + Print + AllocGlobal), rows: &mut Rows) -> io::Result<()> {
+    let text = io::read_to_string(rt.alloc(), rt.reader())?;
+    hold_all(rt, rows, text.as_str())
+}
+
+fn hold_file(
+    rt: &(impl Files + Print + AllocGlobal),
+    rows: &mut Rows,
+    name: &str,
+) -> io::Result<()> {
+    let text = fs::read_to_string(rt, name)?;
+    hold_all(rt, rows, text.as_str())
+}
+
+fn hold_each(
+    rt: &(impl Env + Files + Input + Print + AllocGlobal),
+    rows: &mut Rows,
+) -> io::Result<()> {
+    hold_input(rt, rows)?;
+    for name in env::args(rt)?.skip(1) {
+        hold_file(rt, rows, name.as_str())?;
+    }
+    Ok(())
+}
+
 fn main(rt: HostRuntime) -> io::Result<()> {
     refusals_of_plans_are_kept();
     post_finish_is_asked();
-    let text = io::read_to_string(rt.alloc(), rt.reader())?;
-    let Ok(mut rows) = Rows::new(rt.alloc()) else {
-        return println!(rt; "no memory is left for a book");
-    };
-    hold_all(&rt, &mut rows, text.as_str())?;
-    for name in std::env::args(&rt)?.skip(1) {
-        let text = fs::read_to_string(&rt, name.as_str())?;
-        hold_all(&rt, &mut rows, text.as_str())?;
+    match Rows::new(rt.alloc()) {
+        Ok(mut rows) => hold_each(&rt, &mut rows),
+        Err(fault) => println!(rt; "{fault}"),
     }
-    Ok(())
 }
