@@ -1,4 +1,5 @@
-use Rattle.std.proofs.Common.{ap, subst}
+use Rattle.std.proofs.Common.{ap, subst, arith}
+use Rattle.std.proofs.lemmas.Grind.{common_steps}
 use Rattle.std.specs.Io.KnownBytes.{Appends}
 use Rattle.up_server.specs.ReportText.{lane_text, lanes_text}
 use Rattle.up_wire.specs.Response.{WritesFront}
@@ -17,3 +18,9 @@ pub loop-number-preserved : goal.loop-number-preserved
 loop-number-preserved g c =
     let next = subst (Appends _ _) (ap (lane_text c.loop-number.number) c.index-lanes-number.is) c.in_ok-write_lane.ensures.written in
     lanes_more _ _ _ c.args.lanes.now c.loop-number.number c.index-lanes-number.result c.loop-number-test.true c.loop-number.invariant next
+
+pub loop-number-init : goal.loop-number-init
+loop-number-init g c = grind (arith, common_steps)
+
+pub returns-clause-written : goal.returns-clause-written
+returns-clause-written g c = grind (arith, common_steps)

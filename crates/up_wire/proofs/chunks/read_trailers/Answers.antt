@@ -1,4 +1,5 @@
 use Rattle.std.proofs.Common.{◌≡◌, ◌<◌, ◌≤◌, ◌++◌, length, take, sym, ap, ◌∙◌, subst, arith, inr}
+use Rattle.std.proofs.lemmas.Grind.{common_steps}
 use Rattle.std.specs.Io.KnownBytes.{Consumes}
 use Rattle.std.proofs.KnownBytes.{Consumes-trans}
 use Rattle.httparse.specs.Grammar.{HasNoSection}
@@ -84,3 +85,24 @@ returns-in-NoMemory-clause-answer g c =
     let a = c.in-NoMemory.ensures.answer in
     let text = c.lines.text.items in
     (text ++ a.0, a.1, Consumes-trans _ _ _ _ _ old.bytes a.2, a.3, a.5.1)
+
+pub lines-init : goal.lines-init
+lines-init g c = grind (arith, common_steps)
+
+pub slice_bounds-is_line_end-count : goal.slice_bounds-is_line_end-count
+slice_bounds-is_line_end-count g c = grind (arith, common_steps)
+
+pub slice_bounds-is_line_end-start : goal.slice_bounds-is_line_end-start
+slice_bounds-is_line_end-start g c = grind (arith, common_steps)
+
+pub lines-smaller-in-Whole : goal.lines-smaller-in-Whole
+lines-smaller-in-Whole g c = grind (arith, common_steps)
+
+pub lines-smaller : goal.lines-smaller
+lines-smaller g c = grind (arith, common_steps)
+
+pub slice_bounds-stop_behind-end : goal.slice_bounds-stop_behind-end
+slice_bounds-stop_behind-end g c = grind (arith, common_steps)
+
+pub slice_bounds-stop_behind-end-in-Failed : goal.slice_bounds-stop_behind-end-in-Failed
+slice_bounds-stop_behind-end-in-Failed g c = grind (arith, common_steps)

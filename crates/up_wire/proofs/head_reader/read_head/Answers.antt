@@ -1,4 +1,5 @@
 use Rattle.std.proofs.Common.{◌≡◌, ◌<◌, ◌≤◌, ℕ, List, [], ◌++◌, length, All, false, refl, sym, ap, ◌∙◌, subst, arith, inl, inr}
+use Rattle.std.proofs.lemmas.Grind.{common_steps}
 use Rattle.std.specs.Io.KnownBytes.{Consumes}
 use Rattle.std.proofs.KnownBytes.{Consumes-nil, Consumes-trans}
 use Rattle.httparse.specs.Grammar.{HasNoRequest, NeverHasRequest}
@@ -178,3 +179,18 @@ returns-in-NoMemory-clause-answer g c =
       a.3,
       subst (IsHeadRead (text ++ a.0) a.1) (sym c.refuse-in-NoMemory.ensures) (inl (part_no_head text a.0 old.no_head a.5.0, refl)),
     )
+
+pub slice_bounds-is_line_end-count : goal.slice_bounds-is_line_end-count
+slice_bounds-is_line_end-count g c = grind (arith, common_steps)
+
+pub slice_bounds-is_line_end-start : goal.slice_bounds-is_line_end-start
+slice_bounds-is_line_end-start g c = grind (arith, common_steps)
+
+pub lines-smaller-then-is_begun-is_empty : goal.lines-smaller-then-is_begun-is_empty
+lines-smaller-then-is_begun-is_empty g c = grind (arith, common_steps)
+
+pub lines-preserved-then-is_begun-is_empty : goal.lines-preserved-then-is_begun-is_empty
+lines-preserved-then-is_begun-is_empty g c = grind (arith, common_steps)
+
+pub lines-smaller : goal.lines-smaller
+lines-smaller g c = grind (arith, common_steps)

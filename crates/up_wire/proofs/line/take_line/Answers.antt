@@ -1,4 +1,5 @@
 use Rattle.std.proofs.Common.{◌≡◌, ◌≢◌, ◌<◌, ◌++◌, length, true, false, ap, ◌∙◌, subst, arith, append_assoc, refl}
+use Rattle.std.proofs.lemmas.Grind.{common_steps}
 use Rattle.std.proofs.KnownBytes.{Consumes-trans}
 use Rattle.std.proofs.lemmas.List.{length-append}
 use Rattle.std.proofs.lemmas.List.Elements.{All-append}
@@ -41,3 +42,9 @@ runs-preserved-else-ends_in_feed g c =
       patient = c.runs.invariant.patient;
       within = omega (arith, ap length run.2, length-append before run.0, run.3, ap length c.make_room.ensures.items, c.min-room.ensures);
     }
+
+pub returns-then-ends_in_feed-clause-within : goal.returns-then-ends_in_feed-clause-within
+returns-then-ends_in_feed-clause-within g c = grind (arith, common_steps)
+
+pub runs-smaller-else-ends_in_feed : goal.runs-smaller-else-ends_in_feed
+runs-smaller-else-ends_in_feed g c = grind (arith, common_steps)

@@ -1,4 +1,5 @@
-use Rattle.std.proofs.Common.{get_or, ap}
+use Rattle.std.proofs.Common.{get_or, ap, arith}
+use Rattle.std.proofs.lemmas.Grind.{common_steps}
 use Rattle.up_wire.specs.Response.{field_line}
 use Rattle.up_wire.proofs.Writing.{each_cut, each_next, writes_as}
 use Rattle.up_wire.proofs.Counting.{counts_on}
@@ -17,3 +18,6 @@ loop-field-preserved g c =
       counts = counts_on _ _ _ _ _ _ c.loop-field.invariant.counts c.write_field.ensures.tries.counts;
       patient = c.write_field.ensures.tries.patient c.if-not-write_field.false;
     }
+
+pub returns-clause-written : goal.returns-clause-written
+returns-clause-written g c = grind (arith, common_steps)

@@ -1,3 +1,5 @@
+use Rattle.std.proofs.Common.{arith}
+use Rattle.std.proofs.lemmas.Grind.{common_steps}
 use Rattle.up_wire.proofs.Writing.{each_cut, each_next}
 use Rattle.up_wire.proofs.Counting.{counts_on}
 use Rattle.up_wire.proofs.write.write_each.Goals as goal
@@ -12,3 +14,6 @@ loop-piece-preserved g c = record {
   counts = counts_on _ _ _ _ _ _ c.loop-piece.invariant.counts c.write_all.ensures.tries.counts;
   patient = c.write_all.ensures.tries.patient c.if-not-write_all.false;
 }
+
+pub returns-clause-written : goal.returns-clause-written
+returns-clause-written g c = grind (arith, common_steps)

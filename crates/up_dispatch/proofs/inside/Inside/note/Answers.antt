@@ -1,4 +1,5 @@
 use Rattle.std.proofs.Common.{◌≡◌, ◌+◌, arith, ap, subst}
+use Rattle.std.proofs.lemmas.Grind.{common_steps}
 use mir.Val.{bool_byte}
 use Rattle.up_dispatch.specs.Commits.{changed}
 use Rattle.up_dispatch.specs.Standing.{IsLawfulBoard}
@@ -13,3 +14,6 @@ invariant_of-self-2 g c =
     (open_if inside.book done.change c.in_ok-done.ensures.open) c.journal.ensures.sound c.in_ok-done.ensures.ok in
     let count : inside.total.total + changed done.change ≡ c.add.new.self.total = omega (arith, c.add.ensures.total, c.audit.ensures.total, changed_is done.change, c.from-changes.ensures, ap bool_byte c.is_some.ensures) in
     subst (λ n. IsLawfulBoard g.B.Naming.queue c.commit.new.self inside.feeds.items inside.given n inside.rest.parts inside.rest.amount) count lawful
+
+pub overflow_add-count : goal.overflow_add-count
+overflow_add-count g c = grind (arith, common_steps)

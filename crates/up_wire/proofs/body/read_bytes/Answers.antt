@@ -1,0 +1,12 @@
+use Rattle.std.proofs.Common.{arith}
+use Rattle.std.proofs.lemmas.Grind.{common_steps}
+use Rattle.up_wire.proofs.body.read_bytes.Goals as goal
+
+pub returns-then-capacity-reserved-clause-answer : goal.returns-then-capacity-reserved-clause-answer
+returns-then-capacity-reserved-clause-answer g c = grind (arith, common_steps)
+
+pub batches-smaller : goal.batches-smaller
+batches-smaller g c = grind (arith, common_steps)
+
+pub batches-preserved : goal.batches-preserved
+batches-preserved g c = grind (arith, common_steps)
