@@ -1,4 +1,4 @@
-use Rattle.std.proofs.Common.{◌≡◌, ◌∷◌, ◌++◌, [], true, false, cond, bytes_eq, sym, ap, ◌∙◌}
+use Rattle.std.proofs.Common.{◌≡◌, ◌∷◌, ◌++◌, [], true, false, cond, bytes_eq, sym, ap, ◌∙◌, rules}
 use Rattle.std.proofs.lemmas.Map.Text.{is_eq-slice_cmp}
 use Rattle.up_headers.specs.Metadata.{Pair, has_key}
 use Rattle.up_headers.specs.Reading.{parts_of, parts_reading, and_then}
@@ -32,3 +32,6 @@ parts-preserved c =
           ∙ sym (has_more k.now pairs pair)
           ∙ ap (has_key k.now) (sym same);
     }
+
+pub returns-in-Err-read_pair : goal.returns-in-Err-read_pair
+returns-in-Err-read_pair c = search rules

@@ -1,5 +1,5 @@
 use Rattle.up_machine.specs.Decision.{asked_rows, patch_completes, patch_rows}
-use Rattle.std.proofs.Common.{Some, arith}
+use Rattle.std.proofs.Common.{Some, arith, rules}
 use Rattle.std.proofs.lemmas.Grind.{common_steps}
 use Rattle.up_machine.proofs.DecisionLemmas.{refused_before}
 use Rattle.up_machine.proofs.checks.check_said.Goals as goal
@@ -10,3 +10,6 @@ returns-in_err-step c =
 
 pub returns-in_err-check_asked : goal.returns-in_err-check_asked
 returns-in_err-check_asked c = grind (arith, common_steps)
+
+pub returns : goal.returns
+returns c = search rules

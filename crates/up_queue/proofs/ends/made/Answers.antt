@@ -8,3 +8,9 @@ invariant_of-put_end g c = record { line = search rules; role = search rules; or
 
 pub invariant_of-take_end : goal.invariant_of-take_end
 invariant_of-take_end g c = record { line = search rules; role = search rules; orderly = subst IsOrderly (sym (ap (λ v. v.taken) c.in_ok-line.ensures.takes)) no_items; counted = search rules }
+
+pub open-requires-clause-room : goal.open-requires-clause-room
+open-requires-clause-room g c = search rules
+
+pub returns : goal.returns
+returns g c = search rules

@@ -1,4 +1,4 @@
-use Rattle.std.proofs.Common.{inr, slice_index_or}
+use Rattle.std.proofs.Common.{inr, rules, slice_index_or}
 use Rattle.up_queue.specs.Sides.{no_queue}
 use Rattle.up_server.proofs.serving.replay.Goals as goal
 
@@ -14,3 +14,6 @@ returns g c =
       c.in-Ok-run.ensures.sound,
       c.tell.ensures,
     )
+
+pub run-requires-clause-lanes : goal.run-requires-clause-lanes
+run-requires-clause-lanes g c κs within = search rules

@@ -10,3 +10,6 @@ returns-clause-book g c = grind (arith, common_steps)
 
 pub returns-clause-ends : goal.returns-clause-ends
 returns-clause-ends g c = grind (arith, common_steps)
+
+pub new-requires-clause-few_lanes : goal.new-requires-clause-few_lanes
+new-requires-clause-few_lanes g c = grind (arith, common_steps)

@@ -1,4 +1,4 @@
-use Rattle.std.proofs.Common.{◌≡◌, ◌+◌, arith, ap, subst}
+use Rattle.std.proofs.Common.{◌≡◌, ◌+◌, arith, ap, subst, rules}
 use Rattle.std.proofs.lemmas.Grind.{common_steps}
 use mir.Val.{bool_byte}
 use Rattle.up_dispatch.specs.Commits.{changed}
@@ -17,3 +17,12 @@ invariant_of-self-2 g c =
 
 pub overflow_add-count : goal.overflow_add-count
 overflow_add-count g c = grind (arith, common_steps)
+
+pub returns-in_err-done-clause-answer : goal.returns-in_err-done-clause-answer
+returns-in_err-done-clause-answer g c = search rules
+
+pub returns-clause-answer : goal.returns-clause-answer
+returns-clause-answer g c = search rules
+
+pub returns-clause-ok : goal.returns-clause-ok
+returns-clause-ok g c = search rules

@@ -1,4 +1,5 @@
-use Rattle.std.proofs.Common.{◌≡◌, [], ◌∷◌, ◌++◌, false, length, length-append, sym, ap, ◌∙◌, subst}
+use Rattle.std.proofs.lemmas.Grind.{common_steps}
+use Rattle.std.proofs.Common.{◌≡◌, [], ◌∷◌, ◌++◌, false, length, length-append, sym, ap, ◌∙◌, subst, arith, rules}
 use Rattle.up_events.specs.Log.{IsLawful}
 use Rattle.up_queue.specs.declared.item.Item.TheVariants as item
 use Rattle.up_queue.specs.Line.{items_if}
@@ -25,3 +26,9 @@ invariant_of-self-in-Event g c =
 
 pub returns-in-Event-clause-lawful : goal.returns-in-Event-clause-lawful
 returns-in-Event-clause-lawful g c = (invariant_of-self-in-Event g c).lawful
+
+pub returns-in-Event-clause-step : goal.returns-in-Event-clause-step
+returns-in-Event-clause-step g c = search rules
+
+pub invariant_of-self-in-End : goal.invariant_of-self-in-End
+invariant_of-self-in-End g c = grind (arith, common_steps)

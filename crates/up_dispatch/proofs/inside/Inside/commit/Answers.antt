@@ -1,0 +1,5 @@
+use Rattle.std.proofs.Common.{rules}
+use Rattle.up_dispatch.proofs.inside.Inside.commit.Goals as goal
+
+pub returns : goal.returns
+returns g c = search rules
