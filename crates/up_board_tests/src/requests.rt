@@ -9,7 +9,7 @@ ghost use Rattle.up_headers.specs.declared.request.Request.TheVariants as reques
 use std::alloc::Global;
 use up_events::{Id, Kind, NoMemory};
 use up_headers::{NewUpload, Patch, Request};
-use up_wire::Sequence;
+use up_message::Sequence;
 
 /// To make a plain upload without metadata. Where no length is given it is declared later.
 pub fn creation(alloc: Global, length: Option<u64>) -> Request

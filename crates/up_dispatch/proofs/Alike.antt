@@ -4,8 +4,8 @@ use Rattle.up_headers.specs.declared.header_fault.HeaderFault.{HeaderFault}
 use Rattle.up_headers.specs.declared.request.Request.{Request}
 use Rattle.up_headers.specs.declared.request.Request.TheVariants as request
 use Rattle.up_wire.specs.Device.{Device}
-use Rattle.up_wire.specs.declared.message.Taken.{Taken}
-use Rattle.up_wire.specs.declared.response.Response.{Response}
+use Rattle.up_wire.specs.declared.taken.Taken.{Taken}
+use Rattle.up_message.specs.declared.response.Response.{Response}
 use Rattle.up_dispatch.specs.Turn.{Answering, Converses, IsAnswered, IsCutCarriedOut, IsServed, Passes, Stand, TakesTurn}
 use Rattle.up_dispatch.specs.declared.conversation.Ended.{Ended}
 

@@ -19,8 +19,8 @@ use Rattle.up_machine.specs.declared.plan.Plan.{Plan}
 use Rattle.up_machine.specs.declared.plan.Plan.TheVariants as plan
 use Rattle.up_machine.specs.declared.refusal.Refusal.{Refusal}
 use Rattle.up_machine.specs.declared.refusal.Refusal.TheVariants as refusal
-use Rattle.up_wire.specs.Refused.{out_of_memory}
-use Rattle.up_wire.specs.declared.response.Response.{Response}
+use Rattle.up_message.specs.Refused.{out_of_memory}
+use Rattle.up_message.specs.declared.response.Response.{Response}
 use Rattle.up_dispatch.specs.Answering.{Answered, Course, Serves, Tells}
 use Rattle.up_dispatch.specs.ByBook.{IsAnsweredTo, IsCommitted, IsOutcome}
 use Rattle.up_dispatch.specs.Counts.{Counts}

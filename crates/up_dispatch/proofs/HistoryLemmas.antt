@@ -10,8 +10,8 @@ use Rattle.up_machine.specs.State.{State, after}
 use Rattle.up_machine.specs.declared.plan.Done.{Done}
 use Rattle.up_machine.specs.declared.refusal.Refusal.{Refusal}
 use Rattle.up_wire.specs.Device.{Device}
-use Rattle.up_wire.specs.declared.message.Taken.{Taken}
-use Rattle.up_wire.specs.declared.response.Response.{Response}
+use Rattle.up_wire.specs.declared.taken.Taken.{Taken}
+use Rattle.up_message.specs.declared.response.Response.{Response}
 use Rattle.up_dispatch.proofs.Prefixes.{prefix_same, prefix_trans}
 use Rattle.up_dispatch.proofs.TurnLemmas.{passes_few}
 use Rattle.up_dispatch.specs.Answering.{Course}

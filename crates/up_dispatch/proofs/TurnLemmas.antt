@@ -5,7 +5,7 @@ use Rattle.up_dispatch.specs.Turn.{Answering, IsFaultSent, IsServed, Sends, Stan
 use Rattle.up_dispatch.specs.declared.conversation.Ended.{Ended}
 use Rattle.up_wire.specs.Device.{Device}
 use Rattle.up_wire.specs.Response.{response_text}
-use Rattle.up_wire.specs.declared.message.Taken.{Taken}
+use Rattle.up_wire.specs.declared.taken.Taken.{Taken}
 use Rattle.up_wire.specs.declared.wire_fault.WireFault.{WireFault}
 
 pub no_passes : {C : Type 0} (answers : Answering C) (max_size : ℕ) (stand : Stand C) → Passes answers max_size 0 stand stand

@@ -5,7 +5,7 @@ use Rattle.up_headers.specs.declared.request.Request.TheVariants as request
 use Rattle.up_machine.specs.Refusals.{response_of}
 use Rattle.up_machine.specs.declared.plan.Done.{Done}
 use Rattle.up_machine.specs.declared.refusal.Refusal.{Refusal}
-use Rattle.up_wire.specs.declared.response.Response.{Response}
+use Rattle.up_message.specs.declared.response.Response.{Response}
 use Rattle.up_dispatch.specs.Keeps.{Keeping, Keeps}
 use Rattle.up_dispatch.specs.Replies.{IsReply}
 

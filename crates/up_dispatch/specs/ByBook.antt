@@ -9,8 +9,8 @@ use Rattle.up_machine.specs.State.{State, after}
 use Rattle.up_machine.specs.declared.plan.Asked.{Asked}
 use Rattle.up_machine.specs.declared.plan.Done.{Done}
 use Rattle.up_machine.specs.declared.refusal.Refusal.{Refusal}
-use Rattle.up_wire.specs.Refused.{out_of_memory}
-use Rattle.up_wire.specs.declared.response.Response.{Response}
+use Rattle.up_message.specs.Refused.{out_of_memory}
+use Rattle.up_message.specs.declared.response.Response.{Response}
 use Rattle.up_dispatch.specs.Answering.{Course}
 use Rattle.up_dispatch.specs.Counts.{number_after}
 use Rattle.up_dispatch.specs.Keeps.{Gives, IsAsked}

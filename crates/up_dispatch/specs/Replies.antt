@@ -4,9 +4,9 @@ use Rattle.up_headers.specs.HeaderFaults as header
 use Rattle.up_headers.specs.declared.header_fault.HeaderFault.{HeaderFault}
 use Rattle.up_headers.specs.declared.header_fault.HeaderFault.TheVariants as fault
 use Rattle.up_machine.specs.Responses.{version}
-use Rattle.up_wire.specs.Refused.{answered, out_of_memory, plain_text, refused_with}
+use Rattle.up_message.specs.Refused.{answered, out_of_memory, plain_text, refused_with}
 use Rattle.up_wire.specs.WireFaults as wire
-use Rattle.up_wire.specs.declared.response.Response.{Response}
+use Rattle.up_message.specs.declared.response.Response.{Response}
 use Rattle.up_wire.specs.declared.wire_fault.WireFault.{WireFault}
 use Rattle.up_wire.specs.declared.wire_fault.WireFault.TheVariants as unread
 

@@ -12,9 +12,9 @@ use Rattle.up_dispatch.specs.declared.conversation.Ended.TheVariants.{Closed, Cu
 use Rattle.up_wire.specs.Device.{Device, GaveUp, interrupted}
 use Rattle.up_wire.specs.Reading.{IsReading}
 use Rattle.up_wire.specs.Response.{WritesFront, response_text}
-use Rattle.up_wire.specs.declared.message.Message.{Message}
-use Rattle.up_wire.specs.declared.message.Taken.{Taken}
-use Rattle.up_wire.specs.declared.response.Response.{Response}
+use Rattle.up_message.specs.declared.message.Message.{Message}
+use Rattle.up_wire.specs.declared.taken.Taken.{Taken}
+use Rattle.up_message.specs.declared.response.Response.{Response}
 use Rattle.up_wire.specs.declared.wire_fault.WireFault.{WireFault}
 use Rattle.up_wire.specs.declared.wire_fault.WireFault.TheVariants as Fault
 

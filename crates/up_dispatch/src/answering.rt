@@ -12,7 +12,7 @@ use up_events::{Id, MOST_BYTES};
 use up_headers::Request;
 use up_hooks::PreHooks;
 use up_machine::{Asked, Done, Plan, Refusal};
-use up_wire::Response;
+use up_message::Response;
 
 /// What the closures say to what a plan asks them: to its one question, or to the second of two where none refuses at the first.
 /// Nobody is asked where it asks nothing.

@@ -14,10 +14,8 @@ use std::alloc::Global;
 use up_events::{Id, MOST_BYTES};
 use up_headers::{Request, request_of};
 use up_hooks::PreHooks;
-use up_wire::{
-    Limits, Message, Response, Sink, Source, Taken, WireFault, WriteFailed, read_message,
-    write_response,
-};
+use up_message::{Message, Response};
+use up_wire::{Limits, Sink, Source, Taken, WireFault, WriteFailed, read_message, write_response};
 
 /// The most messages of a conversation.
 pub const MOST_MESSAGES: u64 = 10_000;

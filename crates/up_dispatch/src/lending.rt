@@ -3,7 +3,7 @@ ghost use Rattle.std.specs.Prelude.{ℕ, ◌≤◌};
 ghost use Rattle.up_headers.specs.declared.request.Request.{Request};
 ghost use Rattle.up_hooks.specs.Gives.{ClosuresGive};
 ghost use Rattle.up_machine.specs.State.{State};
-ghost use Rattle.up_wire.specs.declared.response.Response.{Response};
+ghost use Rattle.up_message.specs.declared.response.Response.{Response};
 ghost use Rattle.up_dispatch.specs.Answering.{Answered, Course, Serves, course};
 ghost use Rattle.up_dispatch.specs.ByBook.{GoesOn, IsAnsweredTo, IsOutcome};
 ghost use Rattle.up_dispatch.specs.Counts.{Counts};

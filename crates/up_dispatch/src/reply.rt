@@ -7,7 +7,8 @@ use bytes::Bytes;
 use std::alloc::{AllocError, Global};
 use up_headers::HeaderFault;
 use up_machine::{Refusal, response_of};
-use up_wire::{Response, WireFault};
+use up_message::Response;
+use up_wire::WireFault;
 
 /// To a message of another version of the protocol: which version there is (tus 1.0.0, Tus-Version), and why.
 fn version_refused(alloc: Global, status: u16, text: &'static str) -> Result<Response, AllocError>

@@ -14,7 +14,7 @@ use Rattle.up_headers.specs.declared.metadata_fault.MetadataFault.{MetadataFault
 use Rattle.up_headers.specs.declared.metadata_fault.MetadataFault.TheVariants as Fault
 use Rattle.up_headers.specs.Metadata.{Pair, HaveNoCommas, IsPart, has_key, ArePairs, with_commas, ReadsPairs, IsPartFault, HasFault, IsRefusal}
 use Rattle.up_headers.specs.Reading.{key_of, value_of, with_value, part_reading, and_then, parts_reading, reading, Answers, ReadingTells}
-use Rattle.up_wire.specs.Fields.{split_commas}
+use Rattle.up_message.specs.Fields.{split_commas}
 use Rattle.up_headers.proofs.MetadataTexts.{split_no_commas, joined_split}
 use Rattle.up_headers.proofs.WordLemmas.{begins_with, no_word}
 use Rattle.up_headers.proofs.MetadataParts.{part_facts, encoding_empty}

@@ -5,7 +5,7 @@ use Rattle.std.proofs.lemmas.Bool.{ne_eqb}
 use Rattle.base64.specs.Engines.{standard}
 use Rattle.base64.specs.GeneralPurpose.{decode_of, IsBytes}
 use Rattle.base64.specs.declared.decode.DecodeError.{DecodeError}
-use Rattle.up_wire.specs.Fields.{split_commas}
+use Rattle.up_message.specs.Fields.{split_commas}
 use Rattle.up_headers.specs.declared.metadata_fault.MetadataFault.{MetadataFault}
 use Rattle.up_headers.specs.declared.metadata_fault.MetadataFault.TheVariants as Fault
 use Rattle.up_headers.specs.Metadata.{Pair, HasKey, has_key, ArePairs, HaveNoCommas, with_commas, IsPart, IsPartFault, HasFault, FaultsOnce}

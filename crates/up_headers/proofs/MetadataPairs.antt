@@ -5,7 +5,7 @@ use Rattle.base64.specs.Engines.{standard}
 use Rattle.base64.specs.GeneralPurpose.{encode_of}
 use Rattle.up_headers.specs.Metadata.{Pair, IsPart, ArePairs, HaveNoCommas, with_commas, ReadsPairs, ReadsOnce}
 use Rattle.up_headers.specs.Reading.{and_then, parts_reading, reading}
-use Rattle.up_wire.specs.Fields.{split_commas}
+use Rattle.up_message.specs.Fields.{split_commas}
 use Rattle.up_headers.proofs.MetadataTexts.{split_joined}
 use Rattle.up_headers.proofs.MetadataParts.{part_read}
 

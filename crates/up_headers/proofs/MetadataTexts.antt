@@ -3,7 +3,7 @@ use Rattle.std.proofs.Common.{◌≡◌, ℕ, zero, suc, ◌<◌, ◌≤◌, ◌
 use Rattle.std.specs.List.{list_all}
 use Rattle.std.proofs.lemmas.Bool.{eq-eqb, eqb-true, ne_eqb}
 use Rattle.std.proofs.lemmas.List.{length-append}
-use Rattle.up_wire.specs.Fields.{cons_first, split_commas}
+use Rattle.up_message.specs.Fields.{cons_first, split_commas}
 use Rattle.up_headers.specs.Metadata.{is_no_comma, HasNoComma, HaveNoCommas, with_commas}
 use Rattle.up_headers.specs.Words.{drop_while}
 

@@ -1,7 +1,7 @@
 -- What is known of an answer, carried from one check to the table.
 use Rattle.std.proofs.Common.{◌≡◌, ◌≢◌, ℕ, Bool, false, cond, List, refl, sym, ap, subst, Option, Some, None, Result, Ok, Err}
-use Rattle.up_wire.specs.Fields.{Field}
-use Rattle.up_wire.specs.declared.message.Message.{Message}
+use Rattle.up_message.specs.Fields.{Field}
+use Rattle.up_message.specs.declared.message.Message.{Message}
 use Rattle.up_headers.specs.declared.request.NewUpload.{NewUpload}
 use Rattle.up_headers.specs.declared.request.Request.{Request}
 use Rattle.up_headers.specs.declared.request.Request.TheVariants as request

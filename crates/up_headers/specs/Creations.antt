@@ -2,8 +2,8 @@
 use Rattle.std.specs.Prelude.{◌≡◌, ◌≤◌, ℕ, ◌&&◌, Bool, false, not, List, [], ◌∷◌, bytes_eq, codes, nat_lt, Option, Some, None, is_none, Result, Ok, Err, if◌then◌else◌}
 use Rattle.std.specs.Result.{is_err}
 use Rattle.std.specs.Str.Parse.{digits_value}
-use Rattle.up_wire.specs.Digits.{is_digits}
-use Rattle.up_wire.specs.Fields.{Field}
+use Rattle.up_message.specs.Digits.{is_digits}
+use Rattle.up_message.specs.Fields.{Field}
 use Rattle.up_headers.specs.declared.request.NewUpload.{NewUpload}
 use Rattle.up_headers.specs.declared.header_fault.HeaderFault.{HeaderFault}
 use Rattle.up_headers.specs.declared.header_fault.HeaderFault.TheVariants.{BadLength, TooLong, BadConcat, BadMetadata}

@@ -1,6 +1,6 @@
 -- What the fields of a message say, by their name.
 use Rattle.std.specs.Prelude.{ℕ, Bool, List, [], ◌∷◌, length, nat_lt}
-use Rattle.up_wire.specs.Fields.{Field, values}
+use Rattle.up_message.specs.Fields.{Field, values}
 
 -- whether a field of that name stands
 abbrev pub stands : List ℕ → List Field → Bool

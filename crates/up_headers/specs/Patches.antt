@@ -3,8 +3,8 @@ use Rattle.std.specs.Prelude.{ℕ, ◌-◌, ◌^◌, ◌==◌, Bool, List, codes
 use Rattle.std.specs.List.{before_first}
 use Rattle.std.specs.Str.Parse.{digits_value}
 use Rattle.httparse.specs.Ascii.{semicolon}
-use Rattle.up_wire.specs.Digits.{is_digits}
-use Rattle.up_wire.specs.Fields.{Field, same_name, trim_end_ows}
+use Rattle.up_message.specs.Digits.{is_digits}
+use Rattle.up_message.specs.Fields.{Field, same_name, trim_end_ows}
 use Rattle.up_headers.specs.declared.request.Patch.{Patch}
 use Rattle.up_headers.specs.declared.request.NotDigits.{NotDigits}
 use Rattle.up_headers.specs.Fields.{stands, value_in}

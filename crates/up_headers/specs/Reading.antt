@@ -4,7 +4,7 @@ use Rattle.std.specs.Prelude.{◌≡◌, ℕ, ◌==◌, Option, None, Some, List
 use Rattle.base64.specs.Engines.{standard}
 use Rattle.base64.specs.GeneralPurpose.{decode_of, IsBytes}
 use Rattle.base64.specs.declared.decode.DecodeError.{DecodeError}
-use Rattle.up_wire.specs.Fields.{split_commas}
+use Rattle.up_message.specs.Fields.{split_commas}
 use Rattle.up_headers.specs.declared.metadata_fault.MetadataFault.{MetadataFault}
 use Rattle.up_headers.specs.declared.metadata_fault.MetadataFault.TheVariants as Fault
 use Rattle.up_headers.specs.Metadata.{Pair, has_key, ReadsPairs, HasFault}

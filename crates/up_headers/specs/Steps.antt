@@ -1,6 +1,6 @@
 -- What the steps of the checks answer.
 use Rattle.std.specs.Prelude.{◌≡◌, ℕ, ◌⊎◌, List, Option, Some, None, Result, Ok, Err, ⊤}
-use Rattle.up_wire.specs.Fields.{Field}
+use Rattle.up_message.specs.Fields.{Field}
 use Rattle.up_headers.specs.declared.request.Request.{Request}
 use Rattle.up_headers.specs.declared.request.NewUpload.{NewUpload}
 use Rattle.up_headers.specs.declared.header_fault.HeaderFault.{HeaderFault}

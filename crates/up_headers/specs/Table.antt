@@ -1,8 +1,8 @@
 -- What a message asks for: the checks in their one order, and the request where none fails.
 use Rattle.std.specs.Prelude.{◌≡◌, ℕ, ◌⊎◌, Bool, true, false, not, ◌&&◌, ◌||◌, List, [], ◌∷◌, codes, bytes_eq, Result, Ok, Err}
 use Rattle.std.specs.List.{list_any}
-use Rattle.up_wire.specs.Fields.{Field}
-use Rattle.up_wire.specs.declared.message.Message.{Message}
+use Rattle.up_message.specs.Fields.{Field}
+use Rattle.up_message.specs.declared.message.Message.{Message}
 use Rattle.up_headers.specs.declared.request.Request.{Request}
 use Rattle.up_headers.specs.declared.request.Request.TheVariants as request
 use Rattle.up_headers.specs.declared.header_fault.HeaderFault.{HeaderFault}

@@ -1,6 +1,6 @@
 -- The method that counts.
 use Rattle.std.specs.Prelude.{ℕ, List, [], ◌∷◌, codes, bytes_eq, if◌then◌else◌}
-use Rattle.up_wire.specs.Fields.{Field, values}
+use Rattle.up_message.specs.Fields.{Field, values}
 use Rattle.up_headers.specs.declared.verb.Verb.{Verb}
 use Rattle.up_headers.specs.declared.verb.Verb.TheVariants as method
 

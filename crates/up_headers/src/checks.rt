@@ -13,7 +13,7 @@ use crate::request::Request;
 use crate::verb::{Verb, verb_of};
 use std::alloc::Global;
 use up_events::Id;
-use up_wire::{Field, Message, Values, find_value};
+use up_message::{Field, Message, Values, find_value};
 
 /// What the message asks for (tus 1.0.0, Core protocol, Creation, Termination and Concatenation). The
 /// checks come in this order, and the first that fails is the fault:

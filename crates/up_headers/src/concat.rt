@@ -6,7 +6,7 @@ use crate::place::{Place, place_of};
 use crate::words::first_word;
 use std::alloc::{AllocError, Global};
 use up_events::{Id, Kind};
-use up_wire::Sequence;
+use up_message::Sequence;
 
 /// Whether the text is that of a final upload (tus 1.0.0, Upload-Concat).
 pub(crate) fn is_final(text: &[u8]) -> bool

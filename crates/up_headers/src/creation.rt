@@ -10,7 +10,7 @@ use crate::metadata::read_pairs;
 use crate::metadata_fault::MetadataFault;
 use crate::request::NewUpload;
 use std::alloc::{AllocError, Global};
-use up_wire::{Field, Sequence, is_digits, number};
+use up_message::{Field, Sequence, is_digits, number};
 
 /// The upload that a creation asks for (tus 1.0.0, Creation and Concatenation), of at most `max_size`
 /// bytes where its length is known. Its length is checked first, which a final upload need not have, then what its

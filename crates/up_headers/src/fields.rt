@@ -2,7 +2,7 @@
 ghost use Rattle.std.specs.Prelude.{◌≡◌};
 ghost use Rattle.up_headers.specs.Fields.{is_repeated, stands, value_in};
 
-use up_wire::{Field, Values, find_value};
+use up_message::{Field, Values, find_value};
 
 /// Whether a field of that name stands.
 pub(crate) fn stands(fields: &[Field], name: &[u8]) -> bool

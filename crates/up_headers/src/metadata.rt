@@ -1,7 +1,7 @@
 //! The pairs of keys and values in a metadata text.
 ghost use Rattle.std.specs.Result.{IfErr};
 ghost use Rattle.std.specs.Prelude.{◌≡◌, ◌∷◌, IfOk};
-ghost use Rattle.up_wire.specs.Fields.{split_commas};
+ghost use Rattle.up_message.specs.Fields.{split_commas};
 ghost use Rattle.base64.specs.Engines.{standard};
 ghost use Rattle.base64.specs.GeneralPurpose.{decode_of};
 ghost use Rattle.up_headers.specs.Metadata.{ReadsPairs, IsRefusal};
@@ -15,7 +15,7 @@ use base64::DecodeAllocError;
 use base64::engine::general_purpose::STANDARD;
 use std::alloc::Global;
 use std::collections::BTreeSet;
-use up_wire::Sequence;
+use up_message::Sequence;
 
 /// The pair of a key and of what stands behind it in its part.
 fn read_pair(

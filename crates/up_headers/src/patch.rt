@@ -5,7 +5,7 @@ ghost use Rattle.up_headers.specs.Patches.{before_semicolon, declared_in, is_med
 use crate::fields::{stands, value_in};
 use crate::request::{NotDigits, Patch};
 use up_events::Id;
-use up_wire::{Field, Message, is_digits, number, same_name, trim_end_ows};
+use up_message::{Field, Message, is_digits, number, same_name, trim_end_ows};
 
 /// The PATCH of an upload (tus 1.0.0, PATCH). Its bytes are the message's own, not a copy.
 pub(crate) fn patch_of(id: Id, message: Message) -> Patch

@@ -1,6 +1,6 @@
 //! What a message asks for.
 use up_events::{Id, Kind};
-use up_wire::Sequence;
+use up_message::Sequence;
 
 /// The pairs of a metadata text: each key with its value (tus 1.0.0, Upload-Metadata).
 pub type Pairs = Sequence<(Sequence<u8>, Sequence<u8>)>;

@@ -27,7 +27,7 @@ use Rattle.up_machine.specs.declared.plan.Plan.{Plan}
 use Rattle.up_machine.specs.declared.plan.Plan.TheVariants.{Answer, Ask, AskBoth, Ready}
 use Rattle.up_machine.specs.declared.refusal.Refusal.{Refusal}
 use Rattle.up_machine.specs.declared.refusal.Refusal.TheVariants as refusal
-use Rattle.up_wire.specs.declared.response.Response.{Response}
+use Rattle.up_message.specs.declared.response.Response.{Response}
 
 -- ---- refusals
 

@@ -2,8 +2,8 @@
 use Rattle.std.specs.Prelude.{◌++◌, codes}
 use Rattle.up_machine.specs.declared.refusal.Refusal.{Refusal}
 use Rattle.up_machine.specs.declared.refusal.Refusal.TheVariants as refusal
-use Rattle.up_wire.specs.Refused.{out_of_memory, refused_with}
-use Rattle.up_wire.specs.declared.response.Response.{Response}
+use Rattle.up_message.specs.Refused.{out_of_memory, refused_with}
+use Rattle.up_message.specs.declared.response.Response.{Response}
 
 -- the response to each refusal: its status, and a line with its number and name, or with the reason of a closure
 abbrev pub response_of : Refusal → Response

@@ -2,9 +2,9 @@
 use Rattle.std.specs.Prelude.{ℕ, ◌++◌, List, [], ◌∷◌, Option, Some, None, length, codes, decimal}
 use Rattle.up_events.specs.IdText.{text_of}
 use Rattle.up_machine.specs.Content.{Content}
-use Rattle.up_wire.specs.Fields.{Field}
-use Rattle.up_wire.specs.Refused.{answered}
-use Rattle.up_wire.specs.declared.response.Response.{Response}
+use Rattle.up_message.specs.Fields.{Field}
+use Rattle.up_message.specs.Refused.{answered}
+use Rattle.up_message.specs.declared.response.Response.{Response}
 
 -- an upload was made
 abbrev pub created : ℕ → Response

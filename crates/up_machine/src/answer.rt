@@ -2,7 +2,7 @@
 ghost use Rattle.std.specs.Prelude.{◌≡◌, ◌++◌, ◌∷◌, [], codes, decimal, Some, IfOk};
 ghost use Rattle.std.specs.Option.{option_copied};
 ghost use Rattle.up_machine.specs.Responses.{created, reached_offset, removed, standing, downloaded, can_do, field_of, size_field};
-ghost use Rattle.up_wire.specs.Refused.{refused_with};
+ghost use Rattle.up_message.specs.Refused.{refused_with};
 
 use crate::reason::Reason;
 use crate::upload::Upload;
@@ -10,7 +10,7 @@ use bytes::Bytes;
 use itoa::Buffer;
 use std::alloc::Global;
 use up_events::{Id, NoMemory};
-use up_wire::Response;
+use up_message::Response;
 
 /// With a field whose value is a number.
 fn with_number(response: Response, alloc: Global, name: &[u8], n: u64) -> Result<Response, NoMemory>

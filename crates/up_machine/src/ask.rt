@@ -10,7 +10,7 @@ use crate::upload::Upload;
 use std::alloc::Global;
 use up_events::{Id, Kind, NoMemory};
 use up_headers::{NewUpload, Pairs, Patch};
-use up_wire::Sequence;
+use up_message::Sequence;
 
 /// When a closure is asked.
 #[derive(Clone, Copy, Debug, PartialEq, Eq)]

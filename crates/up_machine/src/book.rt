@@ -14,7 +14,7 @@ use std::alloc::Global;
 use std::marker::Model;
 use up_events::{Accepted, Id, Journal, MOST_BYTES, MOST_LANES, NoMemory};
 use up_headers::{NewUpload, Patch, Request};
-use up_wire::Response;
+use up_message::Response;
 
 /// The uploads, and the journal of the changes that made them what they are. A request takes time by the logarithm of the
 /// number of uploads, the bytes that it brings or asks for and growth by doubling aside.

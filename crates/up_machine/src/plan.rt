@@ -2,7 +2,7 @@
 use crate::ask::Ask;
 use crate::reason::Reason;
 use up_events::Accepted;
-use up_wire::Response;
+use up_message::Response;
 
 /// What a request comes to that nothing refuses.
 #[derive(Drop)]

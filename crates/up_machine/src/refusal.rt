@@ -8,7 +8,7 @@ use crate::reason::Reason;
 use std::alloc::Global;
 use thiserror::Error;
 use up_events::NoMemory;
-use up_wire::Response;
+use up_message::Response;
 
 /// Why a request isn't carried out (tus 1.0.0, Core Protocol; RFC 9110, section 15). After each the book is as it was.
 #[derive(Clone, Copy, Debug, PartialEq, Eq, Error)]

@@ -10,7 +10,7 @@ use std::marker::Model;
 use std::mem;
 use up_events::{Accepted, Journal, Kind, MOST_BYTES, NoMemory};
 use up_headers::{NewUpload, Pairs};
-use up_wire::Sequence;
+use up_message::Sequence;
 
 /// An upload: what its client said of it, and the bytes that have come so far, never more than its length says, where that is known.
 #[derive(Drop)]

@@ -13,7 +13,7 @@ use std::collections::BTreeMap;
 use std::collections::btree_map::Entry;
 use std::marker::Model;
 use up_events::{Accepted, Id, Journal, NoMemory};
-use up_wire::Sequence;
+use up_message::Sequence;
 
 /// The uploads that there are, each under its id.
 #[derive(Drop)]

@@ -19,8 +19,8 @@ use up_headers::{NewUpload, Request};
 use up_hooks::{Outcome, PostHook, Recorder};
 use up_lanes::{Lane, LaneEnd, StepEnd};
 use up_machine::Asked;
+use up_message::Sequence;
 use up_queue::TakeEnd;
-use up_wire::Sequence;
 
 /// The most items in a queue. All events of a lane find room there, and the end.
 const CAPACITY: u64 = 8;

@@ -7,7 +7,7 @@ use std::alloc::Global;
 use std::io::{self, ErrorKind};
 use up_events::{Id, MOST_BYTES};
 use up_headers::{Request, request_of};
-use up_wire::{Field, Message, Sequence};
+use up_message::{Field, Message, Sequence};
 
 /// Memory was refused.
 pub fn out_of_memory() -> io::Error {

@@ -8,7 +8,7 @@ use up_headers::{Pairs, Request};
 use up_hooks::Recorder;
 use up_lanes::How;
 use up_machine::{Ask, Book, Plan};
-use up_wire::Response;
+use up_message::Response;
 
 /// The ids of the rows are the numbers below this one.
 const ID_COUNT: u64 = 10;

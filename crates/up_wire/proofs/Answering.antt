@@ -5,17 +5,17 @@ use Rattle.std.proofs.Math.Nat.{eq-or-lt_of_le}
 use Rattle.std.specs.Str.Parse.{digits_value}
 use Rattle.httparse.specs.Grammar.{RequestHead}
 use Rattle.httparse.proofs.GrammarLemmas.{ReadsRequest-append}
-use Rattle.up_wire.specs.declared.message.Message.{Message}
+use Rattle.up_message.specs.declared.message.Message.{Message}
 use Rattle.up_wire.specs.declared.wire_fault.WireFault.{WireFault}
 use Rattle.up_wire.specs.declared.wire_fault.WireFault.TheVariants.{BadHead, HeadTooLarge, BadFraming, UnknownCoding, BodyTooLarge, ReadFailed, NoMemory, WriteFailed}
 use Rattle.up_wire.specs.declared.framing.Framing.{Framing}
 use Rattle.up_wire.specs.declared.framing.Framing.TheVariants.{NoBody, Sized, Chunked}
 use Rattle.up_wire.specs.declared.head.Head.{Head}
-use Rattle.up_wire.specs.Fields.{Field, same_name, values}
-use Rattle.up_wire.specs.Digits.{is_digits}
+use Rattle.up_message.specs.Fields.{Field, same_name, values}
+use Rattle.up_message.specs.Digits.{is_digits}
 use Rattle.up_wire.specs.Framing.{framed, framing, interim, closes}
 use Rattle.up_wire.specs.Message.{Ending, open_yet, ended, failed, IsHead, is_bare, framing_of, IsFault, IsFramingFault, IsBodyFault, HasParts}
-use Rattle.up_wire.specs.declared.message.Taken.{Taken}
+use Rattle.up_wire.specs.declared.taken.Taken.{Taken}
 use Rattle.up_wire.specs.Limits.{max_interruptions}
 use Rattle.up_wire.specs.Device.{Device, GaveUp, Broke}
 use Rattle.up_wire.specs.Reading.{IsInterimAtFault, IsDue, Shows, IsPatient, IsWriteFailure, interim_after}

@@ -2,12 +2,12 @@
 use Rattle.std.proofs.Common.{◌≡◌, ℕ, ◌<◌, ◌⊎◌, Some, false, List, [], ◌++◌, Ok, refl, sym, ap, ◌∙◌, subst, arith, append_assoc, inl, inr}
 use Rattle.httparse.specs.Grammar.{RequestHead, print_chunk_line}
 use Rattle.httparse.proofs.GrammarLemmas.{request_unique}
-use Rattle.up_wire.specs.declared.message.Message.{Message}
+use Rattle.up_message.specs.declared.message.Message.{Message}
 use Rattle.up_wire.specs.declared.wire_fault.WireFault.{WireFault}
 use Rattle.up_wire.specs.declared.wire_fault.WireFault.TheVariants as Fault
 use Rattle.up_wire.specs.declared.framing.Framing.{Framing}
 use Rattle.up_wire.specs.declared.framing.Framing.TheVariants.{Chunked}
-use Rattle.up_wire.specs.declared.message.Taken.{Taken}
+use Rattle.up_wire.specs.declared.taken.Taken.{Taken}
 use Rattle.up_wire.specs.Message.{Ending, open_yet, ended, failed, IsHead, HasParts, framing_of, is_bare}
 use Rattle.up_wire.specs.Device.{Device, device_of}
 use Rattle.up_wire.specs.Limits.{max_interruptions}

@@ -4,7 +4,7 @@ use Rattle.std.proofs.lemmas.List.{take-append-drop}
 use Rattle.httparse.specs.Grammar.{RequestHead, print_request, ReadsRequest, HasNoRequest, NeverHasRequest, MayBecomeRequest, EndsInTarget}
 use Rattle.httparse.specs.Spans.{RequestExceeds}
 use Rattle.up_wire.specs.declared.wire_fault.WireFault.TheVariants as Fault
-use Rattle.up_wire.specs.declared.message.Taken.{Taken}
+use Rattle.up_wire.specs.declared.taken.Taken.{Taken}
 use Rattle.up_wire.specs.OneAnswer.{StopsInTarget, refusal, MayStandFor, many_fields, many_fields_at_failure, in_target, in_target_at_failure}
 use Rattle.up_wire.specs.Message.{Ending, ended, failed, IsHead, IsBlank}
 use Rattle.up_wire.specs.Limits.{max_head, max_fields}

@@ -3,11 +3,11 @@ use Rattle.std.proofs.Common.{◌≡◌, ℕ, ◌⊎◌, Bool, false, List, [], 
 use Rattle.std.proofs.lemmas.List.{length-append}
 use Rattle.httparse.specs.Grammar.{RequestHead, ReadsRequest, HasNoRequest, MayBecomeRequest}
 use Rattle.httparse.proofs.GrammarLemmas.{ReadsRequest-append}
-use Rattle.up_wire.specs.declared.message.Message.{Message}
+use Rattle.up_message.specs.declared.message.Message.{Message}
 use Rattle.up_wire.specs.declared.wire_fault.WireFault.{WireFault}
 use Rattle.up_wire.specs.declared.wire_fault.WireFault.TheVariants as Fault
 use Rattle.up_wire.specs.declared.framing.Framing.{Framing}
-use Rattle.up_wire.specs.declared.message.Taken.{Taken}
+use Rattle.up_wire.specs.declared.taken.Taken.{Taken}
 use Rattle.up_wire.specs.Limits.{max_head}
 use Rattle.up_wire.specs.Message.{Ending, open_yet, ended, failed, IsHead, IsBlank, IsBadHead, IsTooLarge, IsReadFailure, IsFramingFault, IsCutBody, HasParts, framing_of, is_bare}
 use Rattle.up_wire.specs.OneAnswer.{MayAnswer, IsOfInput}

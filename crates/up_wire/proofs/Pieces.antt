@@ -3,7 +3,8 @@ use Rattle.std.proofs.Common.{◌≡◌, ℕ, zero, suc, ◌<◌, ◌≢◌, Boo
 use Rattle.std.specs.List.{list_any}
 use Rattle.std.proofs.lemmas.Bool.{eq-eqb, ne_eqb}
 use Rattle.httparse.specs.Grammar.{trim_ows}
-use Rattle.up_wire.specs.Fields.{cons_first, split_commas, same_name, has_token}
+use Rattle.up_message.specs.Fields.{cons_first, split_commas, same_name}
+use Rattle.up_wire.specs.Framing.{has_token}
 
 -- the first piece ends at the first comma
 split_commas_at : (xs : List ℕ) (i : ℕ) → i < length xs → get_or xs i 0 ≡ 44 → ((k : ℕ) → k < i → get_or xs k 0 ≢ 44) → split_commas xs ≡ take i xs ∷ split_commas (drop (suc i) xs)

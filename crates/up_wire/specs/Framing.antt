@@ -2,12 +2,13 @@
 use Rattle.std.specs.Prelude.{ℕ, Bool, true, false, ◌&&◌, ◌||◌, List, [], ◌∷◌, Result, Ok, Err, if◌then◌else◌, nat_lt, nat_le, ◌==◌, codes}
 use Rattle.std.specs.List.{list_any}
 use Rattle.std.specs.Str.Parse.{digits_value}
+use Rattle.httparse.specs.Grammar.{trim_ows}
 use Rattle.up_wire.specs.declared.wire_fault.WireFault.{WireFault}
 use Rattle.up_wire.specs.declared.wire_fault.WireFault.TheVariants as Fault
 use Rattle.up_wire.specs.declared.framing.Framing.{Framing}
 use Rattle.up_wire.specs.declared.framing.Framing.TheVariants.{NoBody, Sized, Chunked}
-use Rattle.up_wire.specs.Digits.{is_digits}
-use Rattle.up_wire.specs.Fields.{Field, values, same_name, says_close}
+use Rattle.up_message.specs.Digits.{is_digits}
+use Rattle.up_message.specs.Fields.{Field, values, same_name, split_commas}
 
 -- a `Content-Length` that stands alone
 abbrev pub sized : ℕ → List ℕ → Result Framing WireFault
@@ -47,6 +48,14 @@ is_continue value = same_name value (codes "100-continue")
 -- the client waits for `100 Continue`
 abbrev pub asks_to_continue : ℕ → List Field → Bool
 asks_to_continue minor fields = (minor == 1) && list_any is_continue (values (codes "expect") fields)
+
+-- whether one of the tokens of a value is this, without regard to case
+abbrev pub has_token : List ℕ → List ℕ → Bool
+has_token token value = list_any (λ piece. same_name (trim_ows piece) token) (split_commas value)
+
+-- whether a field says that the conversation closes (RFC 9112, section 9.3)
+abbrev pub says_close : List Field → Bool
+says_close fields = list_any (has_token (codes "close")) (values (codes "connection") fields)
 
 -- the conversation closes after the message
 abbrev pub closes : ℕ → List Field → Bool

@@ -3,13 +3,10 @@ pub mod Limits
 pub mod Device
 pub mod InMemory
 pub mod WireFaults
-pub mod Digits
-pub mod Fields
 pub mod Framing
 pub mod Chunks
 pub mod Message
 pub mod Reading
 pub mod Steps
 pub mod Response
-pub mod Refused
 pub mod OneAnswer

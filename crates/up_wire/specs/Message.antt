@@ -3,12 +3,12 @@ use Rattle.std.specs.Prelude.{◌≡◌, ℕ, ◌<◌, ◌≤◌, ◌⊎◌, Boo
 use Rattle.httparse.specs.Ascii.{carriage_return, line_feed}
 use Rattle.httparse.specs.Grammar.{RequestHead, print_request, ReadsRequest, HasNoRequest, NeverHasRequest, MayBecomeRequest}
 use Rattle.httparse.specs.Spans.{name_and_value, RequestExceeds}
-use Rattle.up_wire.specs.declared.message.Message.{Message}
+use Rattle.up_message.specs.declared.message.Message.{Message}
 use Rattle.up_wire.specs.declared.wire_fault.WireFault.{WireFault}
 use Rattle.up_wire.specs.declared.wire_fault.WireFault.TheVariants as Fault
 use Rattle.up_wire.specs.declared.framing.Framing.{Framing}
 use Rattle.up_wire.specs.declared.framing.Framing.TheVariants.{NoBody, Sized, Chunked}
-use Rattle.up_wire.specs.Fields.{Field}
+use Rattle.up_message.specs.Fields.{Field}
 use Rattle.up_wire.specs.Framing.{framing, closes}
 use Rattle.up_wire.specs.Limits.{max_head, max_fields}
 use Rattle.up_wire.specs.Chunks.{IsChunked, IsCutChunked, IsChunkedFault}

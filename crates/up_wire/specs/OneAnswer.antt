@@ -2,11 +2,11 @@
 use Rattle.std.specs.Prelude.{◌≡◌, ◌≢◌, ℕ, ◌+◌, ◌-◌, ◌<◌, ◌≤◌, ◌⊎◌, Bool, false, List, [], ◌++◌, length, take, Some, Ok}
 use Rattle.httparse.specs.Grammar.{RequestHead, HasNoRequest, NeverHasRequest, NeverHasChunkLine, NeverHasSection, EndsInTarget}
 use Rattle.httparse.specs.Spans.{RequestExceeds, SectionExceeds}
-use Rattle.up_wire.specs.declared.message.Message.{Message}
+use Rattle.up_message.specs.declared.message.Message.{Message}
 use Rattle.up_wire.specs.declared.wire_fault.WireFault.{WireFault}
 use Rattle.up_wire.specs.declared.wire_fault.WireFault.TheVariants as Fault
 use Rattle.up_wire.specs.declared.framing.Framing.TheVariants.{Chunked}
-use Rattle.up_wire.specs.declared.message.Taken.{Taken}
+use Rattle.up_wire.specs.declared.taken.Taken.{Taken}
 use Rattle.up_wire.specs.Message.{Ending, open_yet, ended, failed, IsHead, framing_of}
 use Rattle.up_wire.specs.Limits.{max_head, max_fields, max_interruptions}
 use Rattle.up_wire.specs.Device.{Device, device_of, interrupted}

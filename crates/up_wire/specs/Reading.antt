@@ -4,7 +4,7 @@ use Rattle.std.specs.Io.KnownBytes.{Consumes, Appends, IsAtEnd}
 use Rattle.httparse.specs.Grammar.{RequestHead}
 use Rattle.up_wire.specs.declared.wire_fault.WireFault.{WireFault}
 use Rattle.up_wire.specs.declared.wire_fault.WireFault.TheVariants as Fault
-use Rattle.up_wire.specs.declared.message.Taken.{Taken}
+use Rattle.up_wire.specs.declared.taken.Taken.{Taken}
 use Rattle.up_wire.specs.declared.framing.Framing.{Framing}
 use Rattle.up_wire.specs.Device.{Device, interrupted, Broke}
 use Rattle.up_wire.specs.Limits.{max_interruptions}

@@ -5,8 +5,8 @@ use Rattle.std.specs.List.{concat}
 use Rattle.std.specs.Borrow.{Bor}
 use Rattle.httparse.specs.Ascii.{crlf_bytes}
 use Rattle.http.specs.StatusCode.{reason_phrase}
-use Rattle.up_wire.specs.declared.response.Response.{Response}
-use Rattle.up_wire.specs.Fields.{Field}
+use Rattle.up_message.specs.declared.response.Response.{Response}
+use Rattle.up_message.specs.Fields.{Field}
 use Rattle.up_wire.specs.Reading.{IsFront}
 
 -- some front of the text was written

@@ -2,10 +2,8 @@
 ghost use Rattle.std.specs.Prelude.{◌≡◌};
 ghost use Rattle.up_wire.specs.Framing.{sized, coded, framing};
 
-use crate::digits::{is_digits, number};
-use crate::fields::{Values, find_value, same_name};
-use crate::message::Field;
 use crate::wire_fault::WireFault;
+use up_message::{Field, Values, find_value, is_digits, number, same_name};
 
 /// How a head says where the body ends.
 #[derive(Clone, Copy, Debug)]

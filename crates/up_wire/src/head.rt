@@ -5,14 +5,13 @@ ghost use Rattle.http_header.specs.Token.{IsToken};
 ghost use Rattle.httparse.specs.Spans.{span_bytes, header_bytes, IsHeaderWithin, IsRequestWithin};
 ghost use Rattle.up_wire.specs.Steps.{IsParsed};
 
-use crate::fields::closes;
-use crate::message::{Field, Message};
-use crate::sequence::Sequence;
+use crate::connection::closes;
 use http::Method;
 use http::method::MethodError;
 use httparse::spans::{EMPTY_HEADER_SPAN, HeaderSpan, RequestSpans, parse_request};
 use httparse::{Error, Status};
 use std::alloc::{AllocError, Global};
+use up_message::{Field, Message, Sequence};
 
 /// How many fields a head may have.
 pub(crate) const MAX_FIELDS: usize = 64;

@@ -5,11 +5,11 @@ use crate::body::{BodyRead, read_body};
 use crate::device::{Sink, Source};
 use crate::framing::framing_of;
 use crate::head_reader::{HeadRead, read_head};
-use crate::message::{Limits, Taken};
-use crate::sequence::Sequence;
+use crate::taken::{Limits, Taken};
 use crate::wire_fault::WireFault;
 use crate::write::continue_if_asked;
 use std::alloc::Global;
+use up_message::Sequence;
 
 /// Reads the next message of HTTP/1.0 or HTTP/1.1, and no byte behind it (RFC 9112). Empty lines in front of it are
 /// dropped. The sink takes `100 Continue` alone, where the client waits for it (RFC 9110, section 10.1.1).

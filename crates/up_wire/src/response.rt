@@ -1,91 +1,16 @@
-//! What is answered.
-ghost use Rattle.std.specs.Prelude.{◌≡◌, ◌+◌, ◌<◌, ◌≤◌, ◌++◌, ◌∷◌, [], flat_map, IfOk, OnOk, OnErr};
+//! Writing a response.
+ghost use Rattle.std.specs.Prelude.{◌≡◌, ◌+◌, ◌<◌, ◌≤◌, flat_map, OnOk, OnErr};
 ghost use Rattle.up_wire.specs.Device.{GaveUp, Tries, interrupted};
 ghost use Rattle.up_wire.specs.Limits.{max_interruptions};
 ghost use Rattle.up_wire.specs.Steps.{WritesIf};
-ghost use Rattle.up_wire.specs.Refused.{plain_text, refused_with, out_of_memory};
 ghost use Rattle.up_wire.specs.Response.{Writes, phrase, start_text, field_line, length_line, end_text, response_text};
 
 use crate::device::Sink;
-use crate::message::Field;
-use crate::sequence::Sequence;
 use crate::text::WriteFailed;
 use crate::write::{send_on, write_each};
-use bytes::Bytes;
 use http::StatusCode;
 use itoa::Buffer;
-use std::alloc::{AllocError, Global};
-
-/// A response, without the lines that every response has.
-#[derive(Drop)]
-pub struct Response {
-    /// The status code (RFC 9110, section 15).
-    pub status: u16,
-    pub fields: Sequence<Field>,
-    /// The bytes of the content, which other owners may share (RFC 9110, section 6.4).
-    pub body: Bytes,
-}
-
-impl Response {
-    /// A response with no fields and no body. Takes no memory.
-    pub fn new(alloc: Global, status: u16) -> Self
-        ensures { result ≡ record { status = status; fields = []; body = [] } }
-    {
-        Response {
-            status,
-            fields: Sequence::new(alloc),
-            body: Bytes::new(),
-        }
-    }
-
-    /// With one field more, behind those before it. `AllocError` where memory for it was refused.
-    pub fn with_field(
-        mut self,
-        alloc: Global,
-        name: &[u8],
-        value: &[u8],
-    ) -> Result<Self, AllocError>
-        ensures { IfOk result (λ made. made
-            ≡ record self { fields = self.fields ++ (name.now, value.now) ∷ [] }) }
-    {
-        let name = Sequence::from_slice(alloc, name)?;
-        self.fields
-            .push((name, Sequence::from_slice(alloc, value)?))?;
-        Ok(self)
-    }
-
-    /// With this body, which is not copied. Takes no memory.
-    pub fn with_body(mut self, body: Bytes) -> Self
-        ensures { result ≡ record self { body = body } }
-    {
-        self.body = body;
-        self
-    }
-
-    /// With this body, which is not copied, and a last field that says that it is plain text. `AllocError` where memory
-    /// for the field was refused.
-    pub fn with_plain_text(self, alloc: Global, text: Bytes) -> Result<Self, AllocError>
-        ensures { IfOk result (λ made. made
-            ≡ record self { fields = self.fields ++ plain_text ∷ []; body = text }) }
-    {
-        let response = self.with_field(alloc, b"Content-Type", b"text/plain")?;
-        Ok(response.with_body(text))
-    }
-
-    /// To what is refused: why, as plain text. `AllocError` where memory was refused.
-    pub fn refused(alloc: Global, status: u16, text: &'static str) -> Result<Self, AllocError>
-        ensures { IfOk result (λ made. made ≡ refused_with status text.now) }
-    {
-        Response::new(alloc, status).with_plain_text(alloc, Bytes::from_static(text.as_bytes()))
-    }
-
-    /// To what there was no memory for: nothing but its status (RFC 9110, section 15.6.4). Takes no memory.
-    pub fn out_of_memory(alloc: Global) -> Self
-        ensures { result ≡ out_of_memory }
-    {
-        Response::new(alloc, 503)
-    }
-}
+use up_message::{Field, Response};
 
 fn write_field<W: Sink>(sink: &mut W, field: &Field, interruptions: &mut u32) -> bool
     requires { interruptions.old < max_interruptions }

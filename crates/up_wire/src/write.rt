@@ -8,8 +8,8 @@ ghost use Rattle.up_wire.specs.Response.{joined};
 ghost use Rattle.up_wire.specs.Steps.{WritesIf};
 ghost use Rattle.up_wire.specs.Limits.{max_interruptions};
 
+use crate::connection;
 use crate::device::{Sink, WriteSome};
-use crate::fields;
 use crate::framing::Framing;
 use crate::head::Head;
 use crate::step::MAX_INTERRUPTIONS;
@@ -103,7 +103,7 @@ pub(crate) fn continue_if_asked<W: Sink>(
     ensures tries { Tries (W.device sink.old) (W.device sink.new)
         interruptions.old interruptions.new result }
 {
-    if has_body(framing) && fields::asks_to_continue(head.minor, head.fields.as_slice()) {
+    if has_body(framing) && connection::asks_to_continue(head.minor, head.fields.as_slice()) {
         if !write_all(sink, b"HTTP/1.1 100 Continue\r\n\r\n", interruptions) {
             return false;
         }

@@ -10,7 +10,7 @@ use std::test::Fail;
 use up_events::Kind;
 use up_hooks::{PreHook, PreHooks};
 use up_machine::{Ask, Asked, Point, Reason, Verdict};
-use up_wire::Sequence;
+use up_message::Sequence;
 
 /// With what a closure refuses: a status and a reason.
 type Refusal = (u16, &'static str);

@@ -9,7 +9,7 @@ use std::alloc::Global;
 use up_events::{Id, Kind, MOST_BYTES};
 use up_headers::{NewUpload, NotDigits, Patch, Request, pairs_of};
 use up_machine::{Asked, Reason};
-use up_wire::Sequence;
+use up_message::Sequence;
 
 /// A text as bytes. One that is empty is none.
 fn text_of(alloc: Global, text: &str) -> Result<Option<Sequence<u8>>, RowFault> {

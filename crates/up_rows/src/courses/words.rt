@@ -4,7 +4,7 @@ use std::alloc::Global;
 use std::fmt::Write;
 use up_events::{Accepted, Id};
 use up_machine::{Ask, Book, Done, Plan, Refusal, response_of};
-use up_wire::{Response, Sequence};
+use up_message::{Response, Sequence};
 
 /// The ids of these rows are the numbers below this one.
 const ID_COUNT: u64 = 10;

@@ -4,7 +4,7 @@ use std::alloc::Global;
 use up_events::{Id, Kind, NoMemory};
 use up_headers::{NewUpload, Patch, Request};
 use up_machine::{Asked, Book, Refusal};
-use up_wire::Sequence;
+use up_message::Sequence;
 
 /// A book of two lanes, for uploads of 8 bytes.
 fn new_book(alloc: Global) -> Result<Book, NoMemory> {

@@ -6,7 +6,8 @@ use std::fmt::Write;
 use up_headers::{
     HeaderFault, MetadataFault, NewUpload, Pairs, Patch, Request, pairs_of, request_of,
 };
-use up_wire::{Field, Message, Sequence, WireFault};
+use up_message::{Field, Message, Sequence};
+use up_wire::WireFault;
 
 /// The most bytes of an upload in these rows.
 const MAX_SIZE: u64 = 10;

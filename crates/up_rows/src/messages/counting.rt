@@ -2,9 +2,8 @@
 use crate::row_fault::RowFault;
 use std::alloc::Global;
 use up_headers::pairs_of;
-use up_wire::{
-    Input, Limits, Message, Output, Run, Sink, Source, Taken, Values, find_value, read_message,
-};
+use up_message::{Message, Values, find_value};
+use up_wire::{Input, Limits, Output, Run, Sink, Source, Taken, read_message};
 
 /// How many bytes a pass takes at once.
 const ROOM: usize = 8192;

@@ -6,7 +6,8 @@ use crate::row_fault::RowFault;
 use std::alloc::{AllocError, Global};
 use std::cell::Cell;
 use std::fmt::Write;
-use up_wire::{Input, Limits, Message, Source, Taken, read_message};
+use up_message::Message;
+use up_wire::{Input, Limits, Source, Taken, read_message};
 
 /// The most bytes of a body in these rows.
 const LIMIT: u64 = 20;

@@ -8,7 +8,8 @@ use std::alloc::{AllocError, Global};
 use std::cell::Cell;
 use std::io::BufWriter;
 use up_escape::put_bytes;
-use up_wire::{Output, Response, WriteFailed, flush, write_pieces, write_response};
+use up_message::Response;
+use up_wire::{Output, WriteFailed, flush, write_pieces, write_response};
 
 /// A response, whether it is bare, and whether it closes.
 #[derive(Drop)]

@@ -1,5 +1,5 @@
 use Rattle.std.proofs.Common.{◌≡◌, ◌∙◌, None, refl, sym, subst}
-use Rattle.up_wire.specs.declared.message.Taken.TheVariants as Taken
+use Rattle.up_wire.specs.declared.taken.Taken.TheVariants as Taken
 use Rattle.up_dispatch.specs.Turn.{IsFaultSent, unanswered}
 use Rattle.up_dispatch.proofs.conversation.take_turn.Goals as goal
 

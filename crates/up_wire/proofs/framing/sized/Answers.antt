@@ -3,7 +3,7 @@ use Rattle.std.specs.Str.Parse.{digits_value}
 use Rattle.std.proofs.lemmas.Bool.{cond-true, cond-false, le-leb, lt-leb}
 use Rattle.up_wire.specs.declared.wire_fault.WireFault.TheVariants.{BodyTooLarge, BadFraming}
 use Rattle.up_wire.specs.declared.framing.Framing.TheVariants.{Sized}
-use Rattle.up_wire.specs.Digits.{is_digits}
+use Rattle.up_message.specs.Digits.{is_digits}
 use Rattle.up_wire.specs.Framing.{sized}
 use Rattle.up_wire.proofs.framing.sized.Goals as goal
 
