@@ -1,8 +1,12 @@
-//! Texts that stand for bytes, with Rust's escapes: `\r`, `\n`, `\t`, `\\`, `\'`, `\"` and `\xHH`.
+//! Texts that stand for bytes, with Rust's escapes: `\r`, `\n`, `\t`, `\\`, `\'`, `\"` and `\xHH`; and the first line in which
+//! two texts differ.
 #![tactic(auto)]
 
 ghost use Rattle.std.specs.Prelude.{◌<◌, IfOk, length};
 
+mod line_difference;
+
+pub use crate::line_difference::{LineDifference, difference};
 use std::alloc::AllocError;
 use thiserror::Error;
 

@@ -3,11 +3,11 @@ ghost use Rattle.std.specs.Prelude.{◌≡◌, ◌≢◌, Ok, IsOk, IsNone, IsTr
 ghost use Rattle.up_events.specs.Delivery.{IsPrefix};
 ghost use Rattle.up_talks.specs.declared.comparison.Comparison.TheVariants.{Line, Same};
 
-use crate::difference::{LineDifference, difference};
 use crate::serving::Served;
 use crate::talk::Talk;
 use std::alloc::{AllocError, Global};
 use std::fmt;
+use up_escape::{LineDifference, difference};
 use up_server::ServerFault;
 
 /// How what came of a talk stands to what must come of it.

@@ -29,7 +29,6 @@
 #![tactic(auto)]
 
 mod comparison;
-mod difference;
 mod line_fault;
 mod reading;
 mod serving;

@@ -1,4 +1,4 @@
-//! Where what came of a talk is not what must come of it.
+//! Where two texts differ.
 ghost use Rattle.std.specs.Prelude.{◌≡◌, ◌≤◌, ◌↔◌, IsNone, length};
 
 use std::fmt;
