@@ -8,7 +8,9 @@ use std::fmt;
 pub struct LineDifference<'a> {
     /// Its number, counted from 1.
     pub number: usize,
+    /// The line in the one text, with its end; empty where that text has ended.
     pub wanted: &'a [u8],
+    /// The line in the other, so too.
     pub written: &'a [u8],
 }
 
@@ -45,7 +47,7 @@ fn line_at(text: &[u8], start: usize) -> &[u8]
     }
 }
 
-/// The first line in which the texts differ, where they do.
+/// The first line in which the texts differ, where they do. A line ends behind its line feed.
 pub fn difference<'a>(wanted: &'a [u8], written: &'a [u8]) -> Option<LineDifference<'a>>
     ensures { IsNone result ↔ (wanted.now ≡ written.now) }
 {
