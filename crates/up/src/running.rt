@@ -10,9 +10,20 @@ use std::sync::Wait;
 use std::thread::Threads;
 use up_connections::{Drawn, Visits};
 use up_events::Event;
-use up_hooks::{Outcome, PostHook, PreHooks, Recorder, new_recorders};
-use up_server::{EventLines, ServerFault, Words, replay, serve};
+use up_hooks::{Outcome, PostHook, PreHooks, Recorder, Teller, new_recorders, new_tellers};
+use up_server::{EventLines, ServerFault, Words, keep_serving, replay, serve};
 use up_wire::{Output, Sink};
+
+/// How a server that is to run without an end is visited, if these words ask for one.
+fn endless(words: &Words) -> Option<Visits> {
+    match &words.serve {
+        Some(serving) if serving.connections.is_none() => Some(Visits {
+            connections: None,
+            open: serving.open,
+        }),
+        _ => None,
+    }
+}
 
 /// Serves what the words ask for, with these closures, and with post-hooks that write their event as a line, where there are lines, and
 /// answer that they are done. An error is a standard stream that can't be had, or want of memory for it.
@@ -35,10 +46,45 @@ pub fn run_with<
             None => Outcome::Done,
         }
     };
-    match new_recorders(rt.alloc(), words.settings.lanes, answer) {
-        Ok(recorders) => run_over(rt, words, listener, hooks, recorders),
-        Err(_) => Ok(Err(ServerFault::Memory)),
+    let lanes = words.settings.lanes;
+    match (endless(words), listener) {
+        (Some(visits), Some(listener)) => match new_tellers(rt.alloc(), lanes, answer) {
+            Ok(tellers) => run_on(rt, words, &visits, listener, hooks, tellers),
+            Err(_) => Ok(Err(ServerFault::Memory)),
+        },
+        (_, listener) => match new_recorders(rt.alloc(), lanes, answer) {
+            Ok(recorders) => run_over(rt, words, listener, hooks, recorders),
+            Err(_) => Ok(Err(ServerFault::Memory)),
+        },
     }
+}
+
+/// Serves what the listener accepts, with these closures and post-hooks, and keeps nothing of what went by.
+fn run_on<
+    F: Fn(&Event) -> Outcome + Send + Drop,
+    R: AllocGlobal + RandomSource + Threads + Wait + Sync,
+>(
+    rt: &R,
+    words: &Words,
+    visits: &Visits,
+    listener: TcpListener,
+    hooks: PreHooks,
+    tellers: Vec<Teller<F>>,
+) -> io::Result<Result<(), ServerFault>>
+    requires one_for_each { length tellers.items ≡ words.now.settings.lanes }
+    requires new { All (λ t. ⟦<Teller<F> as PostHook>⟧.is_sound t × (⟦<Teller<F> as PostHook>⟧.handed t ≡ [])) tellers.items }
+{
+    let ids = Drawn::new(rt)?;
+    Ok(keep_serving(
+        rt,
+        rt.alloc(),
+        hooks,
+        tellers,
+        &words.settings,
+        listener,
+        visits,
+        ids,
+    ))
 }
 
 /// Serves what the listener accepts, or else standard input, with these closures and post-hooks.

@@ -9,7 +9,7 @@ ghost use Rattle.up_headers.specs.declared.request.Request.TheVariants as reques
 use std::alloc::Global;
 use up_events::{Id, Kind, NoMemory};
 use up_headers::{NewUpload, Patch, Request};
-use up_message::Sequence;
+use up_message::{Piece, Sequence};
 
 /// To make a plain upload without metadata. Where no length is given it is declared later.
 pub fn creation(alloc: Global, length: Option<u64>) -> Request
@@ -37,6 +37,6 @@ pub fn append(alloc: Global, id: Id, offset: u64, bytes: &[u8]) -> Result<Reques
         media: true,
         offset: Some(offset),
         length: None,
-        bytes: Sequence::from_slice(alloc, bytes)?,
+        bytes: Piece::copied(alloc, bytes)?,
     }))
 }

@@ -69,7 +69,7 @@ fn change<B: Naming, R: Wait>(
 
 /// Of each upload every event was handed over: it was made, and then it has a byte more each time.
 fn tells_all<F, R: Abort>(rt: &R, report: &Report<Recorder<F>>) -> Result<(), Fail> {
-    assert_eq!(rt; report.accepted.len(), UPLOADS + 2 * CHANGES);
+    assert_eq!(rt; report.accepted.len(), (UPLOADS + 2 * CHANGES) as u64);
     let mut counts = [0u64; UPLOADS];
     for lane in &report.lanes {
         assert_eq!(rt; (lane.how, lane.left), (How::Drained, 0));

@@ -1,8 +1,9 @@
-//! Many connections, each in a thread of its own.
+//! Many connections at a time, each in a thread that serves it alone.
 ghost use Rattle.std.specs.Prelude.{◌≤◌};
 
 use crate::door::Door;
 use crate::hall::Hall;
+use crate::pool::Pool;
 use crate::seats::Seats;
 use crate::visit::attend;
 use std::alloc::{AllocError, Global};
@@ -41,7 +42,26 @@ fn is_want(fault: &io::Error) -> bool {
     )
 }
 
-/// Starts a thread for a connection, which is told when it ends.
+/// Serves a connection, and then others as they are handed over. The door is told when each has ended.
+fn serve_in_turn<B: Naming, I: Ids, T: Wait>(
+    rt: &T,
+    alloc: Global,
+    hall: &Hall<'_, B, I>,
+    hooks: &PreHooks,
+    first: TcpStream,
+) {
+    let mut next = Some(first);
+    for _ in rt.forever() {
+        let Some(stream) = next else {
+            break;
+        };
+        attend(rt, alloc, hall, hooks, stream);
+        hall.door.leave(rt);
+        next = hall.pool.next(rt);
+    }
+}
+
+/// Starts a thread for a connection, and for others that are handed over when it has ended.
 fn start<'s, E, B: Naming + Send + Sync + 's, I: Ids + Send + 's, T: Wait + Sync + 's>(
     scope: &Scope<'s, E>,
     rt: &'s T,
@@ -51,8 +71,7 @@ fn start<'s, E, B: Naming + Send + Sync + 's, I: Ids + Send + 's, T: Wait + Sync
     stream: TcpStream,
 ) -> bool {
     let visit = move || {
-        attend(rt, alloc, hall, hooks, stream);
-        hall.door.leave(rt);
+        serve_in_turn(rt, alloc, hall, hooks, stream);
     };
     Builder::new()
         .stack_size(STACK)
@@ -60,8 +79,9 @@ fn start<'s, E, B: Naming + Send + Sync + 's, I: Ids + Send + 's, T: Wait + Sync
         .is_ok()
 }
 
-/// Accepts so many connections, and starts a thread for each. An accept that fails, and a connection for which no thread can be started,
-/// count as a connection that has ended; where that is for want of something, the next waits until another has ended.
+/// Accepts so many connections, and hands each to a thread that waits for one, or starts a thread for it. An accept that fails, and a
+/// connection for which no thread can be started, count as a connection that has ended; if that is for want of something, the next waits
+/// until another has ended.
 fn accept_all<'s, E, B: Naming + Send + Sync + 's, I: Ids + Send + 's, T: Wait + Sync + 's>(
     scope: &Scope<'s, E>,
     rt: &'s T,
@@ -75,14 +95,17 @@ fn accept_all<'s, E, B: Naming + Send + Sync + 's, I: Ids + Send + 's, T: Wait +
         let told = hall.door.enter(rt, visits.open);
         match listener.accept() {
             Ok((stream, _)) => {
-                if !start(scope, rt, alloc, hall, hooks, stream) {
-                    hall.door.leave_in_want(rt, told);
+                if let Some(stream) = hall.pool.hand(rt, stream) {
+                    if !start(scope, rt, alloc, hall, hooks, stream) {
+                        hall.door.leave_in_want(rt, told);
+                    }
                 }
             }
             Err(fault) if is_want(&fault) => hall.door.leave_in_want(rt, told),
             Err(_) => hall.door.leave(rt),
         }
     }
+    hall.pool.close(rt);
 }
 
 /// Accepts so many connections in a scope, and returns when the last of them has ended.
@@ -117,6 +140,7 @@ pub fn serve_connections<B: Naming + Send + Sync, I: Ids + Send + Drop, T: Threa
     let hall = Hall {
         board,
         door: Door::new(),
+        pool: Pool::new(alloc)?,
         ids: Mutex::new(ids),
         seats: Seats::new(alloc, visits.open)?,
         max_size,

@@ -3,6 +3,7 @@ ghost use Rattle.std.specs.Prelude.{◌≤◌};
 ghost use Rattle.up_events.specs.declared.limits.TheConstants.{MOST_BYTES};
 
 use crate::door::Door;
+use crate::pool::Pool;
 use crate::seats::Seats;
 use std::sync::Mutex;
 use up_dispatch::{Board, Naming};
@@ -12,6 +13,7 @@ use up_dispatch::{Board, Naming};
 pub struct Hall<'a, B: Naming, I> {
     pub board: &'a Board<B>,
     pub door: Door,
+    pub pool: Pool,
     pub ids: Mutex<I>,
     pub seats: Seats<B>,
     pub max_size: u64,

@@ -5,6 +5,7 @@ mod accept;
 mod door;
 mod drawn;
 mod hall;
+mod pool;
 mod seats;
 mod visit;
 

@@ -16,14 +16,21 @@ use up_events::MOST_BYTES;
 use up_hooks::PreHooks;
 use up_wire::{Input, Output, Sink, Source};
 
-/// How many bytes are read at a time.
-const READ_AHEAD: usize = 8192;
+/// How many bytes the buffer of a connection holds that is read into. Heads are read through it, and small bodies; the bytes of
+/// larger ones are read straight to their places.
+const READ_BUFFER: usize = 4096;
+
+/// How many bytes the buffer of its answers holds. The bytes of a GET are written straight from their places.
+const WRITE_BUFFER: usize = 1024;
+
+/// How many bytes are read and dropped at a time.
+const DROPPED: usize = 8192;
 
 /// How many seconds a connection that is being closed waits for the client's next bytes, or for its close.
 const LINGERING: u64 = 2;
 
 /// How many times bytes are read and dropped of a connection that is being closed.
-const MOST_DROPPED: usize = MOST_BYTES as usize / READ_AHEAD;
+const MOST_DROPPED: usize = MOST_BYTES as usize / DROPPED;
 
 /// Serves one conversation from a seat of the board, with ids of this source.
 pub fn converse_at<B: Naming, I: Ids, R: Source, W: Sink, T: Wait>(
@@ -57,8 +64,8 @@ fn talk<B: Naming, I: Ids, T: Wait>(
     stream: &TcpStream,
 ) -> io::Result<Ended> {
     stream.set_nodelay(true)?;
-    let mut source = Input::new(BufReader::with_capacity(alloc, READ_AHEAD, stream)?);
-    let mut sink = Output::new(BufWriter::new(alloc, stream)?);
+    let mut source = Input::new(BufReader::with_capacity(alloc, READ_BUFFER, stream)?);
+    let mut sink = Output::new(BufWriter::with_capacity(alloc, WRITE_BUFFER, stream)?);
     let mut ids = SharedIds { rt, ids: &hall.ids };
     Ok(converse_at(
         rt,
@@ -74,11 +81,13 @@ fn talk<B: Naming, I: Ids, T: Wait>(
 }
 
 /// Closes a connection behind its last answer. What the client has sent without being heard, or goes on sending, is read and dropped: the
-/// system would drop the answer where a connection is closed with bytes unread (RFC 9112, section 9.6).
+/// system would drop the answer where a connection is closed with bytes unread (RFC 9112, section 9.6). It has a frame of its own, so
+/// that its buffer takes no room on the stack while the connection is served.
+#[inline(never)]
 fn close(stream: &TcpStream) -> io::Result<()> {
     stream.shutdown(Shutdown::Write)?;
     stream.set_read_timeout(Some(Duration::from_secs(LINGERING)))?;
-    let mut dropped = [0; READ_AHEAD];
+    let mut dropped = [0; DROPPED];
     let mut unheard = stream;
     for _ in 0..MOST_DROPPED {
         if unheard.read(&mut dropped)? == 0 {

@@ -1,6 +1,6 @@
 -- What keeps a lane's queue in step with its log.
-use Rattle.std.proofs.Common.{◌≡◌, ℕ, ◌+◌, ◌<◌, List, [], ◌∷◌, ◌++◌, length, take, drop, get_or, Bool, true, false, true≢false, refl, sym, ap, ◌∙◌, subst, arith, length-append, append-nil, take-append-drop}
-use Rattle.std.proofs.lemmas.List.{take_more, take-append-le, map-append}
+use Rattle.std.proofs.Common.{◌≡◌, ℕ, ◌+◌, ◌-◌, ◌≤◌, ◌<◌, List, [], ◌∷◌, ◌++◌, length, take, drop, get_or, Bool, true, false, true≢false, refl, sym, ap, ◌∙◌, subst, arith, length-append, append-nil, take-append-drop}
+use Rattle.std.proofs.lemmas.List.{get_or-drop, take_more, take-append-le, map-append}
 use Rattle.up_events.specs.Log.{IsLawful}
 use Rattle.up_events.specs.declared.event.Event.{Event}
 use Rattle.up_queue.specs.declared.item.Item.{Item}
@@ -20,6 +20,10 @@ items_next log n d less = sym (ap items_of (take_more log n d less) ∙ map-appe
 
 going_is : (put : List Item) (xs : List Event) (ended : Bool) → put ≡ items_if xs ended → ended ≡ false → put ≡ items_of xs
 going_is put xs ended is going = is ∙ ap (items_if xs) going ∙ append-nil (items_of xs)
+
+-- what stands at a place of the log stands in what is left from an earlier place on
+pub read_on : (log : List Event) (first place : ℕ) (d : Event) → first ≤ place → get_or (drop first log) (place - first) d ≡ get_or log place d
+read_on log first place d there = get_or-drop first log (place - first) d ∙ ap (λ n. get_or log n d) (omega arith)
 
 -- the end was not put where events are left
 pub still_going : (log : List Event) (closed ended : Bool) (cursor : ℕ) → (ended ≡ true → (closed ≡ true) × (cursor ≡ length log)) → cursor < length log → ended ≡ false

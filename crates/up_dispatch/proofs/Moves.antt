@@ -1,5 +1,5 @@
 -- What a call leaves behind the lock.
-use Rattle.std.proofs.Common.{◌≡◌, ◌≢◌, ℕ, zero, suc, ◌+◌, ◌<◌, ◌%◌, List, [], ◌∷◌, ◌++◌, length, get_or, set, map, false, cond, eqb, Option, Some, None, IsSome, is_some, refl, sym, ap, ◌∙◌, subst, arith, length-append, length-set, get_or-set_same, get_or-set_other, ⊎_elim}
+use Rattle.std.proofs.Common.{◌≡◌, ◌≢◌, ℕ, zero, suc, ◌+◌, ◌<◌, ◌≤◌, ◌%◌, List, [], ◌∷◌, ◌++◌, length, get_or, set, map, false, cond, eqb, Option, Some, None, IsSome, is_some, refl, sym, ap, ◌∙◌, subst, arith, length-append, length-set, get_or-set_same, get_or-set_other, ⊎_elim}
 use Rattle.std.proofs.lemmas.Bool.{cases_eq}
 use mir.Val.{bool_byte}
 use Rattle.std.proofs.lemmas.List.{length-map, map-set}
@@ -7,13 +7,14 @@ use Rattle.up_events.specs.declared.event.Accepted.{Accepted}
 use Rattle.up_events.specs.declared.event.Event.{Event}
 use Rattle.up_events.specs.History.{id_of, steps_of, events_of}
 use Rattle.up_events.specs.Log.{numbered}
-use Rattle.up_events.specs.Records.{lane_log, noted}
+use Rattle.up_events.specs.Records.{Records, first_of, lane_log, noted}
 use Rattle.up_events.proofs.HistoryLemmas.{log_of-snoc}
 use Rattle.up_headers.specs.declared.request.Request.{Request}
 use Rattle.up_machine.specs.Fits.{IsSoundBook}
 use Rattle.up_machine.specs.State.{State, after}
 use Rattle.up_queue.specs.Sides.{QueueId, PutSide}
 use Rattle.up_dispatch.specs.declared.feed.Feed.{Feed}
+use Rattle.up_dispatch.specs.Lists.{EachAt}
 use Rattle.up_dispatch.specs.Fed.{IsFed}
 use Rattle.up_dispatch.specs.Commits.{changed}
 use Rattle.up_dispatch.specs.Puts.{no_end, end_at, Extends, FillsOnly, IsFilled}
@@ -74,6 +75,7 @@ lawful_change queue s t c feeds given total parts amount lawful going sound note
           subst (λ l. IsFed (queue k) l t.closed f) (sym log)
           (subst (λ b. IsFed (queue k) (lane_log s.journal k ++ more) b f) (sym (same ∙ going))
           (fed_grown (queue k) (lane_log s.journal k) more f (subst (λ b. IsFed (queue k) (lane_log s.journal k) b f) going was))));
+      behind = subst (λ (j : Records). EachAt (λ k (f : Feed). first_of j k ≤ f.cursor) feeds) (sym noted_is) lawful.behind;
       counted = omega (arith, lawful.counted, length-append s.journal.accepted (c ∷ []), ap (λ j. length j.accepted) noted_is);
       seats = lawful.seats;
       most = lawful.most;

@@ -2,7 +2,8 @@
 use Rattle.std.proofs.Common.{◌≡◌, ℕ, zero, suc, ◌<◌, ◌≤◌, List, [], ◌∷◌, length, get_or, map, refl, sym, ◌∙◌, subst, arith}
 use Rattle.std.proofs.lemmas.List.{length-map}
 use Rattle.up_events.specs.Records.{lane_log}
-use Rattle.up_machine.specs.State.{State}
+use Rattle.up_machine.specs.Fits.{IsSoundBook}
+use Rattle.up_machine.specs.State.{State, recalled}
 use Rattle.up_queue.specs.Sides.{QueueId, PutSide}
 use Rattle.up_dispatch.specs.declared.feed.Feed.{Feed}
 use Rattle.up_dispatch.specs.Lists.{EachAt}
@@ -24,9 +25,13 @@ module _ {X Y : Type 0} (f : X → Y) (P : ℕ → X → Type 0) (Q : ℕ → Y 
       let at = at_map f xs k e within' in
       subst (Q k) (sym at.1) (step k at.0 (subst (P k) (at.2 at.0) (all k at.0 within')))
 
+-- a book is sound whatever its journal has forgotten
+pub recalled_sound : (book : State) → IsSoundBook book → IsSoundBook (recalled book)
+recalled_sound book sound = record { legal = sound.legal; fits = sound.fits; small = sound.small }
+
 pub standing_lawful : (queue : ℕ → QueueId) (book : State) (feeds : List Feed) (given total parts amount : ℕ) → IsLawfulBoard queue book feeds given total parts amount → IsLawfulStanding queue (standing book feeds given total)
 standing_lawful queue book feeds given total parts amount lawful = record {
-  sound = lawful.sound;
+  sound = recalled_sound book lawful.sound;
   lanes = length-map feeds (λ (f : Feed). f.put_end) ∙ lawful.lanes;
   queues = EachAt-map (λ (f : Feed). f.put_end) (λ k (f : Feed). IsFed (queue k) (lane_log book.journal k) book.closed f) (λ k (e : PutSide). e.queue ≡ queue k) feeds lawful.fed (λ k f fed. fed.queue_is);
   puts = EachAt-map (λ (f : Feed). f.put_end) (λ k (f : Feed). IsFed (queue k) (lane_log book.journal k) book.closed f) (λ k (e : PutSide). IsPutOf book k e) feeds lawful.fed (λ k f fed. (f.cursor, f.ended, fed.put_is, fed.within, fed.whole));

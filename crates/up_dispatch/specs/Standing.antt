@@ -1,7 +1,7 @@
 -- The value behind the board's lock.
 use Rattle.std.specs.Prelude.{◌≡◌, ℕ, ◌+◌, ◌<◌, ◌≤◌, Bool, true, List, length, map, take}
-use Rattle.up_events.specs.Records.{lane_log}
-use Rattle.up_machine.specs.State.{State}
+use Rattle.up_events.specs.Records.{first_of, lane_log}
+use Rattle.up_machine.specs.State.{State, recalled}
 use Rattle.up_machine.specs.Fits.{IsSoundBook}
 use Rattle.up_queue.specs.Line.{items_if}
 use Rattle.up_queue.specs.Sides.{QueueId, PutSide}
@@ -20,16 +20,19 @@ pub record Standing : Type 0 where
 abbrev pub ends_of : List Feed → List PutSide
 ends_of feeds = map (λ (f : Feed). f.put_end) feeds
 
+-- what the journal has forgotten is no part of it: that is no more than was put
 abbrev pub standing : State → List Feed → ℕ → ℕ → Standing
-standing book feeds given total = record { book = book; ends = ends_of feeds; given = given; total = total }
+standing book feeds given total = record { book = recalled book; ends = ends_of feeds; given = given; total = total }
 
--- the book is sound, and there is some lane; each lane's queue was put a beginning of its log; the ledger counts the changes; the seats that
+-- the book is sound, and there is some lane; each lane's queue was put a beginning of its log, in which are all events that
+-- the log has forgotten; the ledger counts the changes; the seats that
 -- are left are kept here, and count nothing
 pub record IsLawfulBoard (queue : ℕ → QueueId) (book : State) (feeds : List Feed) (given total parts amount : ℕ) : Type 0 where
   pub sound : IsSoundBook book
   pub some : 0 < book.journal.lanes
   pub lanes : length feeds ≡ book.journal.lanes
   pub fed : EachAt (λ k (f : Feed). IsFed (queue k) (lane_log book.journal k) book.closed f) feeds
+  pub behind : EachAt (λ k (f : Feed). first_of book.journal k ≤ f.cursor) feeds
   pub counted : total ≡ length book.journal.accepted
   pub seats : parts + given ≡ MOST_SEATS + 1
   pub most : given ≤ MOST_SEATS

@@ -14,7 +14,7 @@ use std::sync::{Condvar, Mutex, Wait};
 use up_events::{Id, MOST_BYTES, MOST_LANES, NoMemory};
 use up_headers::Request;
 use up_lanes::Refill;
-use up_machine::{Asked, Done, Plan, Refusal};
+use up_machine::{Asked, Done, Plan, Refusal, Remains};
 use up_queue::TakeEnd;
 
 /// A book that threads share. What lies under its lock is a lawful board whenever the lock is free.
@@ -50,9 +50,31 @@ impl<B: Naming> Board<B> {
         ensures capacities { IfOk result (λ r. capacities_of r.1.items ≡ parts.capacities) }
     {
         let (inside, takes) = Inside::new(alloc, parts, max_size)?;
-        let bells = new_bells(alloc, takes.len())?;
+        Ok((Board::over(alloc, inside, takes.len())?, takes))
+    }
+
+    /// The same, for a board that may run without an end: it counts the changes and doesn't keep them.
+    pub fn forgetting(
+        alloc: Global,
+        parts: BoardParts,
+        max_size: u64,
+    ) -> Result<(Board<B>, Vec<TakeEnd>), NoMemory>
+        requires named { IsNamed B.name B.parts B.queue parts }
+        requires some_lane { 0 < length parts.queues }
+        requires few_lanes { length parts.queues ≤ MOST_LANES }
+        requires small { max_size ≤ MOST_BYTES }
+        ensures ends { IfOk result (λ r. (length r.1.items ≡ length parts.queues) × EachAt (λ k e. (e.taken ≡ []) × (e.queue ≡ B.queue k)) r.1.items) }
+        ensures capacities { IfOk result (λ r. capacities_of r.1.items ≡ parts.capacities) }
+    {
+        let (inside, takes) = Inside::forgetting(alloc, parts, max_size)?;
+        Ok((Board::over(alloc, inside, takes.len())?, takes))
+    }
+
+    // The lock round it, and the bells.
+    fn over(alloc: Global, inside: Inside<B>, lanes: usize) -> Result<Board<B>, NoMemory> {
+        let bells = new_bells(alloc, lanes)?;
         let inside = Mutex::new(inside);
-        Ok((Board { inside, bells }, takes))
+        Ok(Board { inside, bells })
     }
 
     /// A seat from which no change was made, unless all were given out.
@@ -78,7 +100,8 @@ impl<B: Naming> Board<B> {
         inside.plan(alloc, request)
     }
 
-    /// Decides on a request from a seat, in some state of the board that has all changes made from this seat.
+    /// Decides on a request from a seat, in some state of the board that has all changes made from this seat. What the book then
+    /// has no more, as the bytes of an upload that was removed, is dropped after the lock is free.
     pub fn commit<R: Wait>(
         &self,
         rt: &R,
@@ -91,9 +114,10 @@ impl<B: Naming> Board<B> {
         requires bounded { FitsWithin MOST_BYTES request }
         ensures { SeatCommits B.queue seat.old request id asked.now seat.new result }
     {
+        let mut remains = Remains::new();
         let mut inside = self.inside.lock(rt);
         let lanes = inside.lanes();
-        let result = inside.commit(rt, alloc, seat, request, id, asked);
+        let result = inside.commit(rt, alloc, seat, request, id, asked, &mut remains);
         drop(inside);
         if let Ok(
             Done {
@@ -104,6 +128,7 @@ impl<B: Naming> Board<B> {
         {
             self.ring(change.id().lane(lanes));
         }
+        remains.release();
         result
     }
 

@@ -16,7 +16,7 @@ use crate::seat::Seat;
 use std::alloc::Global;
 use std::sync::Mutex;
 use std::sync::ledger::Share;
-use up_events::{Accepted, NoMemory};
+use up_events::Changes;
 use up_hooks::PostHook;
 use up_lanes::{How, LaneEnd};
 use up_machine::Book;
@@ -53,10 +53,10 @@ pub struct LaneReport<H> {
     pub left: u64,
 }
 
-/// The accepted changes in order, and what each lane handed over of them, in the order of the lanes.
+/// The accepted changes in order, kept or counted, and what each lane handed over of them, in the order of the lanes.
 #[derive(Drop)]
 pub struct Report<H> {
-    pub accepted: Vec<Accepted>,
+    pub accepted: Changes,
     pub lanes: Vec<LaneReport<H>>,
 }
 
@@ -78,11 +78,10 @@ fn report_of<H: PostHook + Drop>(book: &Book, feed: Feed, end: LaneEnd<H>) -> La
         cursor,
         ended,
     } = feed;
-    let log = book.journal().lane_log(lane);
     let held = compare(put_end, take_end);
-    let taken = cursor as u64 + u64::from(ended) - held;
-    let handed = taken - u64::from(how.is_drained());
-    let left = log.len() as u64 - handed;
+    let end = u64::from(ended) - u64::from(how.is_drained());
+    let unput = book.journal().log_len(lane) - cursor;
+    let left = unput + (held - end);
     LaneReport {
         lane,
         hook,
@@ -114,10 +113,10 @@ fn settle<H: PostHook + Drop>(
 }
 
 // How many of the changes were made from no seat that came.
-fn missing<B: Naming>(changes: usize, seats: &[Seat<B>]) -> u64
+fn missing<B: Naming>(changes: u64, seats: &[Seat<B>]) -> u64
     ensures { result ≡ changes - sum seats.now }
 {
-    let mut missing = changes as u64;
+    let mut missing = changes;
     for seat in seats {
         missing = missing.saturating_sub(seat.count());
     }
@@ -151,13 +150,6 @@ fn in_order<H: PostHook + Drop>(lanes: &[LaneEnd<H>], count: usize) -> bool
     true
 }
 
-// The accepted changes, once more.
-fn accepted_by(alloc: Global, book: &Book) -> Result<Vec<Accepted>, NoMemory>
-    ensures { IfOk result (λ v. v.items ≡ book.now.journal.accepted) }
-{
-    Ok(book.journal().accepted().to_vec(alloc)?)
-}
-
 impl<B: Naming> Inside<B> {
     // What keeps the board from being finished with these.
     fn fault<H: PostHook + Drop>(
@@ -171,7 +163,7 @@ impl<B: Naming> Inside<B> {
             × ¬ IsInOrder (λ e. e.lane) self.now.book.journal.lanes lanes.now }
         ensures memory { result ≢ Some FinishFault.NoMemory }
     {
-        if missing(self.book.journal().accepted().len(), seats) > 0 {
+        if missing(self.book.journal().accepted_count(), seats) > 0 {
             return Some(FinishFault::SeatsOut);
         }
         if !in_order(lanes, self.feeds.len()) {
@@ -180,15 +172,14 @@ impl<B: Naming> Inside<B> {
         None
     }
 
-    // A report of no lane yet, with room for all, unless something keeps the board from being finished with these.
+    // Room for the reports of all lanes, unless something keeps the board from being finished with these.
     fn begun<H: PostHook + Drop>(
         &self,
         alloc: Global,
         seats: &[Seat<B>],
         lanes: &[LaneEnd<H>],
-    ) -> Result<Report<H>, FinishFault>
-        ensures accepted { IfOk result (λ r. r.accepted.items ≡ self.now.book.journal.accepted) }
-        ensures room { IfOk result (λ r. (r.lanes.items ≡ []) × (length lanes.now ≤ vec_capacity r.lanes)) }
+    ) -> Result<Vec<LaneReport<H>>, FinishFault>
+        ensures room { IfOk result (λ r. (r.items ≡ []) × (length lanes.now ≤ vec_capacity r)) }
         ensures all_seats { IfOk result (λ r. length self.now.book.journal.accepted ≤ sum seats.now) }
         ensures all_lanes { IfOk result (λ r. IsInOrder (λ e. e.lane) self.now.book.journal.lanes lanes.now) }
         ensures seats_out { IfErr result (λ fault. fault ≡ FinishFault.SeatsOut → sum seats.now < length self.now.book.journal.accepted) }
@@ -200,11 +191,8 @@ impl<B: Naming> Inside<B> {
         if let Some(fault) = self.fault(seats, lanes) {
             return Err(fault);
         }
-        let Ok(accepted) = accepted_by(alloc, &self.book) else {
-            return Err(FinishFault::NoMemory);
-        };
         match Vec::with_capacity(alloc, lanes.len()) {
-            Ok(lanes) => Ok(Report { accepted, lanes }),
+            Ok(reports) => Ok(reports),
             Err(_) => Err(FinishFault::NoMemory),
         }
     }
@@ -212,18 +200,18 @@ impl<B: Naming> Inside<B> {
     // The report with what each lane handed over.
     fn completed<H: PostHook + Drop>(
         self,
-        report: Report<H>,
+        reports: Vec<LaneReport<H>>,
         seats: Vec<Seat<B>>,
         lanes: Vec<LaneEnd<H>>,
     ) -> Report<H>
         requires queues { All (λ e. e.take_end.queue ≡ B.queue e.lane) lanes.items }
-        requires accepted { report.accepted.items ≡ self.book.journal.accepted }
-        requires room { (report.lanes.items ≡ []) × (vec_len lanes ≤ vec_capacity report.lanes) }
+        requires room { (reports.items ≡ []) × (vec_len lanes ≤ vec_capacity reports) }
         requires all_seats { length self.book.journal.accepted ≤ sum seats.items }
         requires all_lanes { IsInOrder (λ e. e.lane) self.book.journal.lanes lanes.items }
         ensures accepted { result.accepted.items ≡ self.book.journal.accepted }
+        ensures keeps { result.accepted.keeps ≡ self.book.journal.keeps }
         ensures legal { IsLegal result.accepted.items }
-        ensures counts { vec_len result.accepted ≡ sum seats.items }
+        ensures counts { length result.accepted.items ≡ sum seats.items }
         ensures lanes { (vec_len result.lanes ≡ vec_len lanes) × EachPair (λ e x. (x.lane ≡ e.lane) × (x.hook ≡ e.hook) × (x.how ≡ e.how)) lanes.items result.lanes.items }
         ensures handed { HandOver H.handed (vec_len result.lanes) result.accepted.items result.lanes.items }
         ensures delivered { TellEachUpload H.handed (vec_len result.lanes) result.accepted.items result.lanes.items }
@@ -237,14 +225,9 @@ impl<B: Naming> Inside<B> {
         } = self;
         let mut all = gathered(rest, seats);
         total.audit(&mut all);
-        let Report {
-            accepted,
-            lanes: reports,
-        } = report;
-        Report {
-            accepted,
-            lanes: settle(&book, reports, feeds, lanes),
-        }
+        let lanes = settle(&book, reports, feeds, lanes);
+        let accepted = book.into_accepted();
+        Report { accepted, lanes }
     }
 
     /// As `Board::finish`, without a lock.
@@ -262,14 +245,15 @@ impl<B: Naming> Inside<B> {
         ensures no_memory { IfErr result (λ u. u.fault ≡ FinishFault.NoMemory → (length self.book.journal.accepted ≤ sum seats.items)
             × IsInOrder (λ e. e.lane) self.book.journal.lanes lanes.items) }
         ensures accepted { IfOk result (λ r. r.accepted.items ≡ self.book.journal.accepted) }
+        ensures keeps { IfOk result (λ r. r.accepted.keeps ≡ self.book.journal.keeps) }
         ensures legal { IfOk result (λ r. IsLegal r.accepted.items) }
-        ensures counts { IfOk result (λ r. vec_len r.accepted ≡ sum seats.items) }
+        ensures counts { IfOk result (λ r. length r.accepted.items ≡ sum seats.items) }
         ensures lanes { IfOk result (λ r. (vec_len r.lanes ≡ vec_len lanes) × EachPair (λ e x. (x.lane ≡ e.lane) × (x.hook ≡ e.hook) × (x.how ≡ e.how)) lanes.items r.lanes.items) }
         ensures handed { IfOk result (λ r. HandOver H.handed (vec_len r.lanes) r.accepted.items r.lanes.items) }
         ensures delivered { IfOk result (λ r. TellEachUpload H.handed (vec_len r.lanes) r.accepted.items r.lanes.items) }
     {
         match self.begun(alloc, seats.as_slice(), lanes.as_slice()) {
-            Ok(report) => Ok(self.completed(report, seats, lanes)),
+            Ok(reports) => Ok(self.completed(reports, seats, lanes)),
             Err(fault) => Err(Unfinished {
                 fault,
                 board: self,
@@ -297,7 +281,7 @@ impl<B: Naming> Board<B> {
             × IsRefusedFor u.fault (length s.book.journal.accepted) (sum seats.items)
             (IsInOrder (λ e. e.lane) s.book.journal.lanes lanes.items)) }
         ensures legal { IfOk result (λ r. IsLegal r.accepted.items) }
-        ensures counts { IfOk result (λ r. vec_len r.accepted ≡ sum seats.items) }
+        ensures counts { IfOk result (λ r. length r.accepted.items ≡ sum seats.items) }
         ensures lanes { IfOk result (λ r. (vec_len r.lanes ≡ vec_len lanes) × EachPair (λ e x. (x.lane ≡ e.lane) × (x.hook ≡ e.hook) × (x.how ≡ e.how)) lanes.items r.lanes.items) }
         ensures handed { IfOk result (λ r. HandOver H.handed (vec_len r.lanes) r.accepted.items r.lanes.items) }
         ensures delivered { IfOk result (λ r. TellEachUpload H.handed (vec_len r.lanes) r.accepted.items r.lanes.items) }

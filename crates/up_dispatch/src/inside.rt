@@ -1,10 +1,10 @@
 //! What lies under the board's lock.
-ghost use Rattle.std.specs.Prelude.{◌≡◌, ℕ, ◌+◌, ◌<◌, ◌≤◌, ◌^◌, [], length, IfOk, OnOk, OnErr, IsErr, IfSome, IfNone, true, IsTrue, ◌↔◌};
-ghost use Rattle.up_events.specs.Records.{lane_log};
+ghost use Rattle.std.specs.Prelude.{◌≡◌, ℕ, ◌+◌, ◌<◌, ◌≤◌, ◌^◌, [], length, IfOk, OnOk, OnErr, IsErr, IfSome, IfNone, true, false, IsTrue, ◌↔◌};
+ghost use Rattle.up_events.specs.Records.{empty_records, lane_log};
 ghost use Rattle.up_queue.specs.Line.{items_if};
 ghost use Rattle.up_queue.specs.Sides.{WasFull};
 ghost use Rattle.up_headers.specs.Table.{FitsWithin};
-ghost use Rattle.up_machine.specs.State.{empty_state};
+ghost use Rattle.up_machine.specs.State.{counting_state, empty_state};
 ghost use Rattle.up_machine.specs.Decision.{Answers, decide, decide_plan, is_asked, is_refusal};
 ghost use Rattle.up_dispatch.specs.Lists.{EachAt};
 ghost use Rattle.up_dispatch.specs.Puts.{end_at, Extends, FillsOnly, IsFilled};
@@ -23,7 +23,7 @@ use std::sync::ledger::Share;
 use std::sync::{Wait, ledger};
 use up_events::{Id, MOST_BYTES, MOST_LANES, NoMemory};
 use up_headers::Request;
-use up_machine::{Asked, Book, Done, Plan, Refusal};
+use up_machine::{Asked, Book, Done, Plan, Refusal, Remains};
 use up_queue::TakeEnd;
 
 /// The book, how far each lane's queue was filled, and the ledger of the changes that were made from seats.
@@ -65,24 +65,55 @@ impl<B: Naming> Inside<B> {
         ensures ends { IfOk result (λ r. (length r.1.items ≡ length parts.queues) × EachAt (λ k e. (e.taken ≡ []) × (e.queue ≡ B.queue k)) r.1.items) }
         ensures capacities { IfOk result (λ r. capacities_of r.1.items ≡ parts.capacities) }
     {
+        let book = Book::new(alloc, parts.lanes(), max_size)?;
+        Ok(Inside::over(book, parts))
+    }
+
+    /// The same, over a book that counts the changes and doesn't keep them.
+    pub fn forgetting(
+        alloc: Global,
+        parts: BoardParts,
+        max_size: u64,
+    ) -> Result<(Inside<B>, Vec<TakeEnd>), NoMemory>
+        requires named { IsNamed B.name B.parts B.queue parts }
+        requires some_lane { 0 < length parts.queues }
+        requires few_lanes { length parts.queues ≤ MOST_LANES }
+        requires small { max_size ≤ MOST_BYTES }
+        ensures book { IfOk result (λ r. r.0.book ≡ counting_state (length parts.queues) max_size) }
+        ensures counts { IfOk result (λ r. (r.0.given ≡ 0) × (r.0.total ≡ 0)) }
+        ensures ends { IfOk result (λ r. (length r.1.items ≡ length parts.queues) × EachAt (λ k e. (e.taken ≡ []) × (e.queue ≡ B.queue k)) r.1.items) }
+        ensures capacities { IfOk result (λ r. capacities_of r.1.items ≡ parts.capacities) }
+    {
+        let book = Book::forgetting(alloc, parts.lanes(), max_size)?;
+        Ok(Inside::over(book, parts))
+    }
+
+    // Over a new book.
+    fn over(book: Book, parts: BoardParts) -> (Inside<B>, Vec<TakeEnd>)
+        requires named { IsNamed B.name B.parts B.queue parts }
+        requires some_lane { 0 < length parts.queues }
+        requires new { book.journal ≡ record (empty_records (length parts.queues)) { keeps = book.journal.keeps } }
+        requires going { book.closed ≡ false }
+        ensures book { result.0.book ≡ book }
+        ensures counts { (result.0.given ≡ 0) × (result.0.total ≡ 0) }
+        ensures ends { (length result.1.items ≡ length parts.queues) × EachAt (λ k e. (e.taken ≡ []) × (e.queue ≡ B.queue k)) result.1.items }
+        ensures capacities { capacities_of result.1.items ≡ parts.capacities }
+    {
         let BoardParts {
             feeds,
             takes,
             blank,
         } = parts;
-        let book = Book::new(alloc, feeds.len() as u64, max_size)?;
         let _ = book.journal();
         let (total, rest) = blank.open::<B>();
-        Ok((
-            Inside {
-                book,
-                feeds,
-                given: 0,
-                rest,
-                total,
-            },
-            takes,
-        ))
+        let inside = Inside {
+            book,
+            feeds,
+            given: 0,
+            rest,
+            total,
+        };
+        (inside, takes)
     }
 
     /// As many lanes as the board has.
@@ -100,7 +131,7 @@ impl<B: Naming> Inside<B> {
         self.book.plan(alloc, request)
     }
 
-    /// Puts what is left of the lane's log into its queue, until that is full.
+    /// Puts what is left of the lane's log into its queue, until that is full. The log then forgets what was put.
     pub fn fill<R: Wait>(&mut self, rt: &R, lane: u64) -> Filled
         requires { lane < self.old.book.journal.lanes }
         ensures book { self.new ≡ record self.old { ends = self.new.ends } }
@@ -110,9 +141,12 @@ impl<B: Naming> Inside<B> {
         ensures filled { IsFilled self.old.book lane (end_at self.new.ends lane) }
     {
         let closed = self.book.is_closed();
-        let log = self.book.journal().lane_log(lane);
+        let journal = self.book.journal();
         let feed = &mut self.feeds[lane as usize];
-        feed.fill(rt, log, closed)
+        let filled = feed.fill(rt, journal, lane, closed);
+        let cursor = feed.cursor;
+        self.book.forget(lane, cursor);
+        filled
     }
 
     /// Whether there is nothing for a lane that has taken so many items: all of its log was put, all that was put was taken,
@@ -126,8 +160,8 @@ impl<B: Naming> Inside<B> {
         if self.book.is_closed() {
             return false;
         }
-        let all = self.book.journal().lane_log(lane).len();
-        feed.cursor == all && all as u64 == taken
+        let all = self.book.journal().log_len(lane);
+        feed.cursor == all && all == taken
     }
 
     /// What lies under the lock is a lawful board. A law: it does nothing.
@@ -157,6 +191,7 @@ impl<B: Naming> Inside<B> {
         request: Request,
         id: Id,
         asked: &Asked,
+        remains: &mut Remains,
     ) -> Result<Done, Refusal>
         requires bounded { FitsWithin MOST_BYTES request }
         ensures answer { Answers result (decide self.old.book request id asked.now) }
@@ -167,15 +202,16 @@ impl<B: Naming> Inside<B> {
         let Inside { book, total, .. } = self;
         let Seat { share, count } = seat;
         total.audit(share);
-        let done = book.commit(alloc, request, id, asked)?;
-        let _ = book.journal().accepted().len();
+        let done = book.commit(alloc, request, id, asked, remains)?;
+        let _ = book.journal().accepted_count();
         let changes = u64::from(done.change.is_some());
         total.add(share, changes);
         *count += changes;
         Ok(done)
     }
 
-    /// Decides on a request from a seat as the book does, and puts the events of its change.
+    /// Decides on a request from a seat as the book does, and puts the events of its change. What it leaves over goes into
+    /// `remains`, to be dropped after the lock is free.
     pub fn commit<R: Wait>(
         &mut self,
         rt: &R,
@@ -184,12 +220,13 @@ impl<B: Naming> Inside<B> {
         request: Request,
         id: Id,
         asked: &Asked,
+        remains: &mut Remains,
     ) -> Result<Done, Refusal>
         requires bounded { FitsWithin MOST_BYTES request }
         ensures { CommitsTo B.queue self.old self.new seat.old seat.new request id asked.now result }
     {
         self.audit(seat);
-        let done = self.note(alloc, seat, request, id, asked)?;
+        let done = self.note(alloc, seat, request, id, asked, remains)?;
         if let Some(change) = &done.change {
             let lane = change.id().lane(self.lanes());
             self.fill(rt, lane);

@@ -9,7 +9,7 @@ use std::alloc::Global;
 use std::sync::Wait;
 use up_events::{Id, MOST_BYTES};
 use up_headers::Request;
-use up_machine::{Asked, Book, Done, Plan, Refusal};
+use up_machine::{Asked, Book, Done, Plan, Refusal, Remains};
 
 /// What requests are planned and committed by. A commit looks at everything again that its plan looked at, since others may change
 /// the same uploads in between.
@@ -93,7 +93,8 @@ impl Keeper for Lent<'_> {
         id: Id,
         asked: &Asked,
     ) -> Result<Done, Refusal> {
-        self.book.commit(alloc, request, id, asked)
+        let mut remains = Remains::new();
+        self.book.commit(alloc, request, id, asked, &mut remains)
     }
 }
 

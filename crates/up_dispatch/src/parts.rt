@@ -58,4 +58,10 @@ impl BoardParts {
             blank: Blank::new(MOST_SEATS + 1),
         })
     }
+    /// How many lanes they are for.
+    pub fn lanes(&self) -> u64
+        ensures { result ≡ length self.now.queues }
+    {
+        self.feeds.len() as u64
+    }
 }

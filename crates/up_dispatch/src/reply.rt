@@ -3,11 +3,10 @@ ghost use Rattle.std.specs.Prelude.{◌≡◌, IfOk};
 ghost use Rattle.up_machine.specs.Refusals.{response_of};
 ghost use Rattle.up_dispatch.specs.Replies.{IsReply, method_refused_with, reply_to_header_fault, reply_to_wire_fault, version_refused_with};
 
-use bytes::Bytes;
 use std::alloc::{AllocError, Global};
 use up_headers::HeaderFault;
 use up_machine::{Refusal, response_of};
-use up_message::Response;
+use up_message::{Piece, Response};
 use up_wire::WireFault;
 
 /// To a message of another version of the protocol: which version there is (tus 1.0.0, Tus-Version), and why.
@@ -15,7 +14,7 @@ fn version_refused(alloc: Global, status: u16, text: &'static str) -> Result<Res
     ensures { IfOk result (λ made. made ≡ version_refused_with status text.now) }
 {
     let response = Response::new(alloc, status).with_field(alloc, b"Tus-Version", b"1.0.0")?;
-    response.with_plain_text(alloc, Bytes::from_static(text.as_bytes()))
+    response.with_plain_text(alloc, Piece::from_static(text.as_bytes()))
 }
 
 /// To a message whose method is refused: which methods there are at an upload or at the creation URL (RFC 9110,
@@ -34,7 +33,7 @@ fn method_refused(
         b"OPTIONS, POST"
     };
     let response = Response::new(alloc, status).with_field(alloc, b"Allow", methods)?;
-    response.with_plain_text(alloc, Bytes::from_static(text.as_bytes()))
+    response.with_plain_text(alloc, Piece::from_static(text.as_bytes()))
 }
 
 /// What is answered to a message that can't be read. Where memory is wanting, that is answered instead; and so it is for

@@ -1,5 +1,5 @@
 -- The list of accepted changes: when it is legal, what it says of each upload, and which events it defines.
-use Rattle.std.specs.Prelude.{◌≡◌, ℕ, ◌+◌, ◌≤◌, ◌^◌, Bool, true, false, ◌&&◌, not, Option, Some, None, is_some, is_none, unwrap_or, List, [], ◌∷◌, ◌++◌, sum_by, if◌then◌else◌, ◌==◌}
+use Rattle.std.specs.Prelude.{◌≡◌, ℕ, ◌+◌, ◌≤◌, Bool, true, false, ◌&&◌, not, Option, Some, None, is_some, is_none, unwrap_or, List, [], ◌∷◌, ◌++◌, sum_by, if◌then◌else◌, ◌==◌}
 use Rattle.std.specs.List.{list_any}
 use Rattle.up_events.specs.Lists.{gather, EachFollows, first_given}
 use Rattle.up_events.specs.declared.limits.TheConstants.{MOST_BYTES}

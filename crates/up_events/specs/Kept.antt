@@ -1,9 +1,9 @@
 -- What holds of the fields of every journal.
-use Rattle.std.specs.Prelude.{◌≡◌, ℕ, ◌<◌, ◌≤◌, Some, None, if◌then◌else◌, List, Vec, length, slice_get}
+use Rattle.std.specs.Prelude.{◌≡◌, ℕ, ◌<◌, ◌≤◌, Some, None, if◌then◌else◌, List, length, drop, slice_get}
 use Rattle.std.specs.Ordering.{nat_cmp}
 use Rattle.std.specs.BTreeMap.{get}
-use Rattle.std.specs.declared.alloc.Global.{Global}
 use Rattle.up_events.specs.History.{is_known, offset_of, length_of, events_of, IsLegal}
+use Rattle.up_events.specs.Left.{Left}
 use Rattle.up_events.specs.Log.{log_of}
 use Rattle.up_events.specs.declared.limits.TheConstants.{MOST_LANES}
 use Rattle.up_events.specs.declared.event.Event.{Event}
@@ -15,12 +15,17 @@ use Rattle.up_events.specs.declared.journal.Journal.TheInside.{Inside}
 abbrev pub track_of : List Accepted → ℕ → Track
 track_of changes u = record { events = length (events_of changes u); offset = offset_of changes u; length = length_of changes u }
 
--- there are 1 to 16 lanes, the changes are legal, and the logs and the tracks are those that the
--- changes define
+-- what is left of a log
+pub record IsTailOf (log : List Event) (tail : Left) : Type 0 where
+  pub within : tail.first ≤ length log
+  pub events_are : tail.events ≡ drop tail.first log
+
+-- there are 1 to 16 lanes, the changes are legal, and the tails are those of the logs, and the tracks
+-- those, that the changes define
 pub record IsKept (a : Inside) : Type 0 where
   pub some_lane : 0 < a.lanes
   pub few_lanes : a.lanes ≤ MOST_LANES
   pub legal : IsLegal a.accepted.items
   pub rows : length a.logs.items ≡ a.lanes
-  pub logs : (k : ℕ) (log : Vec Event Global) → slice_get a.logs.items k ≡ Some log → log.items ≡ log_of a.lanes a.accepted.items k
+  pub logs : (k : ℕ) (log : Left) → slice_get a.logs.items k ≡ Some log → IsTailOf (log_of a.lanes a.accepted.items k) log
   pub tracks : (u : ℕ) → get nat_cmp a.tracks u ≡ (if is_known a.accepted.items u then Some (track_of a.accepted.items u) else None)

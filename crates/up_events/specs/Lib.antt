@@ -7,3 +7,5 @@ pub mod Delivery
 pub mod Records
 pub mod Reached
 pub mod Kept
+pub mod Listing
+pub mod Left

@@ -1,11 +1,13 @@
 //! The journal: the accepted changes, and a log of events for each lane.
-ghost use Rattle.std.specs.Prelude.{◌≡◌, ◌<◌, ◌≤◌, OnOk, OnErr, IfOk, []};
+ghost use Rattle.std.specs.Prelude.{◌≡◌, ◌<◌, ◌≤◌, OnOk, OnErr, IfOk, drop, length, false};
 ghost use Rattle.up_events.specs.Records.{AreEmpty};
 
+use crate::changes::Changes;
 use crate::event::{Accepted, Event};
 use crate::fault::NoMemory;
 use crate::id::Id;
 use crate::limits::MOST_LANES;
+use crate::tail::Tail;
 use crate::track::{Track, write};
 use std::alloc::Global;
 use std::collections::BTreeMap;
@@ -30,61 +32,101 @@ pub struct Added {
 /// where bytes come with it. Where the offset is the length, post-finish follows. A termination gives
 /// post-terminate. Each upload numbers its own events 1, 2, 3 and so on, and they all go to the lane of
 /// its id, whose log has them in the order of the changes.
-#[derive(Debug, Drop)]
+///
+/// A journal that is made by `new` keeps the changes. One that is made by `forgetting` counts them, and
+/// proofs still speak of all of them. In both the first events of a log can be forgotten.
+#[derive(Drop)]
 pub struct Journal {
     lanes: u64,
-    accepted: Vec<Accepted>,
-    logs: Vec<Vec<Event>>,
+    accepted: Changes,
+    logs: Vec<Tail>,
     tracks: BTreeMap<Id, Track>,
 }
 
 impl Model for Journal {
     ghost use Rattle.up_events.specs.Kept.{IsKept};
-    ghost use Rattle.up_events.specs.Records.{Records};
+    ghost use Rattle.up_events.specs.Records.{Records, firsts_of};
 
     ghost Value = { Records };
 
-    ghost view = { λ a. record { lanes = a.lanes; accepted = a.accepted.items } };
+    ghost view = { λ a. record {
+      lanes = a.lanes;
+      accepted = a.accepted.items;
+      keeps = a.accepted.keeps;
+      firsts = firsts_of a.logs.items;
+    } };
 
     ghost invariant = { IsKept };
 }
 
 /// As many empty logs as there are lanes.
-fn empty_logs(alloc: Global, lanes: u64) -> Result<Vec<Vec<Event>>, NoMemory>
+fn empty_logs(alloc: Global, lanes: u64) -> Result<Vec<Tail>, NoMemory>
     ensures { IfOk result (λ logs. AreEmpty lanes logs.items) }
 {
     let mut logs = Vec::new(alloc);
     for _ in 0..lanes {
-        logs.push(Vec::new(alloc))?;
+        logs.push(Tail::new(alloc))?;
     }
     Ok(logs)
 }
 
 impl Journal {
-    ghost use Rattle.up_events.specs.Records.{lane_log, noted, ArePlaces};
+    ghost use Rattle.up_events.specs.Records.{empty_records, first_of, forgot, kept_changes, kept_log, lane_log, noted, ArePlaces};
     ghost use Rattle.up_events.specs.History.{is_known, CanFollow, IsLegal};
 
     /// A journal of no change, for 1 to `MOST_LANES` lanes. `NoMemory` where memory for the logs was refused.
     pub fn new(alloc: Global, lanes: u64) -> Result<Journal, NoMemory>
         requires some_lane { 0 < lanes }
         requires few_lanes { lanes ≤ MOST_LANES }
-        ensures { IfOk result (λ journal. journal ≡ record { lanes = lanes; accepted = [] }) }
+        ensures { IfOk result (λ journal. journal ≡ empty_records lanes) }
     {
         Ok(Journal {
             lanes,
-            accepted: Vec::new(alloc),
+            accepted: Changes::kept(alloc),
             logs: empty_logs(alloc, lanes)?,
             tracks: BTreeMap::new(alloc),
         })
     }
 
-    /// The changes that were noted, in order.
+    /// The same, for a journal that counts the changes and doesn't keep them.
+    pub fn forgetting(alloc: Global, lanes: u64) -> Result<Journal, NoMemory>
+        requires some_lane { 0 < lanes }
+        requires few_lanes { lanes ≤ MOST_LANES }
+        ensures { IfOk result (λ journal. journal ≡ record (empty_records lanes) { keeps = false }) }
+    {
+        Ok(Journal {
+            lanes,
+            accepted: Changes::counted(),
+            logs: empty_logs(alloc, lanes)?,
+            tracks: BTreeMap::new(alloc),
+        })
+    }
+
+    /// The changes that were noted, in order. Empty if the journal doesn't keep them.
     pub fn accepted(&self) -> &[Accepted]
-        ensures value { result.now ≡ self.now.accepted }
+        ensures value { result.now ≡ kept_changes self.now }
         ensures legal { IsLegal self.now.accepted }
         ensures some_lane { 0 < self.now.lanes }
     {
-        self.accepted.as_slice()
+        self.accepted.list().unwrap_or(&[])
+    }
+
+    /// How many changes were noted.
+    pub fn accepted_count(&self) -> u64
+        ensures value { result ≡ length self.now.accepted }
+        ensures legal { IsLegal self.now.accepted }
+        ensures some_lane { 0 < self.now.lanes }
+    {
+        self.accepted.len()
+    }
+
+    /// The changes that were noted, in order, kept or counted.
+    pub fn into_accepted(self) -> Changes
+        ensures items { result.items ≡ self.accepted }
+        ensures keeps { result.keeps ≡ self.keeps }
+        ensures legal { IsLegal self.accepted }
+    {
+        self.accepted
     }
 
     /// Whether an upload with this id was ever created.
@@ -94,14 +136,49 @@ impl Journal {
         self.tracks.contains_key(&id)
     }
 
-    /// The log of a lane: its events in order. Empty where there is no such lane.
+    /// The log of a lane: its events in order, without those that were forgotten. Empty if there is no
+    /// such lane.
     pub fn lane_log(&self, k: u64) -> &[Event]
-        ensures { result.now ≡ lane_log self.now k }
+        ensures { result.now ≡ kept_log self.now k }
     {
         match self.logs.get(k as usize) {
-            Some(log) => log.as_slice(),
+            Some(log) => log.events(),
             None => &[],
         }
+    }
+
+    /// How many events the log of a lane has, with those that were forgotten.
+    pub fn log_len(&self, k: u64) -> u64
+        ensures { result ≡ length (lane_log self.now k) }
+    {
+        match self.logs.get(k as usize) {
+            Some(log) => log.len(),
+            None => 0,
+        }
+    }
+
+    /// The log of a lane from this place on. No event from there on may have been forgotten.
+    pub fn log_from(&self, k: u64, place: u64) -> &[Event]
+        requires there { first_of self.now k ≤ place }
+        requires within { place ≤ length (lane_log self.now k) }
+        ensures { result.now ≡ drop place (lane_log self.now k) }
+    {
+        match self.logs.get(k as usize) {
+            Some(log) => log.from(place),
+            None => &[],
+        }
+    }
+
+    /// Forgets the events of a lane's log before this place.
+    pub fn forget(&mut self, k: u64, place: u64)
+        requires there { first_of self.old k ≤ place }
+        requires within { place ≤ length (lane_log self.old k) }
+        ensures { self.new ≡ forgot self.old k place }
+    {
+        let Some(log) = self.logs.get_mut(k as usize) else {
+            return;
+        };
+        log.forget(place);
     }
 
     /// Puts a change behind those before it, and its events behind those of the log of its lane.
@@ -122,7 +199,7 @@ impl Journal {
         let before = self.tracks.get(&id).copied().unwrap_or(Track::NONE);
         let reached = before.reached(&change);
         let log = &mut self.logs[lane as usize];
-        let first = log.len() as u64;
+        let first = log.len();
         let count = write(&mut self.accepted, log, &mut self.tracks, change, reached)?;
         Ok(Added { lane, first, count })
     }

@@ -2,14 +2,19 @@
 //! give, and the journal that keeps each lane's log of them.
 #![tactic(auto)]
 
+mod changes;
 mod event;
 mod fault;
 mod id;
 mod journal;
 mod law;
 mod limits;
+mod room;
+mod tail;
+mod trace;
 mod track;
 
+pub use changes::Changes;
 pub use event::{Accepted, Event, Hook, Kind};
 pub use fault::NoMemory;
 pub use id::Id;
@@ -18,3 +23,5 @@ pub use law::{
     fronts_are_lawful, logs_are_lawful, logs_grow_at_their_end, numbered_events_are_delivered,
 };
 pub use limits::{MOST_BYTES, MOST_LANES};
+pub use room::make_room;
+pub use trace::Trace;

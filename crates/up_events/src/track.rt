@@ -6,9 +6,11 @@ ghost use Rattle.up_events.specs.History.{id_of, steps_at};
 ghost use Rattle.up_events.specs.Log.{numbered};
 ghost use Rattle.up_events.specs.Reached.{reached, hook_of, bytes_added, completes};
 
+use crate::changes::Changes;
 use crate::event::{Accepted, Event, Hook, Kind};
 use crate::fault::NoMemory;
 use crate::id::Id;
+use crate::tail::Tail;
 use std::collections::BTreeMap;
 
 /// How far an upload has come.
@@ -89,22 +91,24 @@ fn is_completing(change: &Accepted, track: Track) -> bool
 /// before it. Gives the number of its events. `NoMemory` where memory was refused; the list, the
 /// log and the table then say what they said.
 pub fn write(
-    accepted: &mut Vec<Accepted>,
-    log: &mut Vec<Event>,
+    accepted: &mut Changes,
+    log: &mut Tail,
     tracks: &mut BTreeMap<Id, Track>,
     change: Accepted,
     track: Track,
 ) -> Result<u64, NoMemory>
     requires { track.events + 2 < 2 ^ 64 }
     ensures accepted { OnOk result (accepted.new.items ≡ accepted.old.items ++ change ∷ []) }
-    ensures log { OnOk result (log.new.items ≡ log.old.items
+    ensures keeps { accepted.new.keeps ≡ accepted.old.keeps }
+    ensures log { OnOk result (log.new.events ≡ log.old.events
         ++ numbered (id_of change) track.events (steps_at change track.offset track.length)) }
+    ensures first { log.new.first ≡ log.old.first }
     ensures tracks { IfOk result (λ count. Updates nat_cmp tracks.old tracks.new (id_of change)
         (Some (record track { events = track.events + count }))) }
     ensures count { IfOk result (λ count.
         count ≡ length (steps_at change track.offset track.length)) }
     ensures same_list { OnErr result (accepted.new.items ≡ accepted.old.items) }
-    ensures same_log { OnErr result (log.new.items ≡ log.old.items) }
+    ensures same_log { OnErr result (log.new.events ≡ log.old.events) }
     ensures same_tracks { OnErr result (IsUnchanged tracks.old tracks.new) }
 {
     let id = change.id();
@@ -116,8 +120,8 @@ pub fn write(
     let own = own_hook(&change);
     let completing = is_completing(&change, track);
     let count = u64::from(own.is_some()) + u64::from(completing);
-    accepted.reserve(1)?;
-    log.reserve(2)?;
+    accepted.reserve()?;
+    log.reserve()?;
     tracks.insert(
         id,
         Track {

@@ -1,7 +1,7 @@
 //! The checks that turn a message into a request.
 ghost use Rattle.std.specs.Prelude.{◌≡◌, ℕ, List, IfOk};
 ghost use Rattle.up_headers.specs.Rows.{first_that_holds};
-ghost use Rattle.up_headers.specs.Table.{FitsWithin, IsAnswer, IsAnswerAt, IsRouted, method_rows, repeats, version_rows};
+ghost use Rattle.up_headers.specs.Table.{FitsWithin, IsAnswer, IsRouted, method_rows, repeats, version_rows};
 ghost use Rattle.up_headers.specs.Steps.{IsChosen, IsStep, Passes};
 
 use crate::creation::new_upload;
@@ -113,7 +113,8 @@ fn at_creation(
 
 /// What a message to an upload asks for.
 fn at_upload(verb: Verb, id: Id, message: Message) -> Result<Request, HeaderFault>
-    ensures answer { (max_size : ℕ) → IsAnswerAt verb (Place.Upload id) message.fields message.body max_size result }
+    ensures answer { (max_size : ℕ)
+        → IsStep verb (Place.Upload id) message.fields message.body max_size result }
     ensures bounded { (max_size : ℕ) → IfOk result (FitsWithin max_size) }
 {
     match verb {
@@ -121,7 +122,7 @@ fn at_upload(verb: Verb, id: Id, message: Message) -> Result<Request, HeaderFaul
         Verb::Get => Ok(Request::Get(id)),
         Verb::Delete => Ok(Request::Delete(id)),
         Verb::Patch if repeats(verb, message.fields.as_slice()) => Err(HeaderFault::Repeated),
-        Verb::Patch => Ok(Request::Patch(patch_of(id, message))),
+        Verb::Patch => Ok(Request::Patch(patch_of(id, message)?)),
         _ => Err(HeaderFault::Method { of_upload: true }),
     }
 }

@@ -1,27 +1,30 @@
 //! The PATCH of an upload.
-ghost use Rattle.std.specs.Prelude.{◌≡◌};
+ghost use Rattle.std.specs.Prelude.{◌≡◌, IfOk};
 ghost use Rattle.up_headers.specs.Patches.{before_semicolon, declared_in, is_media, number_of, patch_of};
 
 use crate::fields::{stands, value_in};
 use crate::request::{NotDigits, Patch};
+use std::alloc::AllocError;
 use up_events::Id;
-use up_message::{Field, Message, is_digits, number, same_name, trim_end_ows};
+use up_message::{Field, Message, Piece, is_digits, number, same_name, trim_end_ows};
 
-/// The PATCH of an upload (tus 1.0.0, PATCH). Its bytes are the message's own, not a copy.
-pub(crate) fn patch_of(id: Id, message: Message) -> Patch
-    ensures { result ≡ patch_of id message.fields message.body }
+/// The PATCH of an upload (tus 1.0.0, PATCH). Its bytes are the message's own, not a copy, and keep
+/// no more room than they need.
+pub(crate) fn patch_of(id: Id, message: Message) -> Result<Patch, AllocError>
+    ensures { IfOk result (λ patch. patch ≡ patch_of id message.fields message.body) }
 {
     let fields = message.fields.as_slice();
     let media = is_media(value_in(fields, b"content-type"));
     let offset = number_of(value_in(fields, b"upload-offset"));
     let length = declared_in(fields);
-    Patch {
+    let bytes = Piece::from_sequence(message.body)?;
+    Ok(Patch {
         id,
         media,
         offset,
         length,
-        bytes: message.body,
-    }
+        bytes,
+    })
 }
 
 /// Whether a content type, whatever its parameters (RFC 9110, section 8.3.1), is the one of a

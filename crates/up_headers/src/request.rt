@@ -1,6 +1,6 @@
 //! What a message asks for.
 use up_events::{Id, Kind};
-use up_message::Sequence;
+use up_message::{Piece, Sequence};
 
 /// The pairs of a metadata text: each key with its value (tus 1.0.0, Upload-Metadata).
 pub type Pairs = Sequence<(Sequence<u8>, Sequence<u8>)>;
@@ -53,5 +53,5 @@ pub struct Patch {
     /// How long the upload is to be, where that is declared (tus 1.0.0, Upload-Defer-Length); a number past
     /// 2^64 - 1 counts as 2^64 - 1.
     pub length: Option<Result<u64, NotDigits>>,
-    pub bytes: Sequence<u8>,
+    pub bytes: Piece,
 }

@@ -7,9 +7,13 @@ mod pre_hook;
 mod pre_hooks;
 mod recorder;
 mod recorders;
+mod teller;
+mod tellers;
 
 pub use post_hook::{Outcome, PostHook};
 pub use pre_hook::{Judge, PreHook};
 pub use pre_hooks::PreHooks;
 pub use recorder::Recorder;
 pub use recorders::new_recorders;
+pub use teller::Teller;
+pub use tellers::new_tellers;

@@ -3,7 +3,7 @@ ghost use Rattle.std.specs.Prelude.{◌≡◌, ◌++◌, ◌∷◌, [], true, On
 
 use crate::post_hook::{Outcome, PostHook};
 use std::alloc::Global;
-use up_events::{Event, NoMemory};
+use up_events::{Event, NoMemory, make_room};
 
 /// A post-hook that calls a closure on each event that it is handed, and keeps the event with the closure's answer. A failure is
 /// kept as any other answer.
@@ -31,7 +31,7 @@ impl<F: Fn(&Event) -> Outcome + Send> PostHook for Recorder<F> {
         ensures same { told_by self.new ≡ told_by self.old }
         ensures room { OnOk result (⟦<Recorder<F> as PostHook>⟧.has_room self.new ≡ true) }
     {
-        Ok(self.pairs.reserve(1)?)
+        Ok(make_room(&mut self.pairs, 1)?)
     }
 
     fn hand(&mut self, event: &Event) -> Outcome

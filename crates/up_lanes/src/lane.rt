@@ -10,13 +10,17 @@ use crate::lane_end::{How, LaneEnd};
 use crate::refill::Refill;
 use std::marker::Model;
 use std::sync::Wait;
-use std::thread;
+use std::thread::Parker;
+use std::time::Duration;
 use up_hooks::PostHook;
 use up_queue::{Item, TakeEnd};
 
-/// How many times a lane that finds its queue empty lets other threads run before it sleeps: to be woken takes longer than most
-/// events are apart.
-const MOST_YIELDS: u32 = 30;
+/// How many times a lane that finds its queue empty naps before it sleeps until it is woken. While it naps nobody has to wake it, and what
+/// comes is handed over together.
+const MOST_NAPS: u32 = 10;
+
+/// How many microseconds a nap takes.
+const NAP: u64 = 1_000;
 
 /// What came of a step.
 #[derive(Clone, Copy, Debug, PartialEq, Eq)]
@@ -131,8 +135,7 @@ impl<H: PostHook> Lane<H> {
     }
 
     /// Steps until the end was taken, or until the post-hook has no memory for one more event. Where the queue is empty it is
-    /// refilled; where it stays empty the lane lets other threads run a number of times, and then sleeps until there may be
-    /// something.
+    /// refilled; if it stays empty the lane naps a number of times, and then sleeps until there may be something.
     pub fn run<R: Wait, T: Refill>(mut self, rt: &R, refill: &T) -> LaneEnd<H>
         ensures sound { H.is_sound result.hook }
         ensures same { (result.lane ≡ self.lane) × (result.take_end.queue ≡ self.queue) }
@@ -141,6 +144,7 @@ impl<H: PostHook> Lane<H> {
         ensures alike { StaysAlike H.may_answer self.hook result.hook }
     {
         let mut found_empty: u32 = 0;
+        let alarm = Parker::new();
         for _ in rt.forever() {
             match self.step(rt) {
                 StepEnd::Handed => found_empty = 0,
@@ -148,8 +152,8 @@ impl<H: PostHook> Lane<H> {
                     refill.refill(rt, self.lane);
                     found_empty = 1;
                 }
-                StepEnd::Nothing if found_empty <= MOST_YIELDS => {
-                    thread::yield_now();
+                StepEnd::Nothing if found_empty <= MOST_NAPS => {
+                    alarm.park_timeout(rt, Duration::from_micros(NAP));
                     found_empty += 1;
                 }
                 StepEnd::Nothing => {

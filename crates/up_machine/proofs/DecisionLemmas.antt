@@ -146,3 +146,10 @@ made_small content max_size new small most sum = elim (is_final_kind new.kind) a
   | true ↦ λ sum. omega (arith, sum refl)
   | false ↦ λ sum. within_most new.length small
 ] sum
+
+-- the bytes that it begins with are no more, and none unless it is final
+pub first_small : (content : Contents) (max_size : ℕ) (new : NewUpload) → IsWithin (2 ^ 30) new.length → max_size ≤ 2 ^ 30 → (is_final_kind new.kind ≡ true → length (joined content new.parts) ≤ max_size) → length (first_bytes content new) ≤ 2 ^ 30
+first_small content max_size new small most sum = omega (arith, made_within content new, made_small content max_size new small most sum)
+
+pub first_none : (content : Contents) (new : NewUpload) → is_final_kind new.kind ≡ false → first_bytes content new ≡ []
+first_none content new other = ap (λ b. cond b (joined content new.parts) []) other

@@ -3,6 +3,7 @@ pub mod Content
 pub mod Reasons
 pub mod Padded
 pub mod Asks
+pub mod Kept
 pub mod Stored
 pub mod State
 pub mod StateCode

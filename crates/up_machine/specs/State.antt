@@ -1,10 +1,10 @@
 -- What a book stands for, and what a request makes of it.
-use Rattle.std.specs.Prelude.{ℕ, Bool, false, List, [], Option, Some, None, flat_map, if◌then◌else◌}
+use Rattle.std.specs.Prelude.{ℕ, Bool, false, List, [], replicate, Option, Some, None, flat_map, if◌then◌else◌}
 use Rattle.std.specs.FinMap as map
 use Rattle.std.specs.FinMap.{FinMap}
 use Rattle.std.specs.Ordering.{nat_cmp}
 use Rattle.up_events.specs.History.{is_final_kind}
-use Rattle.up_events.specs.Records.{Records, noted}
+use Rattle.up_events.specs.Records.{Records, empty_records, noted}
 use Rattle.up_events.specs.declared.event.Accepted.{Accepted}
 use Rattle.up_headers.specs.declared.request.NewUpload.{NewUpload}
 use Rattle.up_headers.specs.declared.request.Patch.{Patch}
@@ -26,7 +26,15 @@ pub record State : Type 0 where
 -- a book in which nothing was done yet
 abbrev pub empty_state : ℕ → ℕ → State
 empty_state lanes max_size =
-    record { content = map.empty; journal = record { lanes = lanes; accepted = [] }; closed = false; max_size = max_size }
+    record { content = map.empty; journal = empty_records lanes; closed = false; max_size = max_size }
+
+-- the same, where the journal counts the changes and doesn't keep them
+abbrev pub counting_state : ℕ → ℕ → State
+counting_state lanes max_size = record (empty_state lanes max_size) { journal = record (empty_records lanes) { keeps = false } }
+
+-- the book as if its journal had forgotten no event
+abbrev pub recalled : State → State
+recalled s = record s { journal = record s.journal { firsts = replicate s.journal.lanes 0 } }
 
 -- the bytes of an upload, none where there is none
 abbrev pub bytes_of : Option Content → List ℕ

@@ -6,10 +6,10 @@ use Rattle.up_machine.specs.declared.store.Store.TheVariants.{Open, Whole}
 
 -- the bytes
 abbrev pub stored : Store → List ℕ
-stored (Open bytes) = bytes.items
-stored (Whole bytes) = bytes
+stored (Open pieces) = pieces
+stored (Whole segments) = segments
 
--- no more bytes than the length says, and all of them where they are shared
+-- no more bytes than the length says, and all of them if they are shared
 abbrev pub IsStored : Store → Option ℕ → Type 0
-IsStored (Open bytes) size = length bytes.items ≤ most_of size
-IsStored (Whole bytes) size = size ≡ Some (length bytes)
+IsStored (Open pieces) size = length pieces ≤ most_of size
+IsStored (Whole segments) size = size ≡ Some (length segments)

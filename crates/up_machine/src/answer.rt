@@ -6,11 +6,10 @@ ghost use Rattle.up_message.specs.Refused.{refused_with};
 
 use crate::reason::Reason;
 use crate::upload::Upload;
-use bytes::Bytes;
 use itoa::Buffer;
 use std::alloc::Global;
 use up_events::{Id, NoMemory};
-use up_message::Response;
+use up_message::{Piece, Response, Sequence};
 
 /// With a field whose value is a number.
 fn with_number(response: Response, alloc: Global, name: &[u8], n: u64) -> Result<Response, NoMemory>
@@ -116,8 +115,6 @@ pub fn refused_because(alloc: Global, status: u16, reason: &Reason) -> Result<Re
 {
     let mut text = Vec::from_slice(alloc, reason.bytes())?;
     text.push(b'\n')?;
-    match Bytes::from_vec(text) {
-        Ok(body) => Ok(Response::new(alloc, status).with_plain_text(alloc, body)?),
-        Err(_) => Err(NoMemory),
-    }
+    let body = Piece::from_sequence(Sequence::from_vec(text))?;
+    Ok(Response::new(alloc, status).with_plain_text(alloc, body)?)
 }

@@ -6,18 +6,20 @@ use crate::ask::{Ask, Point, first_size};
 use crate::checks::{change_by, check_asked, check_bytes, check_take};
 use crate::plan::{Asked, Done, Plan};
 use crate::refusal::Refusal;
+use crate::remains::Remains;
 use crate::upload::Upload;
 use crate::uploads::Uploads;
 use crate::view::View;
 use crate::{answer, parts};
 use std::alloc::Global;
 use std::marker::Model;
-use up_events::{Accepted, Id, Journal, MOST_BYTES, MOST_LANES, NoMemory};
+use up_events::{Accepted, Changes, Id, Journal, MOST_BYTES, MOST_LANES, NoMemory};
 use up_headers::{NewUpload, Patch, Request};
 use up_message::Response;
 
 /// The uploads, and the journal of the changes that made them what they are. A request takes time by the logarithm of the
-/// number of uploads, the bytes that it brings or asks for and growth by doubling aside.
+/// number of uploads and by the number of parts that it joins, growth by doubling aside. It copies a small body and a tail of at
+/// most 64 KiB, however many bytes it brings, asks for, joins or removes.
 #[derive(Drop)]
 pub struct Book {
     uploads: Uploads,
@@ -56,7 +58,8 @@ impl Book {
     ghost use Rattle.up_headers.specs.Creations.{IsWithin};
     ghost use Rattle.up_headers.specs.Table.{FitsWithin};
     ghost use Rattle.up_headers.specs.declared.request.Request.TheVariants as request;
-    ghost use Rattle.up_machine.specs.State.{empty_state, after, first_bytes};
+    ghost use Rattle.up_events.specs.Records.{first_of, forgot, lane_log};
+    ghost use Rattle.up_machine.specs.State.{empty_state, counting_state, after, first_bytes};
     ghost use Rattle.up_machine.specs.Decision.{Answers, answer_to, decide, decide_plan, is_asked, is_refusal, planned_rows, rows_of, checked};
     ghost use Rattle.up_machine.specs.Fits.{IsSoundBook};
     ghost use Rattle.up_machine.specs.Views.{Shows};
@@ -72,6 +75,21 @@ impl Book {
         Ok(Book {
             uploads: Uploads::new(alloc),
             journal: Journal::new(alloc, lanes)?,
+            closed: false,
+            max_size,
+        })
+    }
+
+    /// The same, of a book whose journal counts the changes and doesn't keep them.
+    pub fn forgetting(alloc: Global, lanes: u64, max_size: u64) -> Result<Book, NoMemory>
+        requires some_lane { 0 < lanes }
+        requires few_lanes { lanes ≤ MOST_LANES }
+        requires small { max_size ≤ MOST_BYTES }
+        ensures { IfOk result (λ book. book ≡ counting_state lanes max_size) }
+    {
+        Ok(Book {
+            uploads: Uploads::new(alloc),
+            journal: Journal::forgetting(alloc, lanes)?,
             closed: false,
             max_size,
         })
@@ -97,6 +115,23 @@ impl Book {
         ensures sound { IsSoundBook self.now }
     {
         &self.journal
+    }
+
+    /// Has the journal forget the events of a lane's log before this place.
+    pub fn forget(&mut self, lane: u64, place: u64)
+        requires there { first_of self.old.journal lane ≤ place }
+        requires within { place ≤ length (lane_log self.old.journal lane) }
+        ensures { self.new ≡ record self.old { journal = forgot self.old.journal lane place } }
+    {
+        self.journal.forget(lane, place);
+    }
+
+    /// The changes that were accepted, in order, kept or counted.
+    pub fn into_accepted(self) -> Changes
+        ensures items { result.items ≡ self.journal.accepted }
+        ensures keeps { result.keeps ≡ self.journal.keeps }
+    {
+        self.journal.into_accepted()
     }
 
     /// The upload that has this id, where there is one.
@@ -179,8 +214,8 @@ impl Book {
     {
         self.check_create(&new, id, asked)?;
         let response = answer::to_create(alloc, id)?;
-        let bytes = parts::first_bytes(alloc, &self.uploads, &new)?;
-        let upload = Upload::new(new, bytes);
+        let first = parts::first_bytes(alloc, &self.uploads, &new)?;
+        let upload = Upload::new(alloc, new, first);
         let length = upload.length();
         let kind = upload.kind();
         let change = Accepted::Created { id, length, kind };
@@ -190,22 +225,48 @@ impl Book {
     }
 
     /// Takes bytes at the end of an upload (tus 1.0.0, PATCH).
-    fn patch(&mut self, alloc: Global, patch: Patch, asked: &Asked) -> Result<Done, Refusal>
-        ensures answer { Answers result (decide self.old (request.Patch patch) 0 asked.now) }
+    fn append(&mut self, alloc: Global, patch: &Patch, asked: &Asked) -> Result<Done, Refusal>
+        ensures answer { Answers result
+            (decide self.old (request.Patch patch.now) 0 asked.now) }
         ensures ok { IfOk result (λ done.
-            self.new ≡ after self.old (request.Patch patch) 0 done.change) }
+            self.new ≡ after self.old (request.Patch patch.now) 0 done.change) }
         ensures err { OnErr result (self.new ≡ self.old) }
     {
-        let step = check_take(&self.uploads, self.closed, self.max_size, &patch, asked)?;
+        let step = check_take(&self.uploads, self.closed, self.max_size, patch, asked)?;
         let response = answer::to_patch(alloc, step.offset)?;
         let id = patch.id;
         let count = patch.bytes.len() as u64;
         let Some(change) = change_by(id, step.declared, count) else {
             return Ok(Done::unchanged(response));
         };
-        self.uploads.take(alloc, &mut self.journal, change, id, step.size, patch.bytes)?;
+        self.uploads.take(
+            alloc,
+            &mut self.journal,
+            change,
+            id,
+            step.size,
+            &patch.bytes,
+        )?;
         let change = change_by(id, step.declared, count);
         Ok(Done { response, change })
+    }
+
+    /// The same, with the body left over.
+    fn patch(
+        &mut self,
+        alloc: Global,
+        patch: Patch,
+        asked: &Asked,
+        remains: &mut Remains,
+    ) -> Result<Done, Refusal>
+        ensures answer { Answers result (decide self.old (request.Patch patch) 0 asked.now) }
+        ensures ok { IfOk result (λ done.
+            self.new ≡ after self.old (request.Patch patch) 0 done.change) }
+        ensures err { OnErr result (self.new ≡ self.old) }
+    {
+        let done = self.append(alloc, &patch, asked);
+        remains.take_body(patch.bytes);
+        done
     }
 
     /// What refuses a removal at planning, or else the upload.
@@ -262,7 +323,13 @@ impl Book {
     }
 
     /// Removes an upload (tus 1.0.0, Termination). Its id is never given again.
-    fn delete(&mut self, alloc: Global, id: Id, asked: &Asked) -> Result<Done, Refusal>
+    fn delete(
+        &mut self,
+        alloc: Global,
+        id: Id,
+        asked: &Asked,
+        remains: &mut Remains,
+    ) -> Result<Done, Refusal>
         ensures answer { Answers result (decide self.old (request.Delete id) 0 asked.now) }
         ensures ok { IfOk result (λ done.
             self.new ≡ after self.old (request.Delete id) 0 done.change) }
@@ -272,7 +339,7 @@ impl Book {
         check_asked(false, asked)?;
         let response = answer::to_delete(alloc);
         self.journal.note(Accepted::Terminated { id })?;
-        self.uploads.remove(id);
+        self.uploads.remove(id, remains);
         let change = Some(Accepted::Terminated { id });
         Ok(Done { response, change })
     }
@@ -298,13 +365,14 @@ impl Book {
     /// Decides on a request, and carries it out where nothing refuses it. The id is for a new upload, the others bring their
     /// own. A request that is refused changes nothing; `NoMemory` comes only to one that nothing else refuses. Nothing changes once
     /// the book is closed. Where a closure refuses a creation, bytes or a removal, it is refused, if not for another reason, and
-    /// changes nothing.
+    /// changes nothing. What it leaves over goes into `remains`, so that it can be dropped later.
     pub fn commit(
         &mut self,
         alloc: Global,
         request: Request,
         id: Id,
         asked: &Asked,
+        remains: &mut Remains,
     ) -> Result<Done, Refusal>
         requires bounded { FitsWithin MOST_BYTES request }
         ensures answer { Answers result (decide self.old request id asked.now) }
@@ -318,8 +386,8 @@ impl Book {
             Request::Options => Ok(Done::unchanged(self.options(alloc)?)),
             Request::Create(new) => self.create(alloc, new, id, asked),
             Request::Head(id) => Ok(Done::unchanged(self.head(alloc, id)?)),
-            Request::Patch(patch) => self.patch(alloc, patch, asked),
-            Request::Delete(id) => self.delete(alloc, id, asked),
+            Request::Patch(patch) => self.patch(alloc, patch, asked, remains),
+            Request::Delete(id) => self.delete(alloc, id, asked, remains),
             Request::Get(id) => Ok(Done::unchanged(self.get(alloc, id)?)),
         }
     }

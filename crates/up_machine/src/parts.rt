@@ -1,6 +1,5 @@
 //! The parts of a final upload (tus 1.0.0, Concatenation).
-ghost use Rattle.std.specs.Prelude.{◌≡◌, false, length, is_none, nat_lt, not, None, Some, if◌then◌else◌, IfOk, vec_capacity};
-ghost use Rattle.up_events.specs.History.{is_final_kind};
+ghost use Rattle.std.specs.Prelude.{◌≡◌, ◌+◌, ◌<◌, ◌^◌, ◌++◌, length, is_none, nat_lt, not, None, Some, if◌then◌else◌, IfOk, OnOk};
 ghost use Rattle.std.specs.FinMap as map;
 ghost use Rattle.std.specs.List.{list_any};
 ghost use Rattle.up_machine.specs.State.{bytes_of, first_bytes, joined};
@@ -12,6 +11,7 @@ use crate::uploads::Uploads;
 use std::alloc::Global;
 use up_events::{Id, Kind, NoMemory};
 use up_headers::NewUpload;
+use up_message::Segments;
 
 fn is_missing(uploads: &Uploads, id: Id) -> bool
     ensures { result ≡ is_none (map.get uploads.now id) }
@@ -57,13 +57,13 @@ fn any_incomplete(uploads: &Uploads, parts: &[Id]) -> bool
     parts.iter().any(|part| !is_complete(uploads, *part))
 }
 
-/// The bytes of an upload, none where there is none.
-fn bytes_of(uploads: &Uploads, id: Id) -> &[u8]
-    ensures { result.now ≡ bytes_of (map.get uploads.now id) }
+/// How many bytes an upload has, none if there is none.
+fn count_of(uploads: &Uploads, id: Id) -> u64
+    ensures { result ≡ length (bytes_of (map.get uploads.now id)) }
 {
     match uploads.get(id) {
-        Some(upload) => upload.bytes(),
-        None => &[],
+        Some(upload) => upload.offset(),
+        None => 0,
     }
 }
 
@@ -74,7 +74,7 @@ fn sum_within(uploads: &Uploads, parts: &[Id], most: u64) -> Option<u64>
 {
     let mut sum = 0;
     for part in parts {
-        let count = bytes_of(uploads, *part).len() as u64;
+        let count = count_of(uploads, *part);
         if count > most - sum {
             return None;
         }
@@ -115,28 +115,39 @@ pub fn check_first_bytes(uploads: &Uploads, max_size: u64, new: &NewUpload) -> R
     }
 }
 
-/// The bytes of the parts, one after another, in room that is made once.
-fn join(alloc: Global, uploads: &Uploads, parts: &[Id]) -> Result<Vec<u8>, NoMemory>
-    ensures { IfOk result (λ bytes. bytes.items ≡ joined uploads.now parts.now) }
+/// Puts the bytes of an upload at the end, shared, if there is one.
+fn join_one(alloc: Global, bytes: &mut Segments, uploads: &Uploads, id: Id) -> Result<(), NoMemory>
+    requires { length bytes.old + length (bytes_of (map.get uploads.now id)) < 2 ^ 64 }
+    ensures { OnOk result (bytes.new ≡ bytes.old ++ bytes_of (map.get uploads.now id)) }
 {
-    let count = sum_within(uploads, parts, u64::MAX).unwrap_or(0);
-    let mut bytes = Vec::with_capacity(alloc, count as usize)?;
+    if let Some(upload) = uploads.get(id) {
+        bytes.join(&upload.share(alloc)?)?;
+    }
+    Ok(())
+}
+
+/// The bytes of the parts, one after another, which are shared and not copied. Each part is one run as a rule, so room for
+/// them is made once.
+fn join(alloc: Global, uploads: &Uploads, parts: &[Id]) -> Result<Segments, NoMemory>
+    requires { length (joined uploads.now parts.now) < 2 ^ 64 }
+    ensures { IfOk result (λ bytes. bytes ≡ joined uploads.now parts.now) }
+{
+    let mut bytes = Segments::with_room(alloc, parts.len())?;
     for part in parts {
-        bytes.extend_from_slice(bytes_of(uploads, *part))?;
+        join_one(alloc, &mut bytes, uploads, *part)?;
     }
     Ok(bytes)
 }
 
 /// The bytes that a new upload begins with: those of its parts, if it is a final one, else none. The length that is announced
 /// takes no room.
-pub fn first_bytes(alloc: Global, uploads: &Uploads, new: &NewUpload) -> Result<Vec<u8>, NoMemory>
-    ensures bytes { IfOk result (λ bytes. bytes.items ≡ first_bytes uploads.now new.now) }
-    ensures room { IfOk result (λ bytes.
-        is_final_kind new.now.kind ≡ false → vec_capacity bytes ≡ 0) }
+pub fn first_bytes(alloc: Global, uploads: &Uploads, new: &NewUpload) -> Result<Segments, NoMemory>
+    requires { length (first_bytes uploads.now new.now) < 2 ^ 64 }
+    ensures { IfOk result (λ bytes. bytes ≡ first_bytes uploads.now new.now) }
 {
     if new.kind == Kind::Final {
         join(alloc, uploads, new.parts.as_slice())
     } else {
-        Ok(Vec::new(alloc))
+        Ok(Segments::new(alloc))
     }
 }

@@ -1,86 +1,87 @@
 //! Where an upload's bytes are.
-ghost use Rattle.std.specs.Prelude.{◌≡◌, ◌+◌, ◌*◌, ◌<◌, ◌≤◌, max, min, nat_lt, not, vec_len, vec_capacity, IfOk, OnOk};
+ghost use Rattle.std.specs.Prelude.{◌≡◌, ◌≤◌, ◌++◌, length, IfOk};
+ghost use Rattle.up_machine.specs.Kept.{tail_room};
+ghost use Rattle.up_message.specs.Joins.{pieced, pieced_then};
 
-use bytes::Bytes;
+use crate::pieces::Pieces;
 use std::alloc::{AllocError, Global};
+use up_message::{Piece, Run, Segments};
 
 /// The bytes of an upload.
 #[derive(Drop)]
 pub enum Store {
     /// More may come.
-    Open(Vec<u8>),
+    Open(Pieces),
     /// All have come, and the answers that give them share them.
-    Whole(Bytes),
+    Whole(Segments),
 }
 
 impl Store {
     ghost use Rattle.up_machine.specs.Stored.{stored, IsStored};
 
-    /// The bytes that have come so far.
-    pub fn as_slice(&self) -> &[u8]
-        ensures { result.now ≡ stored self.now }
+    /// How many bytes have come so far.
+    pub fn len(&self) -> u64
+        ensures { result ≡ length (stored self.now) }
     {
         match self {
-            Store::Open(bytes) => bytes.as_slice(),
-            Store::Whole(bytes) => bytes.as_slice(),
+            Store::Open(pieces) => pieces.len(),
+            Store::Whole(segments) => segments.len(),
         }
     }
 
-    /// To be shared once there are as many bytes as this length says. Where memory for that is wanting, they stay as they are.
-    pub fn settled(self, size: Option<u64>) -> Store
+    /// How much room there is that no byte is in.
+    pub fn spare(&self) -> usize
+        ensures { result ≤ tail_room }
+    {
+        match self {
+            Store::Open(pieces) => pieces.spare(),
+            Store::Whole(_) => 0,
+        }
+    }
+
+    /// The bytes that have come so far: those of the runs, then those of the pieces, then the tail.
+    pub fn slices(&self) -> (&[Run], &[Piece], &[u8])
+        ensures { pieced result.0.now ++ pieced_then result.1.now result.2.now
+            ≡ stored self.now }
+    {
+        match self {
+            Store::Open(pieces) => {
+                let (front, tail) = pieces.slices();
+                (&[], front, tail)
+            }
+            Store::Whole(segments) => {
+                let (front, last) = segments.runs();
+                (front, last.pieces(), &[])
+            }
+        }
+    }
+
+    /// To be shared once there are as many bytes as this length says. If memory for that is refused, they stay as they are.
+    pub fn settled(self, alloc: Global, size: Option<u64>) -> Store
         requires { IsStored self size }
         ensures same { stored result ≡ stored self }
         ensures stored { IsStored result size }
     {
-        let bytes = match self {
-            Store::Open(bytes) => bytes,
-            Store::Whole(bytes) => return Store::Whole(bytes),
+        let pieces = match self {
+            Store::Open(pieces) => pieces,
+            Store::Whole(segments) => return Store::Whole(segments),
         };
-        if size != Some(bytes.len() as u64) {
-            return Store::Open(bytes);
+        if size != Some(pieces.len()) {
+            return Store::Open(pieces);
         }
-        match Bytes::from_vec(bytes) {
-            Ok(whole) => Store::Whole(whole),
-            Err(refused) => Store::Open(refused.value),
+        match pieces.settled(alloc) {
+            Ok(segments) => Store::Whole(segments),
+            Err(pieces) => Store::Open(pieces),
         }
     }
 
-    /// The bytes for an answer: shared where all have come.
-    pub fn share(&self, alloc: Global) -> Result<Bytes, AllocError>
-        ensures { IfOk result (λ bytes. bytes ≡ stored self.now) }
+    /// The bytes for an answer or for another upload, shared if all have come.
+    pub fn share(&self, alloc: Global) -> Result<Segments, AllocError>
+        ensures { IfOk result (λ shared. shared ≡ stored self.now) }
     {
         match self {
-            Store::Open(bytes) => Bytes::copy_from_slice(alloc, bytes),
-            Store::Whole(bytes) => bytes.clone(),
+            Store::Open(pieces) => pieces.share(alloc),
+            Store::Whole(segments) => segments.share(alloc),
         }
     }
-}
-
-/// Makes room for so many bytes more: twice the room that there was, if the length allows that, and so no more than twice what
-/// there then is.
-pub fn grow(bytes: &mut Vec<u8>, count: usize, length: u64) -> Result<(), AllocError>
-    requires { vec_len bytes.old + count ≤ length }
-    ensures items { bytes.new.items ≡ bytes.old.items }
-    ensures len { vec_len bytes.new ≡ vec_len bytes.old }
-    ensures enough { OnOk result (vec_len bytes.new + count ≤ vec_capacity bytes.new) }
-    ensures doubled { vec_capacity bytes.old < vec_len bytes.old + count
-        → OnOk result (min (2 * vec_capacity bytes.old) length ≤ vec_capacity bytes.new) }
-    ensures within { vec_capacity bytes.new ≤ max (vec_capacity bytes.old) length }
-    ensures bounded { vec_capacity bytes.new
-        ≤ max (vec_capacity bytes.old) (2 * (vec_len bytes.old + count)) }
-{
-    let needed = bytes.len() + count;
-    if needed <= bytes.capacity() {
-        return Ok(());
-    }
-    let doubled = bytes.capacity().saturating_mul(2).min(length as usize);
-    let room = needed.max(doubled);
-    bytes.reserve_exact(room - bytes.len())
-}
-
-/// Whether these bytes have no more room than `grow` may make for them: the length, and twice what they are.
-pub fn has_close_room(bytes: &Vec<u8>, length: u64) -> bool
-    ensures { result ≡ not (nat_lt (min length (2 * vec_len bytes.now)) (vec_capacity bytes.now)) }
-{
-    bytes.capacity() <= bytes.len().saturating_mul(2).min(length as usize)
 }

@@ -1,16 +1,16 @@
 //! One upload, with its bytes.
-ghost use Rattle.std.specs.Prelude.{◌≡◌, length, IfOk, OnOk, OnErr};
+ghost use Rattle.std.specs.Prelude.{◌≡◌, [], false, length, IfOk, OnOk, OnErr};
 ghost use Rattle.std.specs.Option.{option_copied};
 
-use crate::store::{Store, grow, has_close_room};
+use crate::pieces::Pieces;
+use crate::store::Store;
 use crate::view::View;
-use bytes::Bytes;
 use std::alloc::{AllocError, Global};
 use std::marker::Model;
 use std::mem;
 use up_events::{Accepted, Journal, Kind, MOST_BYTES, NoMemory};
 use up_headers::{NewUpload, Pairs};
-use up_message::Sequence;
+use up_message::{Piece, Segments, Sequence};
 
 /// An upload: what its client said of it, and the bytes that have come so far, never more than its length says, where that is known.
 #[derive(Drop)]
@@ -56,13 +56,14 @@ fn text(sent: &Option<Sequence<u8>>) -> Option<&[u8]>
 impl Upload {
     ghost use Rattle.up_machine.specs.Content.{made_of, is_complete, with_more, IsWithinLength, CanTake};
     ghost use Rattle.up_machine.specs.Views.{IsViewOf};
-    ghost use Rattle.up_events.specs.History.{CanFollow};
+    ghost use Rattle.up_events.specs.History.{is_final_kind, CanFollow};
     ghost use Rattle.up_events.specs.Records.{noted};
 
     /// A new upload that begins with these bytes: a final one has just them, any other none.
-    pub fn new(new: NewUpload, bytes: Vec<u8>) -> Self
-        requires { IsWithinLength (made_of new bytes.items) }
-        ensures { result ≡ made_of new bytes.items }
+    pub fn new(alloc: Global, new: NewUpload, first: Segments) -> Self
+        requires within { IsWithinLength (made_of new first) }
+        requires none { is_final_kind new.kind ≡ false → first ≡ [] }
+        ensures { result ≡ made_of new first }
     {
         let NewUpload {
             kind,
@@ -72,15 +73,16 @@ impl Upload {
             metadata,
             concat,
         } = new;
-        let length = if kind == Kind::Final {
-            Some(bytes.len() as u64)
+        let (length, bytes) = if kind == Kind::Final {
+            (Some(first.len()), Store::Whole(first))
         } else {
-            length
+            let bytes = Store::Open(Pieces::new(alloc));
+            (length, bytes.settled(alloc, length))
         };
         Upload {
             kind,
             length,
-            bytes: Store::Open(bytes).settled(length),
+            bytes,
             metadata,
             pairs,
             concat,
@@ -105,7 +107,7 @@ impl Upload {
     pub fn offset(&self) -> u64
         ensures { result ≡ length self.now.bytes }
     {
-        self.bytes.as_slice().len() as u64
+        self.bytes.len()
     }
 
     /// Whether all bytes have come.
@@ -113,13 +115,6 @@ impl Upload {
         ensures { result ≡ is_complete self.now }
     {
         self.length == Some(self.offset())
-    }
-
-    /// The bytes that have come so far.
-    pub fn bytes(&self) -> &[u8]
-        ensures { result.now ≡ self.now.bytes }
-    {
-        self.bytes.as_slice()
     }
 
     /// The metadata text, where there is one.
@@ -147,61 +142,60 @@ impl Upload {
     pub fn view(&self) -> View
         ensures { IsViewOf self.now result }
     {
+        let (runs, pieces, tail) = self.bytes.slices();
         View {
             kind: self.kind,
             offset: self.offset(),
             length: self.length,
             metadata: self.metadata(),
             concat: self.concat(),
-            bytes: self.bytes(),
+            runs,
+            pieces,
+            tail,
+            spare: self.bytes.spare(),
         }
     }
 
-    /// The bytes for an answer: shared with the upload where all have come.
-    pub fn share(&self, alloc: Global) -> Result<Bytes, AllocError>
+    /// The bytes for an answer or for another upload, shared if all have come.
+    pub fn share(&self, alloc: Global) -> Result<Segments, AllocError>
         ensures { IfOk result (λ bytes. bytes ≡ self.now.bytes) }
     {
         self.bytes.share(alloc)
     }
 
-    /// From now on the answers share the bytes, if all have come. Where memory for that is wanting, they don't.
+    /// From now on the answers share the bytes, if all have come. If memory for that is refused, they don't yet.
     fn settle(&mut self, alloc: Global)
         ensures { self.new ≡ self.old }
     {
-        let store = mem::replace(&mut self.bytes, Store::Open(Vec::new(alloc)));
-        self.bytes = store.settled(self.length);
+        if !self.is_complete() {
+            return;
+        }
+        let store = mem::replace(&mut self.bytes, Store::Open(Pieces::new(alloc)));
+        self.bytes = store.settled(alloc, self.length);
     }
 
-    /// Notes the change, and takes the bytes at the end, with this length from now on. The first bytes are moved in where their
-    /// room is close, and else copied. Where memory is wanting, nothing is changed.
+    /// Notes the change, and takes the bytes at the end, with this length from now on. If memory is refused, nothing is
+    /// changed.
     pub fn take(
         &mut self,
         alloc: Global,
         journal: &mut Journal,
         change: Accepted,
         size: Option<u64>,
-        more: Sequence<u8>,
+        more: &Piece,
     ) -> Result<(), NoMemory>
-        requires room { CanTake size (length more) self.old }
+        requires room { CanTake size (length more.now) self.old }
         requires follows { CanFollow journal.old.accepted change }
-        ensures ok { OnOk result (self.new ≡ with_more self.old size more) }
+        ensures ok { OnOk result (self.new ≡ with_more self.old size more.now) }
         ensures noted { OnOk result (journal.new ≡ noted journal.old change) }
         ensures err { OnErr result (self.new ≡ self.old) }
         ensures not_noted { OnErr result (journal.new ≡ journal.old) }
     {
-        let Store::Open(bytes) = &mut self.bytes else {
+        let Store::Open(pieces) = &mut self.bytes else {
             unreachable!()
         };
         let most = size.unwrap_or(MOST_BYTES);
-        let more = more.into_vec();
-        if bytes.is_empty() && has_close_room(&more, most) {
-            journal.note(change)?;
-            *bytes = more;
-        } else {
-            grow(bytes, more.len(), most)?;
-            journal.note(change)?;
-            bytes.extend_from_slice(&more).unwrap();
-        }
+        pieces.append(alloc, journal, change, more, most)?;
         self.length = size;
         self.settle(alloc);
         Ok(())

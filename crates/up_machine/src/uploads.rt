@@ -7,13 +7,14 @@ ghost use Rattle.std.specs.BTreeMap.{get, Updates, IsUnchanged};
 ghost use Rattle.up_events.specs.History.{CanFollow};
 ghost use Rattle.up_events.specs.Records.{noted};
 
+use crate::remains::Remains;
 use crate::upload::Upload;
 use std::alloc::Global;
 use std::collections::BTreeMap;
 use std::collections::btree_map::Entry;
 use std::marker::Model;
 use up_events::{Accepted, Id, Journal, NoMemory};
-use up_message::Sequence;
+use up_message::Piece;
 
 /// The uploads that there are, each under its id.
 #[derive(Drop)]
@@ -85,12 +86,12 @@ impl Uploads {
         change: Accepted,
         id: Id,
         size: Option<u64>,
-        more: Sequence<u8>,
+        more: &Piece,
     ) -> Result<(), NoMemory>
-        requires room { IsSomeAnd (map.get self.old id) (CanTake size (length more)) }
+        requires room { IsSomeAnd (map.get self.old id) (CanTake size (length more.now)) }
         requires follows { CanFollow journal.old.accepted change }
         ensures ok { OnOk result (IfSome (map.get self.old id) (λ x.
-            self.new ≡ map.insert self.old id (with_more x size more))) }
+            self.new ≡ map.insert self.old id (with_more x size more.now))) }
         ensures noted { OnOk result (journal.new ≡ noted journal.old change) }
         ensures err { OnErr result (self.new ≡ self.old) }
         ensures not_noted { OnErr result (journal.new ≡ journal.old) }
@@ -119,10 +120,10 @@ impl Uploads {
         insert_noted(&mut self.entries, journal, change, id, upload)
     }
 
-    /// Takes an upload out, with its bytes. Takes no memory.
-    pub fn remove(&mut self, id: Id)
+    /// Takes an upload out, with its bytes, which are dropped later. Takes no memory.
+    pub fn remove(&mut self, id: Id, remains: &mut Remains)
         ensures { self.new ≡ map.remove self.old id }
     {
-        let _ = self.entries.remove(&id);
+        remains.take_upload(self.entries.remove(&id));
     }
 }

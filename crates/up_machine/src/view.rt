@@ -1,8 +1,9 @@
 //! What is shown of an upload.
 use up_events::Kind;
+use up_message::{Piece, Run};
 
 /// An upload as it stands. It is borrowed from the book.
-#[derive(Clone, Copy, Debug)]
+#[derive(Clone, Copy)]
 pub struct View<'a> {
     pub kind: Kind,
     /// How many bytes it has (`Upload-Offset` of tus 1.0.0).
@@ -13,5 +14,10 @@ pub struct View<'a> {
     pub metadata: Option<&'a [u8]>,
     /// The text of `Upload-Concat` as it was sent, where it isn't empty.
     pub concat: Option<&'a [u8]>,
-    pub bytes: &'a [u8],
+    /// The bytes are those of the runs, then those of the pieces, and then the tail.
+    pub runs: &'a [Run],
+    pub pieces: &'a [Piece],
+    pub tail: &'a [u8],
+    /// How much room there is for more bytes, at most 65,536.
+    pub spare: usize,
 }

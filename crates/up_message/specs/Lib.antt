@@ -2,3 +2,5 @@
 pub mod Digits
 pub mod Fields
 pub mod Refused
+pub mod Joins
+pub mod Shapes

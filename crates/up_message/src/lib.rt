@@ -4,11 +4,17 @@
 mod digits;
 mod fields;
 mod message;
+mod piece;
 mod response;
+mod run;
+mod segments;
 mod sequence;
 
 pub use digits::{is_digits, number};
 pub use fields::{Values, find_value, same_name, trim_end_ows};
 pub use message::{Field, Message};
+pub use piece::Piece;
 pub use response::Response;
+pub use run::Run;
+pub use segments::Segments;
 pub use sequence::Sequence;

@@ -3,8 +3,9 @@ ghost use Rattle.std.specs.Prelude.{◌≡◌, ◌++◌, ◌∷◌, [], IfOk};
 ghost use Rattle.up_message.specs.Refused.{plain_text, refused_with, out_of_memory};
 
 use crate::message::Field;
+use crate::piece::Piece;
+use crate::segments::Segments;
 use crate::sequence::Sequence;
-use bytes::Bytes;
 use std::alloc::{AllocError, Global};
 
 /// A response, without the lines that every response has.
@@ -14,7 +15,7 @@ pub struct Response {
     pub status: u16,
     pub fields: Sequence<Field>,
     /// The bytes of the content, which other owners may share (RFC 9110, section 6.4).
-    pub body: Bytes,
+    pub body: Segments,
 }
 
 impl Response {
@@ -25,7 +26,7 @@ impl Response {
         Response {
             status,
             fields: Sequence::new(alloc),
-            body: Bytes::new(),
+            body: Segments::new(alloc),
         }
     }
 
@@ -46,7 +47,7 @@ impl Response {
     }
 
     /// With this body, which is not copied. Takes no memory.
-    pub fn with_body(mut self, body: Bytes) -> Self
+    pub fn with_body(mut self, body: Segments) -> Self
         ensures { result ≡ record self { body = body } }
     {
         self.body = body;
@@ -55,19 +56,19 @@ impl Response {
 
     /// With this body, which is not copied, and a last field that says that it is plain text. `AllocError` where memory
     /// for the field was refused.
-    pub fn with_plain_text(self, alloc: Global, text: Bytes) -> Result<Self, AllocError>
+    pub fn with_plain_text(self, alloc: Global, text: Piece) -> Result<Self, AllocError>
         ensures { IfOk result (λ made. made
             ≡ record self { fields = self.fields ++ plain_text ∷ []; body = text }) }
     {
         let response = self.with_field(alloc, b"Content-Type", b"text/plain")?;
-        Ok(response.with_body(text))
+        Ok(response.with_body(Segments::from_piece(alloc, text)))
     }
 
     /// To what is refused: why, as plain text. `AllocError` where memory was refused.
     pub fn refused(alloc: Global, status: u16, text: &'static str) -> Result<Self, AllocError>
         ensures { IfOk result (λ made. made ≡ refused_with status text.now) }
     {
-        Response::new(alloc, status).with_plain_text(alloc, Bytes::from_static(text.as_bytes()))
+        Response::new(alloc, status).with_plain_text(alloc, Piece::from_static(text.as_bytes()))
     }
 
     /// To what there was no memory for: nothing but its status (RFC 9110, section 15.6.4). Takes no memory.

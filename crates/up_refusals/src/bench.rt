@@ -8,7 +8,7 @@ use std::io;
 use std::sync::Wait;
 use up_events::{Accepted, Journal, Kind, MOST_BYTES};
 use up_headers::{HeaderFault, MetadataFault, pairs_of, request_of};
-use up_machine::{Asked, Book, Plan, Refusal};
+use up_machine::{Asked, Book, Plan, Refusal, Remains};
 use up_queue::{Item, QueueFault, compare, lane_queue};
 
 /// A book and a journal, each of two lanes, and the lines of the last call.
@@ -99,7 +99,8 @@ fn commit(words: &mut String, book: &mut Book, alloc: Global, row: &str) -> io::
     let (number, row) = row.split_once(' ').unwrap_or((row, ""));
     let id = id_of(number_of(number)?);
     let request = request_in(alloc, row)?;
-    let done = book.commit(alloc, request, id, &Asked::AllowedFinish);
+    let mut remains = Remains::new();
+    let done = book.commit(alloc, request, id, &Asked::AllowedFinish, &mut remains);
     match &done {
         Ok(done) => push_response(words, &done.response)?,
         Err(refusal) => write!(words, "{refusal}")?,

@@ -8,7 +8,7 @@ use up_headers::{Pairs, Request};
 use up_hooks::Recorder;
 use up_lanes::How;
 use up_machine::{Ask, Book, Plan};
-use up_message::Response;
+use up_message::{Piece, Response, Run};
 
 /// The ids of the rows are the numbers below this one.
 const ID_COUNT: u64 = 10;
@@ -26,6 +26,20 @@ pub fn push_journal(words: &mut String, journal: &Journal) -> Result<(), AllocEr
     write!(words, "; changes {changes}; events {even} {odd}")
 }
 
+fn push_pieces(words: &mut String, pieces: &[Piece]) -> Result<(), AllocError> {
+    for piece in pieces {
+        write!(words, "{}", piece.as_slice().escape_ascii())?;
+    }
+    Ok(())
+}
+
+fn push_runs(words: &mut String, runs: &[Run]) -> Result<(), AllocError> {
+    for run in runs {
+        push_pieces(words, run.pieces())?;
+    }
+    Ok(())
+}
+
 /// A book, as "open; 1 Plain 3/Some(5) [abc]; ids 1 2; ..": whether it is, each upload with its number, kind, offset, length and
 /// bytes, and the journal.
 pub fn push_book(words: &mut String, book: &Book) -> Result<(), AllocError> {
@@ -38,8 +52,10 @@ pub fn push_book(words: &mut String, book: &Book) -> Result<(), AllocError> {
     for number in 0..ID_COUNT {
         if let Some(view) = book.upload(id_of(number)) {
             let (kind, offset, length) = (view.kind, view.offset, view.length);
-            let bytes = view.bytes.escape_ascii();
-            write!(words, "{number} {kind:?} {offset}/{length:?} [{bytes}]; ")?;
+            write!(words, "{number} {kind:?} {offset}/{length:?} [")?;
+            push_runs(words, view.runs)?;
+            push_pieces(words, view.pieces)?;
+            write!(words, "{}]; ", view.tail.escape_ascii())?;
         }
     }
     push_journal(words, book.journal())
@@ -84,7 +100,11 @@ pub fn push_response(words: &mut String, response: &Response) -> Result<(), Allo
         let value = value.as_slice().escape_ascii();
         write!(words, "{name}: {value}; ")?;
     }
-    write!(words, "[{}]", response.body.as_slice().escape_ascii())
+    let (front, last) = response.body.runs();
+    words.push_str("[")?;
+    push_runs(words, front)?;
+    push_pieces(words, last.pieces())?;
+    words.push_str("]")
 }
 
 /// What closures are asked, as "ask Create None 0/Some(5) [name=ab; ]": point, target, offset and length, and pairs.

@@ -4,21 +4,22 @@ mod words;
 mod working;
 
 use crate::courses::requests::{asked_of, request_of, size_of};
+use crate::gathered::gathered;
 use crate::line::{cut, number_of};
 use crate::row_fault::RowFault;
-use bytes::Bytes;
 use std::alloc::Global;
 use std::fmt::Write;
 use up_events::{Accepted, Added, Id, Journal, Kind};
 use up_headers::Request;
-use up_machine::{Asked, Book, Plan, Reason, Refusal};
+use up_machine::{Asked, Book, Plan, Reason, Refusal, Remains};
+use up_message::Segments;
 
 /// A book, what is said before each commit, and bytes that were given.
 #[derive(Drop)]
 pub struct Course {
     book: Book,
     asked: Asked,
-    kept: Bytes,
+    kept: Segments,
 }
 
 /// The id of a word.
@@ -99,9 +100,9 @@ fn numbered(alloc: Global, row: &str) -> Result<Request, RowFault> {
 }
 
 /// The bytes that a book gives of an upload.
-fn given(book: &mut Book, alloc: Global, id: Id, asked: &Asked) -> Result<Bytes, RowFault> {
-    let given = book.commit(alloc, Request::Get(id), id, asked)?;
-    Ok(given.response.body.clone()?)
+fn given(book: &mut Book, alloc: Global, id: Id, asked: &Asked) -> Result<Segments, RowFault> {
+    let given = book.commit(alloc, Request::Get(id), id, asked, &mut Remains::new())?;
+    Ok(given.response.body)
 }
 
 /// Fails where a book does not show what it did before.
@@ -117,7 +118,7 @@ impl Course {
         Ok(Course {
             book: Book::new(alloc, 2, 1)?,
             asked: Asked::AllowedFinish,
-            kept: Bytes::new(),
+            kept: Segments::new(alloc),
         })
     }
 
@@ -150,7 +151,9 @@ impl Course {
         let (number, rest) = cut(row);
         let id = id_of(number)?;
         let request = request_of(alloc, id, rest)?;
-        let decided = self.book.commit(alloc, request, id, &self.asked);
+        let mut remains = Remains::new();
+        let (book, asked) = (&mut self.book, &self.asked);
+        let decided = book.commit(alloc, request, id, asked, &mut remains);
         Ok((words::change_of(&decided), words::of_done(alloc, &decided)?))
     }
 
@@ -214,7 +217,7 @@ impl Course {
     fn found(&mut self, alloc: Global, row: &str) -> Result<String, RowFault> {
         let (word, rest) = cut(row);
         match word {
-            "kept" => in_brackets(alloc, Some(self.kept.as_slice())),
+            "kept" => in_brackets(alloc, Some(gathered(alloc, &self.kept)?.as_slice())),
             "plan" => self.plan(alloc, rest),
             "value" => self.value(alloc, rest),
             "reason" => reason(alloc, rest),

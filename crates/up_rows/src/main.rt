@@ -61,6 +61,7 @@
 #![tactic(auto)]
 
 mod courses;
+mod gathered;
 mod line;
 mod messages;
 mod row_fault;

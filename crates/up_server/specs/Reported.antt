@@ -49,3 +49,12 @@ IsTold report before after (Err Fault.Listen) = ⊥
 IsTold report before after (Err Fault.Write) = IsBrokenOff report before after
 IsTold report before after (Err Fault.Read) = ⊥
 IsTold report before after (Err Fault.Stopped) = IsWritten report before after × (any_stopped report.lanes.items ≡ true)
+
+-- no report is told, and whether a lane stopped is
+abbrev pub HasEnded : {H X : Type 0} → Report H → Result X ServerFault → Type 0
+HasEnded report (Ok done) = any_stopped report.lanes.items ≡ false
+HasEnded report (Err Fault.Memory) = ⊥
+HasEnded report (Err Fault.Listen) = ⊥
+HasEnded report (Err Fault.Write) = ⊥
+HasEnded report (Err Fault.Read) = ⊥
+HasEnded report (Err Fault.Stopped) = any_stopped report.lanes.items ≡ true

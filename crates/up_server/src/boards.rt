@@ -12,7 +12,7 @@ use up_events::NoMemory;
 use up_hooks::PostHook;
 use up_lanes::{Lane, LaneEnd};
 
-/// A new board of these parts, and a lane over each of its queues, with the post-hook at its place.
+/// A new board of these parts, which counts the changes and doesn't keep them, and a lane over each of its queues, with the post-hook at its place.
 pub fn open<B: Naming, H: PostHook + Drop>(
     alloc: Global,
     parts: BoardParts,
@@ -28,7 +28,7 @@ pub fn open<B: Naming, H: PostHook + Drop>(
     ensures count { IfOk result (λ r. vec_len r.1 ≡ settings.now.lanes) }
     ensures lanes { IfOk result (λ r. EachAt (λ k l. (l.lane ≡ k) × (l.queue ≡ B.queue k)) r.1.items) }
 {
-    let (board, takes) = Board::<B>::new(alloc, parts, settings.max_size)?;
+    let (board, takes) = Board::<B>::forgetting(alloc, parts, settings.max_size)?;
     let lanes = lanes_over(alloc, takes, post_hooks)?;
     Ok((board, lanes))
 }
@@ -41,7 +41,7 @@ pub fn finish<B: Naming, H: PostHook + Drop>(
     ends: Vec<LaneEnd<H>>,
 ) -> Result<Report<H>, NoMemory>
     requires ends { EachAt (λ k e. H.is_sound e.hook × (e.lane ≡ k) × (e.take_end.queue ≡ B.queue k)) ends.items }
-    ensures counts { IfOk result (λ r. vec_len r.accepted ≡ sum seats.items) }
+    ensures counts { IfOk result (λ r. length r.accepted.items ≡ sum seats.items) }
     ensures report { IfOk result (λ r. IsReportOf H.handed (vec_len ends) r) }
     ensures sound { IfOk result (λ r. All (λ x. H.is_sound x.hook) r.lanes.items) }
 {

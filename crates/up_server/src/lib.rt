@@ -18,7 +18,7 @@ mod telling;
 
 pub use command_line::{WordsFault, words};
 pub use event_lines::EventLines;
-pub use listening::serve;
+pub use listening::{keep_serving, serve};
 pub use rules::{at_most, finishes_at_most, keeps, needs_key, refuse};
 pub use server_fault::ServerFault;
 pub use serving::replay;

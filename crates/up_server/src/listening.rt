@@ -4,13 +4,14 @@ ghost use Rattle.up_dispatch.specs.Lists.{EachAt};
 ghost use Rattle.up_dispatch.specs.Parts.{NamesQueues};
 ghost use Rattle.up_dispatch.specs.declared.finish.Report.{Report};
 ghost use Rattle.up_hooks.specs.declared.recorder.Recorder.{Recorder};
-ghost use Rattle.up_server.specs.Reported.{IsReportOf, IsTold};
+ghost use Rattle.up_hooks.specs.declared.teller.Teller.{Teller};
+ghost use Rattle.up_server.specs.Reported.{HasEnded, IsReportOf, IsTold};
 
 use crate::boards;
 use crate::lanes::{end_all, start_all};
 use crate::server_fault::ServerFault;
 use crate::settings::Settings;
-use crate::telling::tell_report;
+use crate::telling::{tell_end, tell_report};
 use std::alloc::{AllocError, Global};
 use std::marker::{Brand, Send, Sync};
 use std::net::TcpListener;
@@ -20,7 +21,7 @@ use std::thread::{Scope, Threads};
 use up_connections::{Visits, serve_connections};
 use up_dispatch::{Board, BoardParts, Ids, Naming, Report, Seat};
 use up_events::{Event, MOST_BYTES, NoMemory};
-use up_hooks::{Outcome, PostHook, PreHooks, Recorder};
+use up_hooks::{Outcome, PostHook, PreHooks, Recorder, Teller};
 use up_lanes::{Lane, LaneEnd};
 use up_wire::Sink;
 
@@ -167,4 +168,38 @@ pub fn serve<
         return Err(ServerFault::Memory);
     };
     tell_report(sink, &report)
+}
+
+/// The same, with tellers and with no report: nothing is kept of the changes and events that went by, so it may run without an end. What it
+/// holds are the uploads that are there, a few words for each id that was ever given, and the events that wait for their lane.
+pub fn keep_serving<
+    F: Fn(&Event) -> Outcome + Send + Drop,
+    I: Ids + Send + Drop,
+    T: Threads + Wait + Sync,
+>(
+    rt: &T,
+    alloc: Global,
+    hooks: PreHooks,
+    tellers: Vec<Teller<F>>,
+    settings: &Settings,
+    listener: TcpListener,
+    visits: &Visits,
+    ids: I,
+) -> Result<(), ServerFault>
+    requires one_for_each { length tellers.items ≡ settings.now.lanes }
+    requires new { All (λ t. ⟦<Teller<F> as PostHook>⟧.is_sound t × (⟦<Teller<F> as PostHook>⟧.handed t ≡ [])) tellers.items }
+    ensures { (result ≡ Err ServerFault.Memory) ⊎ ((report : Report (Teller F))
+        × IsReportOf ⟦<Teller<F> as PostHook>⟧.handed settings.now.lanes report
+        × All (λ lane. ⟦<Teller<F> as PostHook>⟧.is_sound lane.hook) report.lanes.items
+        × HasEnded report result) }
+{
+    let Ok(parts) = BoardParts::new(alloc, settings.lanes, settings.capacity) else {
+        return Err(ServerFault::Memory);
+    };
+    let Ok(report) = run::<Brand, _, _, _>(
+        rt, alloc, parts, &hooks, tellers, settings, &listener, visits, ids,
+    ) else {
+        return Err(ServerFault::Memory);
+    };
+    tell_end(&report)
 }

@@ -28,7 +28,7 @@ pub fn write_report<F, W: Sink>(
 }
 
 /// Writes the number of accepted changes.
-fn write_count<W: Sink>(sink: &mut W, count: usize) -> Result<(), WriteFailed>
+fn write_count<W: Sink>(sink: &mut W, count: u64) -> Result<(), WriteFailed>
     ensures written { Writes (W.device sink.old).bytes (W.device sink.new).bytes
         (count_line count) result }
     ensures failed { OnErr result (GaveUp (W.device sink.new) (W.device sink.new).interruptions) }

@@ -1,6 +1,6 @@
 //! What is said at the end of a run.
 ghost use Rattle.std.specs.Prelude.{◌≡◌};
-ghost use Rattle.up_server.specs.Reported.{IsTold, any_stopped, is_stopped};
+ghost use Rattle.up_server.specs.Reported.{HasEnded, IsTold, any_stopped, is_stopped};
 ghost use Rattle.up_server.specs.Run.{IsReported};
 
 use crate::report::write_report;
@@ -37,6 +37,16 @@ pub fn tell_report<F, W: Sink>(
         Ok(()) => Ok(()),
         Err(_) => Err(ServerFault::Write),
     }
+}
+
+/// Tells whether a lane stopped, of a run whose report nobody reads.
+pub fn tell_end<H>(report: &Report<H>) -> Result<(), ServerFault>
+    ensures { HasEnded report.now result }
+{
+    if any_stopped(report.lanes.as_slice()) {
+        return Err(ServerFault::Stopped);
+    }
+    Ok(())
 }
 
 /// Writes the report behind the replies, where these were written, and tells the first thing that went wrong.

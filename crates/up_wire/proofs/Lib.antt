@@ -16,3 +16,4 @@ pub mod OneAnswerChunks
 pub mod OneAnswerBodies
 pub mod OneAnswerKinds
 pub mod OneAnswer
+pub mod Places

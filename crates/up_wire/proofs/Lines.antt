@@ -4,8 +4,7 @@ use Rattle.std.proofs.lemmas.List.{length-append}
 use Rattle.std.proofs.Math.Seq.{drop-append_seam, take-append_seam, take-length}
 use Rattle.std.proofs.lemmas.List.Elements.{All-nil, All-cons, All-append}
 use Rattle.std.proofs.lemmas.Bool.{eqb-true, eq-eqb}
-use Rattle.up_wire.specs.declared.device.Run.{Run}
-use Rattle.up_wire.specs.Device.{HasNoFeed, IsEndedLine, IsInLine, IsRun}
+use Rattle.up_wire.specs.Device.{HasNoFeed, IsEndedLine, IsInLine}
 use Rattle.up_wire.specs.Steps.{EndsInFeed}
 use Rattle.up_wire.proofs.Heads.{snoc_parts, last_of}
 
@@ -21,20 +20,6 @@ pub short_in_line : (run : List ℕ) → length run ≤ 1 → IsInLine run
 short_in_line [] short = inl (All-nil (λ c. c ≢ 10))
 short_in_line (b ∷ []) short = one_by b (eqb b 10) refl
 short_in_line (b ∷ c ∷ rest) short = absurd (omega arith)
-
--- a run within less is one within more
-pub run_within : (r : Run) (less most : ℕ) (run : List ℕ) → less ≤ most → IsRun r less run → IsRun r most run
-run_within (Run.Moved count) less most run within is = (is.0, is.1, omega (arith, is.2))
-run_within Run.End less most run within is = is
-run_within Run.Interrupted less most run within is = is
-run_within Run.Failed less most run within is = is
-
--- it has no more than it may
-pub run_short : (r : Run) (most : ℕ) (run : List ℕ) → IsRun r most run → length run ≤ most
-run_short (Run.Moved count) most run is = omega (arith, is.0, is.2)
-run_short Run.End most run is = omega (arith, ap length is)
-run_short Run.Interrupted most run is = omega (arith, ap length is)
-run_short Run.Failed most run is = omega (arith, ap length is)
 
 -- ---- the first line feed of some bytes
 

@@ -5,7 +5,7 @@ use Rattle.httparse.specs.Ascii.{line_feed}
 use Rattle.up_wire.specs.Limits.{max_interruptions}
 use Rattle.up_wire.specs.declared.device.NextByte.{NextByte}
 use Rattle.up_wire.specs.declared.device.NextByte.TheVariants as Next
-use Rattle.up_wire.specs.declared.device.Run.{Run}
+use Rattle.up_wire.specs.declared.device.ReadSome.{ReadSome}
 use Rattle.up_wire.specs.declared.device.WriteSome.{WriteSome}
 use Rattle.up_wire.specs.declared.device.WriteSome.TheVariants as Write
 
@@ -72,18 +72,18 @@ EndsAt Next.Interrupted left = ⊤
 EndsAt Next.Failed left = ⊤
 
 -- the bytes that a run moved: as many as it says, some and at most so many, or none
-abbrev pub IsRun : Run → ℕ → List ℕ → Type 0
-IsRun (Run.Moved count) most run = (length run ≡ count) × (0 < count) × (count ≤ most)
-IsRun Run.End most run = run ≡ []
-IsRun Run.Interrupted most run = run ≡ []
-IsRun Run.Failed most run = run ≡ []
+abbrev pub IsRun : ReadSome → ℕ → List ℕ → Type 0
+IsRun (ReadSome.Moved count) most run = (length run ≡ count) × (0 < count) × (count ≤ most)
+IsRun ReadSome.End most run = run ≡ []
+IsRun ReadSome.Interrupted most run = run ≡ []
+IsRun ReadSome.Failed most run = run ≡ []
 
 -- the room of a buffer before and after a run: it stays where nothing was moved, and is never less
-abbrev pub KeepsRoom : Run → ℕ → ℕ → Type 0
-KeepsRoom (Run.Moved count) before after = before ≤ after
-KeepsRoom Run.End before after = after ≡ before
-KeepsRoom Run.Interrupted before after = after ≡ before
-KeepsRoom Run.Failed before after = after ≡ before
+abbrev pub KeepsRoom : ReadSome → ℕ → ℕ → Type 0
+KeepsRoom (ReadSome.Moved count) before after = before ≤ after
+KeepsRoom ReadSome.End before after = after ≡ before
+KeepsRoom ReadSome.Interrupted before after = after ≡ before
+KeepsRoom ReadSome.Failed before after = after ≡ before
 
 -- bytes without a line feed
 abbrev pub HasNoFeed : List ℕ → Type 0
@@ -98,25 +98,25 @@ abbrev pub IsInLine : List ℕ → Type 0
 IsInLine bytes = HasNoFeed bytes ⊎ IsEndedLine bytes
 
 -- whether the source answered that it failed
-abbrev pub is_failed_run : Run → Bool
-is_failed_run (Run.Moved count) = false
-is_failed_run Run.End = false
-is_failed_run Run.Interrupted = false
-is_failed_run Run.Failed = true
+abbrev pub is_failed_run : ReadSome → Bool
+is_failed_run (ReadSome.Moved count) = false
+is_failed_run ReadSome.End = false
+is_failed_run ReadSome.Interrupted = false
+is_failed_run ReadSome.Failed = true
 
 -- how many interruptions an answer is
-abbrev pub interrupted_runs : Run → ℕ
-interrupted_runs (Run.Moved count) = 0
-interrupted_runs Run.End = 0
-interrupted_runs Run.Interrupted = 1
-interrupted_runs Run.Failed = 0
+abbrev pub interrupted_runs : ReadSome → ℕ
+interrupted_runs (ReadSome.Moved count) = 0
+interrupted_runs ReadSome.End = 0
+interrupted_runs ReadSome.Interrupted = 1
+interrupted_runs ReadSome.Failed = 0
 
 -- the source has no byte left where it answered End
-abbrev pub RunEndsAt : Run → Option (List ℕ) → Type 0
-RunEndsAt (Run.Moved count) left = ⊤
-RunEndsAt Run.End left = IsAtEnd left
-RunEndsAt Run.Interrupted left = ⊤
-RunEndsAt Run.Failed left = ⊤
+abbrev pub RunEndsAt : ReadSome → Option (List ℕ) → Type 0
+RunEndsAt (ReadSome.Moved count) left = ⊤
+RunEndsAt ReadSome.End left = IsAtEnd left
+RunEndsAt ReadSome.Interrupted left = ⊤
+RunEndsAt ReadSome.Failed left = ⊤
 
 -- the byte, where there is one
 abbrev pub maybe_byte : Option ℕ → List ℕ

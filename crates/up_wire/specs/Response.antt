@@ -48,10 +48,13 @@ close_line close = if close then codes "Connection: close\r\n" else []
 abbrev pub shown : Bool → List ℕ → List ℕ
 shown bare body = if bare then [] else body
 
--- that line, the empty line and the body
+-- that line and the empty line
+abbrev pub gap_text : Bool → List ℕ
+gap_text close = concat (close_line close ∷ crlf_bytes ∷ [])
+
+-- these lines and the body
 abbrev pub end_text : Bool → Bool → List ℕ → List ℕ
-end_text bare close body =
-    concat (close_line close ∷ crlf_bytes ∷ shown bare body ∷ [])
+end_text bare close body = gap_text close ++ shown bare body
 
 -- a response as it is written
 abbrev pub response_text : Response → Bool → Bool → List ℕ

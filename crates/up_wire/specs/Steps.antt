@@ -101,6 +101,10 @@ IsBodyRead limit framing input ending (BodyRead.Fault fault) = (fault ≡ Fault.
 abbrev pub IsBounded : Vec ℕ Global → Type 0
 IsBounded buffer = vec_capacity buffer ≤ max first_room (2 * vec_len buffer)
 
+-- a buffer that holds so many bytes, and places behind them, has no more room than that
+abbrev pub IsBoundedBy : ℕ → Vec ℕ Global → Type 0
+IsBoundedBy filled buffer = vec_capacity buffer ≤ max first_room (2 * filled)
+
 -- the body's buffer is so
 abbrev pub HasBoundedBody : BodyRead → Type 0
 HasBoundedBody (BodyRead.Whole body) = IsBounded body
@@ -109,13 +113,13 @@ HasBoundedBody (BodyRead.Fault fault) = ⊤
 
 -- the ending that a batch shows
 abbrev pub batch_ending : Batch → Ending
-batch_ending Batch.Came = open_yet
+batch_ending (Batch.Came count) = open_yet
 batch_ending Batch.Ended = ended
 batch_ending Batch.Failed = failed
 
--- the bytes of a batch: some and at most so many, or none
+-- the bytes of a batch: as many as it says, some and at most so many, or none
 abbrev pub IsBatch : Batch → ℕ → List ℕ → Type 0
-IsBatch Batch.Came most run = (0 < length run) × (length run ≤ most)
+IsBatch (Batch.Came count) most run = (length run ≡ count) × (0 < count) × (count ≤ most)
 IsBatch Batch.Ended most run = run ≡ []
 IsBatch Batch.Failed most run = run ≡ []
 

@@ -1,13 +1,13 @@
 //! Reading a body.
-ghost use Rattle.std.specs.Prelude.{◌≡◌, ◌+◌, ◌<◌, ◌≤◌, ◌⊎◌, ◌++◌, List, ℕ, vec_len, vec_capacity};
+ghost use Rattle.std.specs.Prelude.{◌≡◌, ◌+◌, ◌-◌, ◌<◌, ◌≤◌, ◌⊎◌, ◌++◌, List, ℕ, length, take, vec_len, true, false};
 ghost use Rattle.std.specs.Io.KnownBytes.{Consumes};
 ghost use Rattle.up_wire.specs.Device.{Counts};
 ghost use Rattle.up_wire.specs.Message.{Ending};
 ghost use Rattle.up_wire.specs.Limits.{max_interruptions};
-ghost use Rattle.up_wire.specs.Steps.{EndsSo, IsBodyRead, batch_ending, IsBatch, IsBytesRead, IsBounded, HasBoundedBody, stopped};
+ghost use Rattle.up_wire.specs.Steps.{EndsSo, IsBodyRead, batch_ending, IsBatch, IsBytesRead, IsBounded, IsBoundedBy, HasBoundedBody, stopped};
 
 use crate::chunks::read_chunks;
-use crate::device::{Run, Source};
+use crate::device::{ReadSome, Source};
 use crate::framing::Framing;
 use crate::room::make_room;
 use crate::step::MAX_INTERRUPTIONS;
@@ -113,22 +113,21 @@ pub(crate) fn read_bytes<R: Source>(
     ensures counts { Counts (R.device source.old) (R.device source.new)
         interruptions.old interruptions.new }
 {
-    'batches: while (body.len() as u64) < size {
-        if !make_room(body, most, FIRST_ROOM) {
+    let mut filled = body.len();
+    'batches: while (filled as u64) < size {
+        if !make_ready(body, filled, size, most) {
             return Err(Stop::NoMemory);
         }
-        let room = (body.capacity() - body.len()) as u64;
-        let wanted = room.min(size - body.len() as u64) as usize;
-        let reserved = body.capacity();
-        match take_batch(source, interruptions, body, wanted) {
-            Batch::Came => {
-                // No source needs more room than it was given, but its contract lets it make some.
-                if body.capacity() > reserved {
-                    return Err(Stop::NoMemory);
-                }
+        match fill(source, interruptions, body.as_mut_slice(), filled) {
+            Batch::Came(count) => filled += count,
+            Batch::Ended => {
+                body.truncate(filled);
+                return Err(Stop::Ended);
             }
-            Batch::Ended => return Err(Stop::Ended),
-            Batch::Failed => return Err(Stop::Failed),
+            Batch::Failed => {
+                body.truncate(filled);
+                return Err(Stop::Failed);
+            }
         }
     }
     Ok(())
@@ -137,38 +136,92 @@ pub(crate) fn read_bytes<R: Source>(
 /// How much room a body has at first.
 const FIRST_ROOM: usize = 8192;
 
-/// Bytes came, or why none did.
+/// How many bytes are asked for at a time, at most. That many places stay in the processor's cache between their being made
+/// ready and their being filled.
+const MOST_READY: usize = 1 << 18;
+
+/// Whether so many places are enough to read into, behind so many bytes: as many as are wanted, or a good part of what can be
+/// made ready at a time.
+fn is_enough(ready: usize, filled: usize, wanted: u64) -> bool
+    ensures { result ≡ true → (0 < wanted → 0 < ready) }
+{
+    ready as u64 == wanted || ready > filled.min(MOST_READY) / 4 && ready > 0
+}
+
+/// Makes places ready behind the first `filled` bytes, for some of those that are wanted up to `size`: there they can be read
+/// to directly. Answers whether there are some; where there are none the body has these bytes alone.
+fn make_ready(body: &mut Vec<u8>, filled: usize, size: u64, most: u64) -> bool
+    requires filled { filled ≤ vec_len body.old }
+    requires within { (vec_len body.old ≤ size) × (filled < size) × (size ≤ most) }
+    requires bounded { IsBoundedBy filled body.old }
+    ensures kept { take filled body.new.items ≡ take filled body.old.items }
+    ensures within { (filled ≤ vec_len body.new) × (vec_len body.new ≤ size) }
+    ensures ready { result ≡ true → (filled < vec_len body.new) × IsBoundedBy filled body.new }
+    ensures none { result ≡ false → vec_len body.new ≡ filled }
+{
+    if is_enough(body.len() - filled, filled, size - filled as u64) {
+        return true;
+    }
+    body.truncate(filled);
+    if !make_room(body, most, FIRST_ROOM) {
+        return false;
+    }
+    let room = body.capacity();
+    let wanted = (size - filled as u64).min(MOST_READY as u64) as usize;
+    let ready = wanted.min(room - filled);
+    // std promises of no call that fills a buffer that it takes no more room than there is.
+    if body.resize(filled + ready, 0).is_err() || body.capacity() > room {
+        body.truncate(filled);
+        return false;
+    }
+    true
+}
+
+/// Bytes came, so many, or why none did.
 #[derive(Clone, Copy)]
 enum Batch {
-    Came,
+    Came(usize),
     Ended,
     Failed,
 }
 
-/// Moves some of the next bytes, where an interrupted read is tried again.
-fn take_batch<R: Source>(
+/// Reads some of the next bytes to the places behind the first `filled`.
+fn fill<R: Source>(
     source: &mut R,
     interruptions: &mut u32,
-    into: &mut Vec<u8>,
-    most: usize,
+    whole: &mut [u8],
+    filled: usize,
 ) -> Batch
     requires patient { interruptions.old < max_interruptions }
-    requires some { 0 < most }
-    requires room { vec_len into.old + most ≤ vec_capacity into.old }
+    requires some { filled < length whole.old }
     ensures bytes { (run : List ℕ)
         × Consumes (R.device source.old).bytes (R.device source.new).bytes run
-        × (into.new.items ≡ into.old.items ++ run) × IsBatch result most run }
-    ensures room { (result ≡ Batch.Came) ⊎ (vec_capacity into.new ≡ vec_capacity into.old) }
+        × (take (filled + length run) whole.new ≡ take filled whole.old ++ run)
+        × IsBatch result (length whole.old - filled) run }
+    ensures counts { Counts (R.device source.old) (R.device source.new)
+        interruptions.old interruptions.new }
+    ensures ends { EndsSo (batch_ending result) (R.device source.new) interruptions.new }
+{
+    take_batch(source, interruptions, &mut whole[filled..])
+}
+
+/// Reads some of the next bytes to the front of `into`, where an interrupted read is tried again.
+fn take_batch<R: Source>(source: &mut R, interruptions: &mut u32, into: &mut [u8]) -> Batch
+    requires patient { interruptions.old < max_interruptions }
+    requires some { 0 < length into.old }
+    ensures bytes { (run : List ℕ)
+        × Consumes (R.device source.old).bytes (R.device source.new).bytes run
+        × (take (length run) into.new ≡ run) × IsBatch result (length into.old) run }
     ensures counts { Counts (R.device source.old) (R.device source.new)
         interruptions.old interruptions.new }
     ensures ends { EndsSo (batch_ending result) (R.device source.new) interruptions.new }
 {
     'tries: loop {
-        match source.take_run(into, most) {
-            Run::Moved(_) => return Batch::Came,
-            Run::End => return Batch::Ended,
-            Run::Failed => return Batch::Failed,
-            Run::Interrupted => {
+        match source.take_into(into) {
+            ReadSome::Moved(count) => return Batch::Came(count),
+            ReadSome::End => return Batch::Ended,
+            ReadSome::Failed => return Batch::Failed,
+            ReadSome::Interrupted => {
                 *interruptions += 1;
                 if *interruptions == MAX_INTERRUPTIONS {
                     return Batch::Failed;

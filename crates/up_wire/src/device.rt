@@ -1,5 +1,5 @@
 //! Where bytes come from and go to.
-ghost use Rattle.std.specs.Prelude.{◌≡◌, ℕ, ◌+◌, ◌<◌, ◌≤◌, IsTrue, List, ◌++◌, vec_len, vec_capacity};
+ghost use Rattle.std.specs.Prelude.{◌≡◌, ℕ, ◌+◌, ◌<◌, ◌≤◌, IsTrue, List, ◌++◌, length, take, vec_len, vec_capacity};
 ghost use Rattle.std.specs.Io.KnownBytes.{Consumes, Appends, Keeps};
 ghost use Rattle.up_wire.specs.Device.{Device, given, is_failed_read, interrupted_reads, EndsAt, IsRun, is_failed_run, interrupted_runs, RunEndsAt, KeepsRoom, IsInLine, taken, is_failed_write, interrupted_writes, TakesSome};
 
@@ -17,7 +17,7 @@ pub enum NextByte {
 
 /// What a source answers when it is asked for bytes.
 #[derive(Clone, Copy, Debug, PartialEq, Eq)]
-pub enum Run {
+pub enum ReadSome {
     /// It moved so many bytes, at least one.
     Moved(usize),
     /// No bytes are left.
@@ -44,15 +44,13 @@ pub trait Source {
         ensures interrupted { (device self.new).interruptions
             ≡ (device self.old).interruptions + interrupted_reads result };
 
-    /// Moves some of the next bytes, at most `most`, to the end of `into`, which has room for them. Where none moved, the
-    /// room stays as it was. It is as a few calls of `next_byte`, and a source that has many bytes at hand may be quicker.
-    fn take_run(&mut self, into: &mut Vec<u8>, most: usize) -> Run
-        requires some { 0 < most }
-        requires room { vec_len into.old + most ≤ vec_capacity into.old }
+    /// Moves some of the next bytes to the front of `into`, at most as many as it has places. Nothing is said of the places
+    /// behind them. It is as a few calls of `next_byte`, but a source that has many bytes at hand can move them at once.
+    fn take_into(&mut self, into: &mut [u8]) -> ReadSome
+        requires some { 0 < length into.old }
         ensures bytes { (run : List ℕ)
             × Consumes (device self.old).bytes (device self.new).bytes run
-            × (into.new.items ≡ into.old.items ++ run) × IsRun result most run }
-        ensures room { KeepsRoom result (vec_capacity into.old) (vec_capacity into.new) }
+            × (take (length run) into.new ≡ run) × IsRun result (length into.new) run }
         ensures end { RunEndsAt result (device self.new).bytes }
         ensures failed { (device self.new).has_failed ≡ is_failed_run result }
         ensures stays_failed { IsTrue (device self.old).has_failed
@@ -62,17 +60,18 @@ pub trait Source {
     {
         match self.next_byte() {
             NextByte::Byte(byte) => {
-                into.push_reserved(byte);
-                Run::Moved(1)
+                into[0] = byte;
+                ReadSome::Moved(1)
             }
-            NextByte::End => Run::End,
-            NextByte::Interrupted => Run::Interrupted,
-            NextByte::Failed => Run::Failed,
+            NextByte::End => ReadSome::End,
+            NextByte::Interrupted => ReadSome::Interrupted,
+            NextByte::Failed => ReadSome::Failed,
         }
     }
 
-    /// As `take_run`, but moves no byte behind a line feed.
-    fn take_in_line(&mut self, into: &mut Vec<u8>, most: usize) -> Run
+    /// Moves some of the next bytes, at most `most` and none behind a line feed, to the end of `into`, which has room for
+    /// them. Where none moved, the room stays as it was.
+    fn take_in_line(&mut self, into: &mut Vec<u8>, most: usize) -> ReadSome
         requires some { 0 < most }
         requires room { vec_len into.old + most ≤ vec_capacity into.old }
         ensures bytes { (run : List ℕ)
@@ -86,7 +85,15 @@ pub trait Source {
         ensures interrupted { (device self.new).interruptions
             ≡ (device self.old).interruptions + interrupted_runs result }
     {
-        self.take_run(into, 1)
+        match self.next_byte() {
+            NextByte::Byte(byte) => {
+                into.push_reserved(byte);
+                ReadSome::Moved(1)
+            }
+            NextByte::End => ReadSome::End,
+            NextByte::Interrupted => ReadSome::Interrupted,
+            NextByte::Failed => ReadSome::Failed,
+        }
     }
 }
 

@@ -3,9 +3,9 @@ ghost use Rattle.std.specs.Prelude.{◌≡◌, ℕ, ◌<◌, ◌≤◌, ◌⊎�
 ghost use Rattle.std.specs.Io.KnownBytes.{Consumes, Keeps, IsAtEnd};
 ghost use Rattle.up_wire.specs.Device.{device_of, maybe_byte, IsNoneAtEnd, IsInLine};
 
-use crate::device::{NextByte, Run, Source};
+use crate::device::{NextByte, ReadSome, Source};
 use memchr::memchr;
-use std::io::{self, BufRead, ErrorKind};
+use std::io::{self, BufRead, ErrorKind, Read};
 
 /// A reader of std as a source. Once the reader showed that it has no more, the source stays at its end.
 #[derive(Drop)]
@@ -80,39 +80,39 @@ impl<R: BufRead> Source for Input<R> {
         }
     }
 
-    fn take_run(&mut self, into: &mut Vec<u8>, most: usize) -> Run {
+    fn take_into(&mut self, into: &mut [u8]) -> ReadSome {
         if self.has_failed {
-            return Run::Failed;
+            return ReadSome::Failed;
         }
         if self.has_ended {
-            return Run::End;
+            return ReadSome::End;
         }
-        match move_shown(&mut self.reader, into, most) {
+        match self.reader.read(into) {
             Ok(0) => {
                 self.has_ended = true;
-                Run::End
+                ReadSome::End
             }
-            Ok(count) => Run::Moved(count),
-            Err(error) if self.is_interrupted(&error) => Run::Interrupted,
-            Err(_) => Run::Failed,
+            Ok(count) => ReadSome::Moved(count),
+            Err(error) if self.is_interrupted(&error) => ReadSome::Interrupted,
+            Err(_) => ReadSome::Failed,
         }
     }
 
-    fn take_in_line(&mut self, into: &mut Vec<u8>, most: usize) -> Run {
+    fn take_in_line(&mut self, into: &mut Vec<u8>, most: usize) -> ReadSome {
         if self.has_failed {
-            return Run::Failed;
+            return ReadSome::Failed;
         }
         if self.has_ended {
-            return Run::End;
+            return ReadSome::End;
         }
         match move_in_line(&mut self.reader, into, most) {
             Ok(0) => {
                 self.has_ended = true;
-                Run::End
+                ReadSome::End
             }
-            Ok(count) => Run::Moved(count),
-            Err(error) if self.is_interrupted(&error) => Run::Interrupted,
-            Err(_) => Run::Failed,
+            Ok(count) => ReadSome::Moved(count),
+            Err(error) if self.is_interrupted(&error) => ReadSome::Interrupted,
+            Err(_) => ReadSome::Failed,
         }
     }
 }
@@ -136,37 +136,6 @@ fn take_shown<R: BufRead>(reader: &mut R) -> io::Result<Option<u8>>
     Ok(Some(byte))
 }
 
-/// Moves what the reader has at hand, or waits for some: at most so many bytes, and none at its end.
-fn move_shown<R: BufRead>(reader: &mut R, into: &mut Vec<u8>, most: usize) -> io::Result<usize>
-    requires some { 0 < most }
-    requires room { vec_len into.old + most ≤ vec_capacity into.old }
-    ensures bytes { IfOk result (λ count. (run : List ℕ)
-        × Consumes (R.remaining reader.old) (R.remaining reader.new) run
-        × (into.new.items ≡ into.old.items ++ run)
-        × (length run ≡ count) × (count ≤ most)) }
-    ensures end { IfOk result (λ count. count ≡ 0 → IsAtEnd (R.remaining reader.old)) }
-    ensures err { OnErr result (Keeps (R.remaining reader.old) (R.remaining reader.new)) }
-    ensures unchanged { OnErr result (into.new.items ≡ into.old.items) }
-    ensures room { vec_capacity into.old ≤ vec_capacity into.new }
-    ensures kept { OnErr result (vec_capacity into.new ≡ vec_capacity into.old) }
-    ensures none { IfOk result (λ count.
-        count ≡ 0 → vec_capacity into.new ≡ vec_capacity into.old) }
-{
-    let available = match reader.fill_buf() {
-        Ok(available) => available,
-        Err(error) => return Err(error),
-    };
-    if available.is_empty() {
-        return Ok(0);
-    }
-    let count = available.len().min(most);
-    if into.extend_from_slice(&available[..count]).is_err() {
-        unreachable!();
-    }
-    reader.consume(count);
-    Ok(count)
-}
-
 /// How many bytes stand up to the first line feed and with it, or in all.
 fn line_length(bytes: &[u8]) -> usize
     ensures within { result ≤ length bytes.now }
@@ -179,7 +148,7 @@ fn line_length(bytes: &[u8]) -> usize
     }
 }
 
-/// As `move_shown`, but moves no byte behind a line feed.
+/// Moves what the reader has at hand, or waits for some: at most so many bytes, none behind a line feed, and none at its end.
 fn move_in_line<R: BufRead>(reader: &mut R, into: &mut Vec<u8>, most: usize) -> io::Result<usize>
     requires some { 0 < most }
     requires room { vec_len into.old + most ≤ vec_capacity into.old }

@@ -23,7 +23,7 @@ mod text;
 mod wire_fault;
 mod write;
 
-pub use device::{NextByte, Run, Sink, Source, WriteSome};
+pub use device::{NextByte, ReadSome, Sink, Source, WriteSome};
 pub use input::Input;
 pub use law::an_input_has_one_answer;
 pub use output::Output;

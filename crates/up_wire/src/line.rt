@@ -6,7 +6,7 @@ ghost use Rattle.up_wire.specs.Message.{Ending};
 ghost use Rattle.up_wire.specs.Limits.{max_interruptions};
 ghost use Rattle.up_wire.specs.Steps.{EndsSo, EndsInFeed, is_line_end, IsLineTaken};
 
-use crate::device::{Run, Source};
+use crate::device::{ReadSome, Source};
 use crate::room::make_room;
 use crate::step::MAX_INTERRUPTIONS;
 
@@ -70,14 +70,14 @@ pub(crate) fn take_line<R: Source>(
         }
         let room = (text.capacity() - text.len()).min(most - text.len());
         match source.take_in_line(text, room) {
-            Run::Moved(_) => {
+            ReadSome::Moved(_) => {
                 if ends_in_feed(text) {
                     return Line::Whole;
                 }
             }
-            Run::End => return Line::Ended,
-            Run::Failed => return Line::Failed,
-            Run::Interrupted => {
+            ReadSome::End => return Line::Ended,
+            ReadSome::Failed => return Line::Failed,
+            ReadSome::Interrupted => {
                 *interruptions += 1;
                 if *interruptions == MAX_INTERRUPTIONS {
                     return Line::Failed;

@@ -3,14 +3,15 @@ ghost use Rattle.std.specs.Prelude.{◌≡◌, ◌+◌, ◌<◌, ◌≤◌, flat
 ghost use Rattle.up_wire.specs.Device.{GaveUp, Tries, interrupted};
 ghost use Rattle.up_wire.specs.Limits.{max_interruptions};
 ghost use Rattle.up_wire.specs.Steps.{WritesIf};
-ghost use Rattle.up_wire.specs.Response.{Writes, phrase, start_text, field_line, length_line, end_text, response_text};
+ghost use Rattle.up_wire.specs.Response.{Writes, phrase, start_text, field_line, length_line, gap_text, end_text, response_text};
+ghost use Rattle.up_message.specs.Joins.{pieced};
 
 use crate::device::Sink;
 use crate::text::WriteFailed;
-use crate::write::{send_on, write_each};
+use crate::write::{send_on, write_all, write_each};
 use http::StatusCode;
 use itoa::Buffer;
-use up_message::{Field, Response};
+use up_message::{Field, Piece, Response, Run, Segments};
 
 fn write_field<W: Sink>(sink: &mut W, field: &Field, interruptions: &mut u32) -> bool
     requires { interruptions.old < max_interruptions }
@@ -85,15 +86,85 @@ fn write_length<W: Sink>(
     let mut digits = Buffer::new();
     let pieces: [&[u8]; 3] = [
         b"Content-Length: ",
-        digits.format(response.body.as_slice().len()).as_bytes(),
+        digits.format(response.body.len()).as_bytes(),
         b"\r\n",
     ];
     write_each(sink, &pieces, interruptions)
 }
 
+/// Writes the pieces of a run, one after another.
+fn write_run<W: Sink>(sink: &mut W, run: &Run, interruptions: &mut u32) -> bool
+    requires { interruptions.old < max_interruptions }
+    ensures written { WritesIf (W.device sink.old).bytes (W.device sink.new).bytes run.now result }
+    ensures tries { Tries (W.device sink.old) (W.device sink.new)
+        interruptions.old interruptions.new result }
+{
+    write_pieces(sink, run.pieces(), interruptions)
+}
+
+/// Writes pieces, one after another.
+fn write_pieces<W: Sink>(sink: &mut W, pieces: &[Piece], interruptions: &mut u32) -> bool
+    requires { interruptions.old < max_interruptions }
+    ensures written { WritesIf (W.device sink.old).bytes (W.device sink.new).bytes
+        (pieced pieces.now) result }
+    ensures tries { Tries (W.device sink.old) (W.device sink.new)
+        interruptions.old interruptions.new result }
+{
+    for piece in pieces {
+        if !write_all(sink, piece.as_slice(), interruptions) {
+            return false;
+        }
+    }
+    true
+}
+
+/// Writes runs, one after another.
+fn write_runs<W: Sink>(sink: &mut W, runs: &[Run], interruptions: &mut u32) -> bool
+    requires { interruptions.old < max_interruptions }
+    ensures written { WritesIf (W.device sink.old).bytes (W.device sink.new).bytes
+        (pieced runs.now) result }
+    ensures tries { Tries (W.device sink.old) (W.device sink.new)
+        interruptions.old interruptions.new result }
+{
+    for run in runs {
+        if !write_run(sink, run, interruptions) {
+            return false;
+        }
+    }
+    true
+}
+
+/// Writes a body.
+fn write_body<W: Sink>(sink: &mut W, body: &Segments, interruptions: &mut u32) -> bool
+    requires { interruptions.old < max_interruptions }
+    ensures written { WritesIf (W.device sink.old).bytes (W.device sink.new).bytes body.now result }
+    ensures tries { Tries (W.device sink.old) (W.device sink.new)
+        interruptions.old interruptions.new result }
+{
+    let (front, last) = body.runs();
+    if !write_runs(sink, front, interruptions) {
+        return false;
+    }
+    write_run(sink, last, interruptions)
+}
+
+/// Writes the lines between the length and the body.
+fn write_gap<W: Sink>(sink: &mut W, close: bool, interruptions: &mut u32) -> bool
+    requires { interruptions.old < max_interruptions }
+    ensures written { WritesIf (W.device sink.old).bytes (W.device sink.new).bytes
+        (gap_text close) result }
+    ensures tries { Tries (W.device sink.old) (W.device sink.new)
+        interruptions.old interruptions.new result }
+{
+    let closing: &[u8] = if close { b"Connection: close\r\n" } else { b"" };
+    let pieces: [&[u8]; 2] = [closing, b"\r\n"];
+    write_each(sink, &pieces, interruptions)
+}
+
+/// Writes what follows the length.
 fn write_end<W: Sink>(
     sink: &mut W,
-    body: &[u8],
+    body: &Segments,
     bare: bool,
     close: bool,
     interruptions: &mut u32,
@@ -104,10 +175,13 @@ fn write_end<W: Sink>(
     ensures tries { Tries (W.device sink.old) (W.device sink.new)
         interruptions.old interruptions.new result }
 {
-    let closing: &[u8] = if close { b"Connection: close\r\n" } else { b"" };
-    let sent: &[u8] = if bare { b"" } else { body };
-    let pieces: [&[u8]; 3] = [closing, b"\r\n", sent];
-    write_each(sink, &pieces, interruptions)
+    if !write_gap(sink, close, interruptions) {
+        return false;
+    }
+    if bare {
+        return true;
+    }
+    write_body(sink, body, interruptions)
 }
 
 /// Writes a response. No memory is taken.
@@ -157,5 +231,5 @@ fn write_parts<W: Sink>(
     if !write_length(sink, response, bare, interruptions) {
         return false;
     }
-    write_end(sink, response.body.as_slice(), bare, close, interruptions)
+    write_end(sink, &response.body, bare, close, interruptions)
 }

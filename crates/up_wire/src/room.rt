@@ -1,8 +1,8 @@
 //! Room for bytes that come.
 ghost use Rattle.std.specs.Prelude.{◌≡◌, ◌*◌, ◌<◌, ◌≤◌, true, max, min, vec_len, vec_capacity};
 
-/// Makes room for a byte at least, where the buffer may come to have `most` bytes: a full buffer doubles, or has `first`
-/// bytes of room at first, but not past `most`. Answers whether there is room.
+/// Makes room for a byte at least, where the buffer may come to have `most` bytes: a buffer that is nearly full doubles, or
+/// has `first` bytes of room at first, but not past `most`. Answers whether there is room.
 pub(crate) fn make_room(buffer: &mut Vec<u8>, most: u64, first: usize) -> bool
     requires some { 0 < first }
     requires within { vec_len buffer.old < most }
@@ -12,10 +12,10 @@ pub(crate) fn make_room(buffer: &mut Vec<u8>, most: u64, first: usize) -> bool
         ≤ max (vec_capacity buffer.old) (min most (max first (2 * vec_len buffer.old))) }
 {
     let len = buffer.len();
-    if len < buffer.capacity() {
+    if buffer.capacity() - len > len / 4 {
         return true;
     }
-    let growth = if len < first { first - len } else { len };
+    let growth = first.saturating_sub(len).max(len);
     let growth = (growth as u64).min(most - len as u64) as usize;
     buffer.reserve_exact(growth).is_ok()
 }

@@ -9,7 +9,7 @@ use std::alloc::Global;
 use up_events::{Id, Kind, MOST_BYTES};
 use up_headers::{NewUpload, NotDigits, Patch, Request, pairs_of};
 use up_machine::{Asked, Reason};
-use up_message::Sequence;
+use up_message::{Piece, Sequence};
 
 /// A text as bytes. One that is empty is none.
 fn text_of(alloc: Global, text: &str) -> Result<Option<Sequence<u8>>, RowFault> {
@@ -81,7 +81,7 @@ fn patch_of(alloc: Global, id: Id, media: bool, words: &str) -> Result<Patch, Ro
         media,
         offset: offset.parse::<u64>().ok(),
         length,
-        bytes: Sequence::from_slice(alloc, bytes.as_bytes())?,
+        bytes: Piece::copied(alloc, bytes.as_bytes())?,
     })
 }
 

@@ -1,9 +1,10 @@
 //! What a book answers and shows, in words.
+use crate::gathered::{gathered, put_pieces, put_runs};
 use crate::row_fault::RowFault;
-use std::alloc::Global;
+use std::alloc::{AllocError, Global};
 use std::fmt::Write;
 use up_events::{Accepted, Id};
-use up_machine::{Ask, Book, Done, Plan, Refusal, response_of};
+use up_machine::{Ask, Book, Done, Plan, Refusal, View, response_of};
 use up_message::{Response, Sequence};
 
 /// The ids of these rows are the numbers below this one.
@@ -24,7 +25,8 @@ fn of_pairs(alloc: Global, pairs: &[(Sequence<u8>, Sequence<u8>)]) -> Result<Str
 pub fn of_response(alloc: Global, response: &Response) -> Result<String, RowFault> {
     let status = response.status;
     let fields = of_pairs(alloc, response.fields.as_slice())?;
-    let body = response.body.as_slice().escape_ascii();
+    let body = gathered(alloc, &response.body)?;
+    let body = body.as_slice().escape_ascii();
     Ok(format!(in alloc; "{status} {fields}[{body}]")?)
 }
 
@@ -75,6 +77,15 @@ pub fn change_of(decided: &Result<Done, Refusal>) -> Option<Accepted> {
     }
 }
 
+/// The bytes that are shown of an upload.
+fn bytes_of(alloc: Global, view: View) -> Result<Vec<u8>, AllocError> {
+    let mut bytes = Vec::new(alloc);
+    put_runs(&mut bytes, view.runs)?;
+    put_pieces(&mut bytes, view.pieces)?;
+    bytes.extend_from_slice(view.tail)?;
+    Ok(bytes)
+}
+
 /// The uploads that are there, as "1 Plain 3/Some(5) [abc] [name YWI=] [-]; " each: number, kind, offset and length, bytes, metadata and
 /// concat. Of those that are gone the numbers.
 pub fn of_uploads(alloc: Global, book: &Book) -> Result<String, RowFault> {
@@ -83,7 +94,8 @@ pub fn of_uploads(alloc: Global, book: &Book) -> Result<String, RowFault> {
         let id = Id::new(u128::from(number));
         if let Some(view) = book.upload(id) {
             let (kind, offset, length) = (view.kind, view.offset, view.length);
-            let bytes = view.bytes.escape_ascii();
+            let bytes = bytes_of(alloc, view)?;
+            let bytes = bytes.as_slice().escape_ascii();
             let metadata = view.metadata.unwrap_or(b"-".as_slice()).escape_ascii();
             let concat = view.concat.unwrap_or(b"-".as_slice()).escape_ascii();
             write!(

@@ -1,14 +1,29 @@
 //! Many requests to a book, which `bench/replay` times to see how its time and its memory grow with their number.
+ghost use Rattle.up_headers.specs.Table.{FitsWithin};
+
 use crate::row_fault::RowFault;
 use std::alloc::Global;
-use up_events::{Id, Kind, NoMemory};
+use up_events::{Id, Kind, MOST_BYTES, NoMemory};
 use up_headers::{NewUpload, Patch, Request};
-use up_machine::{Asked, Book, Refusal};
-use up_message::Sequence;
+use up_machine::{Asked, Book, Refusal, Remains};
+use up_message::{Piece, Sequence};
 
 /// A book of two lanes, for uploads of 8 bytes.
 fn new_book(alloc: Global) -> Result<Book, NoMemory> {
     Book::new(alloc, 2, 8)
+}
+
+fn commit(
+    alloc: Global,
+    book: &mut Book,
+    request: Request,
+    id: Id,
+    asked: Asked,
+) -> Result<(), Refusal>
+    requires { FitsWithin MOST_BYTES request }
+{
+    book.commit(alloc, request, id, &asked, &mut Remains::new())?;
+    Ok(())
 }
 
 fn create(alloc: Global, book: &mut Book, id: Id) -> Result<(), Refusal> {
@@ -20,12 +35,11 @@ fn create(alloc: Global, book: &mut Book, id: Id) -> Result<(), Refusal> {
         metadata: None,
         concat: None,
     };
-    book.commit(alloc, Request::Create(new), id, &Asked::Skipped)?;
-    Ok(())
+    commit(alloc, book, Request::Create(new), id, Asked::Skipped)
 }
 
 fn append(alloc: Global, book: &mut Book, id: Id) -> Result<(), Refusal> {
-    let bytes = Sequence::from_slice(alloc, b"12345678").map_err(|_| Refusal::NoMemory)?;
+    let bytes = Piece::from_static(b"12345678");
     let patch = Patch {
         id,
         media: true,
@@ -33,13 +47,11 @@ fn append(alloc: Global, book: &mut Book, id: Id) -> Result<(), Refusal> {
         length: None,
         bytes,
     };
-    book.commit(alloc, Request::Patch(patch), id, &Asked::AllowedFinish)?;
-    Ok(())
+    commit(alloc, book, Request::Patch(patch), id, Asked::AllowedFinish)
 }
 
 fn remove(alloc: Global, book: &mut Book, id: Id) -> Result<(), Refusal> {
-    book.commit(alloc, Request::Delete(id), id, &Asked::Allowed)?;
-    Ok(())
+    commit(alloc, book, Request::Delete(id), id, Asked::Allowed)
 }
 
 /// Makes so many uploads, puts eight bytes into each, and asks for each.

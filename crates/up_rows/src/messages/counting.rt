@@ -3,7 +3,7 @@ use crate::row_fault::RowFault;
 use std::alloc::Global;
 use up_headers::pairs_of;
 use up_message::{Message, Values, find_value};
-use up_wire::{Input, Limits, Output, Run, Sink, Source, Taken, read_message};
+use up_wire::{Input, Limits, Output, ReadSome, Sink, Source, Taken, read_message};
 
 /// How many bytes a pass takes at once.
 const ROOM: usize = 8192;
@@ -75,13 +75,13 @@ fn sum(bytes: &[u8]) -> u64 {
 /// The sum of the bytes up to the end of the source.
 fn pass<R: Source>(alloc: Global, source: &mut R) -> Result<u64, RowFault> {
     let mut all = 0u64;
+    let mut run = vec![in alloc; 0; ROOM]?;
     for _ in 0..u64::MAX {
-        let mut run = Vec::with_capacity(alloc, ROOM)?;
-        match source.take_run(&mut run, ROOM) {
-            Run::Moved(_) => all = all.wrapping_add(sum(&run)),
-            Run::Interrupted => {}
-            Run::End => return Ok(all),
-            Run::Failed => return Ok(all),
+        match source.take_into(&mut run) {
+            ReadSome::Moved(count) => all = all.wrapping_add(sum(&run[..count])),
+            ReadSome::Interrupted => {}
+            ReadSome::End => return Ok(all),
+            ReadSome::Failed => return Ok(all),
         }
     }
     Ok(all)

@@ -1,14 +1,14 @@
 //! What is written.
+use crate::gathered::gathered;
 use crate::line::cut;
 use crate::messages::Messages;
 use crate::messages::devices::WaitingSink;
 use crate::row_fault::RowFault;
-use bytes::Bytes;
 use std::alloc::{AllocError, Global};
 use std::cell::Cell;
 use std::io::BufWriter;
 use up_escape::put_bytes;
-use up_message::Response;
+use up_message::{Piece, Response, Segments, Sequence};
 use up_wire::{Output, WriteFailed, flush, write_pieces, write_response};
 
 /// A response, whether it is bare, and whether it closes.
@@ -20,15 +20,16 @@ struct Reply {
 }
 
 /// The bytes of a text.
-fn body_of(alloc: Global, text: &str) -> Result<Bytes, RowFault> {
+fn body_of(alloc: Global, text: &str) -> Result<Piece, RowFault> {
     let mut bytes = Vec::new(alloc);
     put_bytes(&mut bytes, text)?;
-    Ok(Bytes::copy_from_slice(alloc, &bytes)?)
+    Ok(Piece::from_sequence(Sequence::from_vec(bytes))?)
 }
 
 /// A response with two fields.
 fn response_of(alloc: Global, status: u16, text: &str) -> Result<Response, RowFault> {
-    let made = Response::new(alloc, status).with_body(body_of(alloc, text)?);
+    let body = Segments::from_piece(alloc, body_of(alloc, text)?);
+    let made = Response::new(alloc, status).with_body(body);
     let made = made.with_field(alloc, b"X", b"1")?;
     Ok(made.with_field(alloc, b"Y", b"")?)
 }
@@ -99,12 +100,19 @@ pub fn pieces_sent(alloc: Global, flushes: bool) -> Result<String, RowFault> {
     words_of(alloc, ended, sink.into_inner().get_ref(), "")
 }
 
-/// A body, and whether the response shares it with another owner.
+/// A body, and whether another owner has it still when the response that shares it is gone.
 pub fn shared(alloc: Global, text: &[u8]) -> Result<String, RowFault> {
-    let body = Bytes::copy_from_slice(alloc, text)?;
-    let made = Response::new(alloc, 200).with_body(body.clone()?);
-    let mark = if body.is_unique() { "" } else { " shared" };
-    words_of(alloc, Ok(()), made.body.as_slice(), mark)
+    let body = Piece::copied(alloc, text)?;
+    let shared = Segments::from_piece(alloc, body.share()?);
+    let made = Response::new(alloc, 200).with_body(shared);
+    let bytes = gathered(alloc, &made.body)?;
+    drop(made);
+    let mark = if body.as_slice() == bytes.as_slice() {
+        " shared"
+    } else {
+        ""
+    };
+    words_of(alloc, Ok(()), bytes.as_slice(), mark)
 }
 
 pub fn refused(alloc: Global, rows: &Messages) -> Result<String, RowFault> {

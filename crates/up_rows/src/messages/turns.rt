@@ -4,7 +4,7 @@ use std::alloc::{AllocError, Global};
 use std::fmt::Write as _;
 use std::io::{self, BufReader, ErrorKind, Read, Write};
 use up_escape::put_bytes;
-use up_wire::{Input, Output, Sink, Source};
+use up_wire::{Input, Output, ReadSome, Sink, Source};
 
 /// At each call gives or takes so many bytes, is interrupted or fails, as the next letter says, and nothing behind the last.
 #[derive(Drop)]
@@ -52,13 +52,19 @@ fn push_run<R: Source>(
     in_line: bool,
     words: &mut String,
 ) -> Result<(), AllocError> {
-    let mut into = Vec::with_capacity(alloc, 8)?;
-    let run = if in_line {
-        source.take_in_line(&mut into, 3)
+    if in_line {
+        let mut into = Vec::with_capacity(alloc, 8)?;
+        let run = source.take_in_line(&mut into, 3);
+        return write!(words, "{run:?} [{}] ", into.escape_ascii());
+    }
+    let mut into = [0; 3];
+    let run = source.take_into(&mut into);
+    let moved = if let ReadSome::Moved(count) = run {
+        count
     } else {
-        source.take_run(&mut into, 3)
+        0
     };
-    write!(words, "{run:?} [{}] ", into.escape_ascii())
+    write!(words, "{run:?} [{}] ", into[..moved].escape_ascii())
 }
 
 /// Puts what a source answers to these steps.

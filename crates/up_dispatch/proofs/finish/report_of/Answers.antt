@@ -1,45 +1,46 @@
-use Rattle.std.proofs.Common.{◌≡◌, ◌+◌, ◌≤◌, cond, true, length, arith, ap, ◌∙◌}
+use Rattle.std.proofs.Common.{◌≡◌, ◌+◌, ◌-◌, ◌≤◌, cond, true, length, arith, ap, ◌∙◌}
 use Rattle.up_events.specs.Delivery.{IsPrefix}
 use Rattle.up_events.specs.Records.{lane_log}
 use Rattle.up_lanes.specs.HowOf.{is_drained}
-use Rattle.up_dispatch.proofs.Handing.{handed_over, byte_is}
+use Rattle.up_dispatch.proofs.Handing.{handed_over, byte_is, ends_count}
 use Rattle.up_dispatch.proofs.finish.report_of.Goals as goal
-use Rattle.up_dispatch.proofs.finish.report_of.Goals.{After-compare-held}
+use Rattle.up_dispatch.proofs.finish.report_of.Goals.{After-from-2}
 
-facts : (g : _) (c : After-compare-held g) →
+facts : (g : _) (c : After-from-2 g) →
     let log = lane_log c.args.book.now.journal c.args.end.lane in let handed = g.H.PostHook.handed c.args.end.hook in let drained = is_drained c.args.end.how in
-    (c.args.feed.cursor + cond c.args.feed.ended 1 0 ≡ length handed + cond drained 1 0 + c.compare-held.result) × IsPrefix handed log × (drained ≡ true → handed ≡ log) × (length handed ≤ length log)
+    (c.from-2.result ≤ c.from.result) × (c.from.result - c.from-2.result ≤ c.compare-held.result) × (length handed + (c.compare-held.result - (c.from.result - c.from-2.result)) ≡ c.args.feed.cursor)
+    × IsPrefix handed log × (drained ≡ true → handed ≡ log)
 facts g c =
+    let log = lane_log c.args.book.now.journal c.args.end.lane in
+    let handed = g.H.PostHook.handed c.args.end.hook in
+    let drained = is_drained c.args.end.how in
     let fed = c.requires.fed in
     let held = c.compare-held.ensures.left in
-    handed_over (lane_log c.args.book.now.journal c.args.end.lane) c.args.feed.cursor c.args.feed.ended (g.H.PostHook.handed c.args.end.hook) (is_drained c.args.end.how) c.args.feed.put_end.put c.args.end.take_end.taken held.0 c.compare-held.result
-    fed.within (λ e. (fed.whole e).1) fed.put_is c.args.end.kept held.1.whole held.2
+    let t = handed_over log c.args.feed.cursor c.args.feed.ended handed drained c.args.feed.put_end.put c.args.end.take_end.taken held.0 c.compare-held.result
+    fed.within (λ e. (fed.whole e).1) fed.put_is c.args.end.kept held.1.whole held.2 in
+    let n = ends_count c.args.feed.ended drained c.args.feed.cursor c.compare-held.result (length handed) (length log) t.0 (λ d. ap length (t.2 d)) (λ e. (fed.whole e).1) fed.within t.3 in
+    let end = c.from.ensures ∙ byte_is c.args.feed.ended in
+    let taken = c.from-2.ensures ∙ byte_is c.is_drained.result ∙ ap (λ b. cond b 1 0) c.is_drained.ensures in
+    rw (end, taken) (n.0, n.1, n.2, t.1, t.2)
 
-pub overflow_sub-taken : goal.overflow_sub-taken
-overflow_sub-taken g c =
-    let t = facts g (goal.at.overflow_sub-taken g c).After-compare-held in
-    omega (arith, t.0, c.from.ensures ∙ byte_is c.args.feed.ended)
+pub overflow_sub-end : goal.overflow_sub-end
+overflow_sub-end g c = (facts g (goal.at.overflow_sub-end g c).After-from-2).0
 
-pub overflow_sub-handed : goal.overflow_sub-handed
-overflow_sub-handed g c =
-    let t = facts g (goal.at.overflow_sub-handed g c).After-compare-held in
-    let drained : c.from-2.result ≡ cond (is_drained c.args.end.how) 1 0 = c.from-2.ensures ∙ byte_is c.is_drained.result ∙ ap (λ b. cond b 1 0) c.is_drained.ensures in
-    omega (arith, t.0, drained, c.from.ensures ∙ byte_is c.args.feed.ended)
+pub overflow_sub-unput : goal.overflow_sub-unput
+overflow_sub-unput g c =
+    let all = c.log_len.ensures ∙ ap (λ j. length (lane_log j c.args.end.lane)) c.journal.ensures.journal in omega (arith, c.requires.fed.within, all)
 
 pub overflow_sub-left : goal.overflow_sub-left
-overflow_sub-left g c =
-    let t = facts g (goal.at.overflow_sub-left g c).After-compare-held in
-    let drained : c.from-2.result ≡ cond (is_drained c.args.end.how) 1 0 = c.from-2.ensures ∙ byte_is c.is_drained.result ∙ ap (λ b. cond b 1 0) c.is_drained.ensures in
-    let log = ap length (c.lane_log-log.ensures ∙ ap (λ j. lane_log j c.args.end.lane) c.journal.ensures.journal) in
-    omega (arith, t.0, t.3, drained, c.from.ensures ∙ byte_is c.args.feed.ended, log)
+overflow_sub-left g c = (facts g (goal.at.overflow_sub-left g c).After-from-2).1
+
+pub overflow_add-left : goal.overflow_add-left
+overflow_add-left g c =
+    let t = facts g (goal.at.overflow_add-left g c).After-from-2 in
+    let all = c.log_len.ensures ∙ ap (λ j. length (lane_log j c.args.end.lane)) c.journal.ensures.journal in
+    omega (arith, t.1, t.2, c.requires.fed.within, all, c.log_len.type_inv)
 
 pub returns-clause-handed : goal.returns-clause-handed
 returns-clause-handed g c =
-    let t = facts g (goal.at.returns-clause-handed g c).After-compare-held in
-    let drained : c.from-2.result ≡ cond (is_drained c.args.end.how) 1 0 = c.from-2.ensures ∙ byte_is c.is_drained.result ∙ ap (λ b. cond b 1 0) c.is_drained.ensures in
-    let log = ap length (c.lane_log-log.ensures ∙ ap (λ j. lane_log j c.args.end.lane) c.journal.ensures.journal) in
-    record {
-      begins = t.1;
-      all = t.2;
-      rest = omega (arith, t.0, t.3, drained, c.from.ensures ∙ byte_is c.args.feed.ended, log);
-    }
+    let t = facts g (goal.at.returns-clause-handed g c).After-from-2 in
+    let all = c.log_len.ensures ∙ ap (λ j. length (lane_log j c.args.end.lane)) c.journal.ensures.journal in
+    record { begins = t.3; all = t.4; rest = omega (arith, t.1, t.2, c.requires.fed.within, all) }

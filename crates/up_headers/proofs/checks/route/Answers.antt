@@ -24,7 +24,10 @@ returns-in-Creation-clause-answer c =
 
 pub returns-in-Upload-clause-answer : goal.returns-in-Upload-clause-answer
 returns-in-Upload-clause-answer c =
-    inr (c.in_ok-place.place, subst (λ t. IsAt t c.in_ok-place.place) c.as_slice.ensures c.in_ok-place.ensures, rw c.in-Upload.is (c.at_upload.ensures.answer c.args.max_size))
+    elim (c.at_upload.ensures.answer c.args.max_size) [
+      | inl none ↦ inl none
+      | inr told ↦ inr (c.in_ok-place.place, subst (λ t. IsAt t c.in_ok-place.place) c.as_slice.ensures c.in_ok-place.ensures, rw c.in-Upload.is told)
+    ]
 
 pub returns-in-Upload-clause-bounded : goal.returns-in-Upload-clause-bounded
 returns-in-Upload-clause-bounded c = c.at_upload.ensures.bounded c.args.max_size

@@ -9,14 +9,14 @@ use Rattle.up_server.proofs.report.write_report.Goals as goal
 pub returns-in_err-write_count-clause-written : goal.returns-in_err-write_count-clause-written
 returns-in_err-write_count-clause-written g c =
     let r = c.args.report.now in
-    let next = subst (WritesFront _ _) (ap count_line (c.len.ensures ∙ r.accepted.ok.0)) c.in_err-write_count.ensures.written in
+    let next = subst (WritesFront _ _) (ap count_line c.len.ensures) c.in_err-write_count.ensures.written in
     writes_err _ _ (report_text r) c.from_residual.result c.from_residual.ensures.0
     (front_cut _ _ (count_line (length r.accepted.items)) (lanes_text 0 r.lanes.items) next)
 
 pub returns-in_err-write_lanes-clause-written : goal.returns-in_err-write_lanes-clause-written
 returns-in_err-write_lanes-clause-written g c =
     let r = c.args.report.now in
-    let count = subst (Appends _ _) (ap count_line (c.len.ensures ∙ r.accepted.ok.0)) c.in_ok-write_count.ensures.written in
+    let count = subst (Appends _ _) (ap count_line c.len.ensures) c.in_ok-write_count.ensures.written in
     let lanes = subst (WritesFront _ _) (ap (lanes_text 0) c.as_slice.ensures.value) c.in_err-write_lanes.ensures.written in
     writes_err _ _ (report_text r) c.from_residual-in_err-write_lanes.result c.from_residual-in_err-write_lanes.ensures.0
     (front_then _ _ _ (count_line (length r.accepted.items)) (lanes_text 0 r.lanes.items) count lanes)
@@ -24,7 +24,7 @@ returns-in_err-write_lanes-clause-written g c =
 pub returns-clause-written : goal.returns-clause-written
 returns-clause-written g c =
     let r = c.args.report.now in
-    let count = subst (Appends _ _) (ap count_line (c.len.ensures ∙ r.accepted.ok.0)) c.in_ok-write_count.ensures.written in
+    let count = subst (Appends _ _) (ap count_line c.len.ensures) c.in_ok-write_count.ensures.written in
     let lanes = subst (Appends _ _) (ap (lanes_text 0) c.as_slice.ensures.value) c.in_ok-write_lanes.ensures.written in
     writes_kept _ _ _ (report_text r) c.flush.result
     (Appends-trans _ _ _ (count_line (length r.accepted.items)) (lanes_text 0 r.lanes.items) count lanes) c.flush.ensures.kept

@@ -1,4 +1,4 @@
-use Rattle.std.proofs.Common.{◌≡◌, ◌+◌, ◌-◌, ◌<◌, ◌≤◌, [], vec_len, vec_capacity}
+use Rattle.std.proofs.Common.{◌-◌, ◌<◌, []}
 use Rattle.std.specs.Io.KnownBytes.{Consumes}
 use Rattle.up_wire.specs.Device.{Counts}
 use Rattle.up_wire.specs.Limits.{max_interruptions}
@@ -9,9 +9,6 @@ invariant-tries g l = record {
   bytes : Consumes (g.R.Source.device l.fn.source).bytes (g.R.Source.device l.source).bytes [];
   counts : Counts (g.R.Source.device l.fn.source) (g.R.Source.device l.source) l.fn.interruptions l.interruptions;
   patient : l.interruptions < max_interruptions;
-  items : l.into.items ≡ l.fn.into.items;
-  room : vec_len l.into + l.most ≤ vec_capacity l.into;
-  kept : vec_capacity l.into ≡ vec_capacity l.fn.into;
 }
 
 abbrev pub decreases-tries : goal.decreases-tries

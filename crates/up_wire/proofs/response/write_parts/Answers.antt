@@ -44,7 +44,6 @@ returns-clause-written g c =
     let size = length_line c.args.bare r in
     let end = end_text c.args.bare c.args.close r.body in
     let lines = writes_as _ _ (flat_map field_line c.as_slice.result.now) fields c.write_fields.result (ap (flat_map field_line) c.as_slice.ensures) c.write_fields.ensures.written in
-    let last = writes_as _ _ (end_text c.args.bare c.args.close c.as_slice-2.result.now) end c.write_end.result (ap (end_text c.args.bare c.args.close) c.as_slice-2.ensures) c.write_end.ensures.written in
     then_at _ _ _ start (fields ++ (size ++ end)) c.write_start.result c.write_end.result c.if-not-write_start.false c.write_start.ensures.written
     (then_at _ _ _ fields (size ++ end) c.write_fields.result c.write_end.result c.if-not-write_fields.false lines
-    (then_at _ _ _ size end c.write_length.result c.write_end.result c.if-not-write_length.false c.write_length.ensures.written last))
+    (then_at _ _ _ size end c.write_length.result c.write_end.result c.if-not-write_length.false c.write_length.ensures.written c.write_end.ensures.written))

@@ -10,8 +10,8 @@ use Rattle.up_dispatch.specs.Standing.{Standing}
 use Rattle.up_dispatch.proofs.Uploads.{tells_uploads}
 use Rattle.up_dispatch.proofs.inside.Inside.completed.Goals as goal
 
-pub settle-requires-clause-fed : goal.settle-requires-clause-fed
-settle-requires-clause-fed g c κs within = λ k f e below.
+pub settle-lanes-requires-clause-fed : goal.settle-lanes-requires-clause-fed
+settle-lanes-requires-clause-fed g c κs within = λ k f e below.
     let book = c.self.inside.book in
     let lanes = c.args.lanes.items in
     let queue : (get_or lanes k e).take_end.queue ≡ g.B.Naming.queue k =
@@ -22,13 +22,13 @@ settle-requires-clause-fed g c κs within = λ k f e below.
 pub returns-clause-handed : goal.returns-clause-handed
 returns-clause-handed g c = λ k d within.
     let journal = c.self.inside.book.journal in
-    let r = get_or c.settle.result.items k d in
+    let r = get_or c.settle-lanes.result.items k d in
     let handed = g.H.PostHook.handed r.hook in
-    let accepted : c.args.report.accepted.items ≡ journal.accepted = c.requires.accepted ∙ sym (ap (λ (s : Standing). s.book.journal.accepted) c.self.view_is) in
-    let lanes : journal.lanes ≡ vec_len c.settle.result =
-    omega (arith, c.settle.ensures.count, c.requires.all_lanes.0, c.args.lanes.ok.0, ap (λ (s : Standing). s.book.journal.lanes) c.self.view_is) in
-    subst (λ n. IsHandedOver (log_of n c.args.report.accepted.items k) handed (is_drained r.how) r.left) lanes
-    (subst (λ (l : List Accepted). IsHandedOver (log_of journal.lanes l k) handed (is_drained r.how) r.left) (sym accepted) (c.settle.ensures.handed k d within))
+    let accepted : c.into_accepted-accepted.result.items ≡ journal.accepted = c.into_accepted-accepted.ensures.items in
+    let lanes : journal.lanes ≡ vec_len c.settle-lanes.result =
+    omega (arith, c.settle-lanes.ensures.count, c.requires.all_lanes.0, c.args.lanes.ok.0, ap (λ (s : Standing). s.book.journal.lanes) c.self.view_is) in
+    subst (λ n. IsHandedOver (log_of n c.into_accepted-accepted.result.items k) handed (is_drained r.how) r.left) lanes
+    (subst (λ (l : List Accepted). IsHandedOver (log_of journal.lanes l k) handed (is_drained r.how) r.left) (sym accepted) (c.settle-lanes.ensures.handed k d within))
 
 pub returns-clause-delivered : goal.returns-clause-delivered
-returns-clause-delivered g c = λ k d within. tells_uploads _ k (get_or c.settle.result.items k d).left _ _ _ (returns-clause-handed g c k d within)
+returns-clause-delivered g c = λ k d within. tells_uploads _ k (get_or c.settle-lanes.result.items k d).left _ _ _ (returns-clause-handed g c k d within)

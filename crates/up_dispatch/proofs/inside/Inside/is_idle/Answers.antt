@@ -11,11 +11,11 @@ returns-then-feed-all g c =
     let feed = c.in-Some.feed.now in
     let within : c.args.lane < length i.feeds.items = search rules in
     let is : feed ≡ get_or i.feeds.items c.args.lane feed = search rules in
-    let log = c.lane_log-all.ensures ∙ ap (λ j. lane_log j c.args.lane) c.journal.ensures.journal in (
+    let log = c.log_len-all.ensures ∙ ap (λ j. length (lane_log j c.args.lane)) c.journal.ensures.journal in (
       λ all. subst (λ s. IsIdle s c.args.lane c.args.taken) c.self.view_is
           (idle_if g.B.Naming.queue i.book i.feeds.items i.given i.total.total i.rest.parts i.rest.amount c.args.lane c.args.taken feed c.self.invariant within is
-          (sym c.is_closed.ensures ∙ c.if-is_closed.false) (c.if-feed-all.true ∙ ap length log) (sym (eqb-true _ _ all) ∙ ap length log)),
-      λ idle. eq-eqb _ _ (sym (idle.taken_all ∙ ap (λ s. length (lane_log s.book.journal c.args.lane)) (sym c.self.view_is) ∙ ap length (sym log))),
+          (sym c.is_closed.ensures ∙ c.if-is_closed.false) (c.if-feed-all.true ∙ log) (sym (eqb-true _ _ all) ∙ log)),
+      λ idle. eq-eqb _ _ (sym (idle.taken_all ∙ ap (λ s. length (lane_log s.book.journal c.args.lane)) (sym c.self.view_is) ∙ sym log)),
     )
 
 pub returns-else-feed-all : goal.returns-else-feed-all
@@ -24,8 +24,8 @@ returns-else-feed-all g c =
     let feed = c.in-Some.feed.now in
     let within : c.args.lane < length i.feeds.items = search rules in
     let is : feed ≡ get_or i.feeds.items c.args.lane feed = search rules in
-    let log = c.lane_log-all.ensures ∙ ap (λ j. lane_log j c.args.lane) c.journal.ensures.journal in (
+    let log = c.log_len-all.ensures ∙ ap (λ j. length (lane_log j c.args.lane)) c.journal.ensures.journal in (
       λ all. absurd (c.if-feed-all.false (eqb-true _ _ all)),
       λ idle. absurd (c.if-feed-all.false (cursor_if g.B.Naming.queue i.book i.feeds.items i.given i.total.total i.rest.parts i.rest.amount c.args.lane c.args.taken feed c.self.invariant within is
-          (subst (λ s. IsIdle s c.args.lane c.args.taken) (sym c.self.view_is) idle) ∙ ap length (sym log))),
+          (subst (λ s. IsIdle s c.args.lane c.args.taken) (sym c.self.view_is) idle) ∙ sym log)),
     )

@@ -1,12 +1,12 @@
-use Rattle.std.proofs.Common.{◌≡◌, ◌≤◌, length, sym, ap, ◌∙◌, arith}
-use Rattle.std.proofs.lemmas.Bool.{ltb-false}
-use Rattle.up_events.specs.Records.{Records, lane_log}
-use Rattle.up_events.proofs.JournalLemmas.{log_of-absent}
+use Rattle.std.proofs.Common.{drop, sym, ap, ◌∙◌}
+use Rattle.up_events.specs.Records.{lane_log}
+use Rattle.up_events.proofs.JournalLemmas.{kept_read, tail_read, no_tail_read}
 use Rattle.up_events.proofs.journal.Journal.lane_log.Goals as goal
+
+pub returns-in-Some : goal.returns-in-Some
+returns-in-Some c =
+    c.events.ensures ∙ kept_read c.args.self.now c.args.k c.in-Some.log.now (tail_read c.self.inside c.args.self.now c.deref.result.now c.args.k c.in-Some.log.now c.self.invariant c.self.view_is c.deref.ensures.value c.in-Some.ensures.lookup.0 c.in-Some.ensures.lookup.1)
 
 pub returns-in-None : goal.returns-in-None
 returns-in-None c =
-    let a = c.self.inside in
-    let past : length c.deref.result.now ≤ c.args.k = ltb-false _ _ (sym c.in-None.ensures.lookup.0) in
-    let rows : length c.deref.result.now ≡ a.lanes = ap length c.deref.ensures.value ∙ c.self.invariant.rows in
-    sym (log_of-absent a.lanes a.accepted.items c.args.k c.self.invariant.some_lane (omega arith)) ∙ ap (λ (r : Records). lane_log r c.args.k) c.self.view_is
+    let t = no_tail_read c.self.inside c.args.self.now c.deref.result.now c.args.k c.self.invariant c.self.view_is c.deref.ensures.value c.in-None.ensures.lookup.0 in sym (ap (λ i. drop i (lane_log c.args.self.now c.args.k)) t.0 ∙ t.1)

@@ -1,12 +1,15 @@
-use Rattle.std.proofs.Common.{◌≡◌, ◌%◌, ◌<◌, ◌++◌, length, sym, ap, ◌∙◌, subst, mod-lt}
+use Rattle.std.proofs.Common.{◌≡◌, ◌%◌, ◌<◌, ◌++◌, length, sym, ap, ◌∙◌, subst, mod-lt, rules}
 use Rattle.std.proofs.lemmas.Option.{slice_get_read}
+use Rattle.std.specs.Vec.{with_item}
+use Rattle.up_events.specs.contracts.journal.Journal.{the_view}
 use Rattle.up_events.specs.declared.track.Track.{Track}
 use Rattle.up_events.specs.History.{id_of, CanFollow, steps_at, steps_of}
-use Rattle.up_events.specs.Records.{Records, ArePlaces}
+use Rattle.up_events.specs.Log.{log_of}
+use Rattle.up_events.specs.Records.{Records, firsts_of, noted, ArePlaces}
 use Rattle.up_events.specs.Reached.{reached}
 use Rattle.up_events.specs.Kept.{track_of}
 use Rattle.up_events.proofs.Sound.{sound, steps_of-reached}
-use Rattle.up_events.proofs.JournalLemmas.{few_events, bytes_fit, events-reached, track_found, kept_same, kept_after, step_track, step_events, step_places}
+use Rattle.up_events.proofs.JournalLemmas.{few_events, bytes_fit, events-reached, track_found, kept_same, kept_after, step_track, step_events, step_places, tail_length, tail_same, records_same, records_after}
 use Rattle.up_events.proofs.journal.Journal.note.Goals as goal
 
 pub reached-reached-requires : goal.reached-reached-requires
@@ -32,7 +35,9 @@ invariant_of-self c =
     let e = c.in_err-count.ensures in
     let within : c.lane-lane.result < a.lanes = rw c.lane-lane.ensures (mod-lt c.id-id.result c.self.invariant.some_lane) in
     let was = slice_get_read a.logs.items a.lanes c.lane-lane.result _ (sym c.self.invariant.rows) within c.index_mut-log.ensures.value in
-    kept_same a c.write.new.accepted c.lane-lane.result c.index_mut-log.result.now c.write.new.log c.write.new.tracks c.self.invariant e.same_list was e.same_log e.same_tracks
+    let log = log_of a.lanes a.accepted.items c.lane-lane.result in
+    let tail = tail_same log c.index_mut-log.result.now c.write.new.log (c.self.invariant.logs c.lane-lane.result _ was) c.write.ensures.first e.same_log in
+    kept_same a c.write.new.accepted c.lane-lane.result c.index_mut-log.result.now c.write.new.log c.write.new.tracks c.self.invariant e.same_list was tail e.same_tracks
 
 pub invariant_of-self-2 : goal.invariant_of-self-2
 invariant_of-self-2 c =
@@ -50,7 +55,8 @@ invariant_of-self-2 c =
     let was = slice_get_read a.logs.items a.lanes c.lane-lane.result _ (sym c.self.invariant.rows) within c.index_mut-log.ensures.value in
     rw lane (kept_after a change c.write.new.accepted c.index_mut-log.result.now c.write.new.log c.write.new.tracks _ c.self.invariant can e.accepted
     (rw lane at was)
-    (e.log ∙ ap (λ l. c.index_mut-log.result.now.items ++ l) (step_events changes change c.reached-reached.result s can is))
+    c.write.ensures.first
+    (e.log ∙ ap (λ l. c.index_mut-log.result.now.events ++ l) (step_events changes change c.reached-reached.result s can is))
     e.tracks
     (step_track changes change c.reached-reached.result c.in_ok-count.count s can is e.count))
 
@@ -72,4 +78,20 @@ returns-clause-places c =
     let steps : c.in_ok-count.count ≡ length (steps_of changes change) =
     e.count ∙ ap (λ (t : Track). length (steps_at change t.offset t.length)) is ∙ ap length (sym (steps_of-reached changes change s can)) in
     subst (λ (r : Records). ArePlaces r change c.lane-lane.result c.len-first.result c.in_ok-count.count) c.self.view_is
-    (step_places a.lanes changes change c.lane-lane.result c.len-first.result c.in_ok-count.count lane (c.len-first.ensures ∙ c.index_mut-log.result.now.ok.0 ∙ ap length log) steps)
+    (step_places a.lanes changes change c.lane-lane.result c.len-first.result c.in_ok-count.count lane (c.len-first.ensures ∙ tail_length (log_of a.lanes changes c.lane-lane.result) c.index_mut-log.result.now log) steps a.accepted.keeps (firsts_of a.logs.items))
+
+pub returns-in_err-count-clause-err : goal.returns-in_err-count-clause-err
+returns-in_err-count-clause-err c =
+    let a = c.self.inside in
+    let within : c.lane-lane.result < a.lanes = rw c.lane-lane.ensures (mod-lt c.id-id.result c.self.invariant.some_lane) in
+    let was = slice_get_read a.logs.items a.lanes c.lane-lane.result _ (sym c.self.invariant.rows) within c.index_mut-log.ensures.value in
+    let same : the_view (record { lanes = a.lanes; accepted = c.write.new.accepted; logs = with_item a.logs c.lane-lane.result c.write.new.log; tracks = c.write.new.tracks }) ≡ c.args.self.now =
+    records_same a c.write.new.accepted c.lane-lane.result c.index_mut-log.result.now c.write.new.log c.write.new.tracks c.in_err-count.ensures.same_list c.write.ensures.keeps was c.write.ensures.first ∙ c.self.view_is in
+    search (rules, same)
+
+pub returns-clause-ok : goal.returns-clause-ok
+returns-clause-ok c =
+    let a = c.self.inside in
+    let within : c.lane-lane.result < a.lanes = rw c.lane-lane.ensures (mod-lt c.id-id.result c.self.invariant.some_lane) in
+    let was = slice_get_read a.logs.items a.lanes c.lane-lane.result _ (sym c.self.invariant.rows) within c.index_mut-log.ensures.value in
+    records_after a c.args.change c.write.new.accepted c.lane-lane.result c.index_mut-log.result.now c.write.new.log c.write.new.tracks c.in_ok-count.ensures.accepted c.write.ensures.keeps was c.write.ensures.first ∙ ap (λ r. noted r c.args.change) c.self.view_is

@@ -1,15 +1,26 @@
-use Rattle.std.proofs.Common.{◌≡◌, ◌≤◌, ◌^◌, true, false, ◌&&◌, is_none, unwrap_or, cond, ◌++◌, ◌∷◌, [], length, refl, sym, ap, ◌∙◌, subst}
+use Rattle.std.proofs.Common.{◌≡◌, ◌≤◌, ◌^◌, true, false, ◌&&◌, is_none, unwrap_or, cond, ◌++◌, ◌∷◌, [], length, refl, sym, ap, ◌∙◌, subst, arith}
 use Rattle.up_events.specs.declared.event.Accepted.TheVariants.{Created}
 use Rattle.up_events.specs.History.{is_final_kind, is_known, most_of}
 use Rattle.up_machine.specs.Content.{Content, IsWithinLength, made_of}
 use Rattle.up_machine.specs.State.{Contents, State, first_bytes, joined}
 use Rattle.up_machine.specs.Fits.{Fits}
 use Rattle.up_machine.proofs.FitsLemmas.{fits_created, sound_after}
-use Rattle.up_machine.proofs.DecisionLemmas.{create_passed, made_bytes, made_sized, made_small, made_within, refused_by}
+use Rattle.up_machine.proofs.DecisionLemmas.{create_passed, first_none, first_small, made_bytes, made_sized, made_small, made_within, refused_by}
 use Rattle.up_machine.proofs.book.Book.create.Goals as goal
 
-pub new-upload-requires : goal.new-upload-requires
-new-upload-requires c = subst (λ b. IsWithinLength (made_of c.args.new b)) (sym c.in_ok-bytes.ensures.bytes) (made_within c.self.inside.uploads c.args.new)
+pub first_bytes-requires : goal.first_bytes-requires
+first_bytes-requires c =
+    let a = c.self.inside in
+    let new = c.args.new in
+    let passed = create_passed c.args.self.now new c.args.id c.args.asked.now c.in_ok-check_create.field-0 tt c.in_ok-check_create.ensures in
+    let sum = subst (λ (t : State). is_final_kind new.kind ≡ true → length (joined t.content new.parts) ≤ t.max_size) (sym c.self.view_is) passed.1 in
+    omega (arith, first_small a.uploads a.max_size new c.requires.bounded c.self.invariant.small sum)
+
+pub new-upload-requires-clause-within : goal.new-upload-requires-clause-within
+new-upload-requires-clause-within c = subst (λ b. IsWithinLength (made_of c.args.new b)) (sym c.in_ok-first.ensures) (made_within c.self.inside.uploads c.args.new)
+
+pub new-upload-requires-clause-none : goal.new-upload-requires-clause-none
+new-upload-requires-clause-none c = λ other. c.in_ok-first.ensures ∙ first_none c.self.inside.uploads c.args.new other
 
 pub invariant_of-self-2 : goal.invariant_of-self-2
 invariant_of-self-2 c =
@@ -17,7 +28,7 @@ invariant_of-self-2 c =
     let s : State = record { content = a.uploads; journal = a.journal; closed = a.closed; max_size = a.max_size } in
     let new = c.args.new in
     let x : Content = c.new-upload.result in
-    let made : x ≡ made_of new (first_bytes a.uploads new) = c.new-upload.ensures ∙ ap (made_of new) c.in_ok-bytes.ensures.bytes in
+    let made : x ≡ made_of new (first_bytes a.uploads new) = c.new-upload.ensures ∙ ap (made_of new) c.in_ok-first.ensures in
     let passed = create_passed c.args.self.now new c.args.id c.args.asked.now c.in_ok-check_create.field-0 tt c.in_ok-check_create.ensures in
     let known : is_known a.journal.accepted c.args.id ≡ false = ap (λ (t : State). is_known t.journal.accepted c.args.id) c.self.view_is ∙ passed.0 in
     let sum = subst (λ (t : State). is_final_kind new.kind ≡ true → length (joined t.content new.parts) ≤ t.max_size) (sym c.self.view_is) passed.1 in

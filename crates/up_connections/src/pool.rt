@@ -1,0 +1,112 @@
+//! Threads that wait for a connection.
+use std::alloc::{AllocError, Global};
+use std::net::TcpStream;
+use std::sync::atomic::{AtomicU64, Ordering};
+use std::sync::{Mutex, Wait};
+use std::time::Duration;
+
+/// How many threads wait for a connection, at most. One more ends in place of waiting.
+const MOST_WAITING: usize = 64;
+
+/// How many seconds a thread sleeps before it looks whether it was handed a connection without being woken.
+const SLEEP: u64 = 1;
+
+/// How often a thread sleeps before it ends.
+const MOST_SLEEPS: u32 = 3;
+
+/// Connections that no thread has taken yet, and how many threads wait for one. There are never more connections than
+/// threads.
+#[derive(Drop)]
+struct Handed {
+    streams: Vec<TcpStream>,
+    waiting: usize,
+    is_closed: bool,
+}
+
+/// Threads that have served a connection and wait some seconds for another, since that takes less than to end one and
+/// start one.
+#[derive(Drop)]
+pub struct Pool {
+    handed: Mutex<Handed>,
+    /// How many times there was something new. Threads sleep on it.
+    news: AtomicU64,
+}
+
+impl Pool {
+    /// No thread waits. All of its memory is taken here.
+    pub fn new(alloc: Global) -> Result<Pool, AllocError> {
+        let handed = Mutex::new(Handed {
+            streams: Vec::with_capacity(alloc, MOST_WAITING)?,
+            waiting: 0,
+            is_closed: false,
+        });
+        Ok(Pool {
+            handed,
+            news: AtomicU64::new(0),
+        })
+    }
+
+    /// Hands a connection to a thread that waits for one. If none does, the connection comes back.
+    pub fn hand<R: Wait>(&self, rt: &R, stream: TcpStream) -> Option<TcpStream> {
+        let mut handed = self.handed.lock(rt);
+        let count = handed.streams.len();
+        if count >= handed.waiting || count >= handed.streams.capacity() {
+            return Some(stream);
+        }
+        handed.streams.push_reserved(stream);
+        self.news.fetch_add(1, Ordering::SeqCst);
+        drop(handed);
+        self.news.wake_one();
+        None
+    }
+
+    /// Waits for the next connection. There is none once the pool is closed, if enough threads wait already, or if none came in
+    /// some seconds.
+    pub fn next<R: Wait>(&self, rt: &R) -> Option<TcpStream> {
+        let mut seen = self.enter(rt)?;
+        for _ in 0..MOST_SLEEPS {
+            self.news.park_timeout(rt, seen, Duration::from_secs(SLEEP));
+            let mut handed = self.handed.lock(rt);
+            if let Some(stream) = handed.streams.pop() {
+                handed.waiting = handed.waiting.saturating_sub(1);
+                return Some(stream);
+            }
+            if handed.is_closed {
+                break;
+            }
+            seen = self.told();
+        }
+        self.leave(rt)
+    }
+
+    /// Has the threads that wait end, and those that would.
+    pub fn close<R: Wait>(&self, rt: &R) {
+        let mut handed = self.handed.lock(rt);
+        handed.is_closed = true;
+        self.news.fetch_add(1, Ordering::SeqCst);
+        drop(handed);
+        self.news.wake_all();
+    }
+
+    /// One thread more waits, unless the pool is closed or enough do. Tells what `told` does.
+    fn enter<R: Wait>(&self, rt: &R) -> Option<u32> {
+        let mut handed = self.handed.lock(rt);
+        if handed.is_closed || handed.waiting >= MOST_WAITING {
+            return None;
+        }
+        handed.waiting += 1;
+        Some(self.told())
+    }
+
+    /// One thread less waits. It takes the connection that it was handed meanwhile, if there is one.
+    fn leave<R: Wait>(&self, rt: &R) -> Option<TcpStream> {
+        let mut handed = self.handed.lock(rt);
+        handed.waiting = handed.waiting.saturating_sub(1);
+        handed.streams.pop()
+    }
+
+    /// How many times there was something new, as far as a sleep can tell. To be asked for under the lock.
+    fn told(&self) -> u32 {
+        (self.news.load(Ordering::SeqCst) & 0xffff_ffff) as u32
+    }
+}

@@ -1,0 +1,18 @@
+-- How the bytes of an upload are kept of which more may come.
+use Rattle.std.specs.Prelude.{◌≡◌, ◌+◌, ◌<◌, ◌^◌, ◌≤◌, ℕ, List, length}
+use Rattle.up_message.specs.Joins.{pieced, pieced_then}
+use Rattle.up_machine.specs.declared.pieces.Pieces.TheInside.{Inside}
+
+-- the most room of a tail
+abbrev pub tail_room : ℕ
+tail_room = 65536
+
+-- the front, and the tail after it
+abbrev pub kept : Inside → List ℕ
+kept a = pieced_then a.front.items a.tail.items
+
+-- the front is counted, and the tail has no more room than that
+pub record IsKept (a : Inside) : Type 0 where
+  pub counted : a.count ≡ length (pieced a.front.items)
+  pub small : a.count + length a.tail.items < 2 ^ 64
+  pub room : length a.tail.items + a.tail.spare ≤ tail_room

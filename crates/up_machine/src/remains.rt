@@ -1,0 +1,41 @@
+//! What is to be dropped later.
+use crate::upload::Upload;
+use std::marker::Model;
+use up_message::Piece;
+
+/// What a commit leaves over: an upload that was removed, or the body of a PATCH. Whoever has it drops it when nobody waits
+/// for that. Contracts see nothing of it.
+#[derive(Drop)]
+pub struct Remains {
+    upload: Option<Upload>,
+    body: Option<Piece>,
+}
+
+impl Model for Remains {
+    ghost Value = { Unit {0} };
+
+    ghost view = { λ a. tt };
+}
+
+impl Remains {
+    /// Nothing. Takes no memory.
+    pub fn new() -> Self {
+        Remains {
+            upload: None,
+            body: None,
+        }
+    }
+
+    /// Takes an upload that was removed.
+    pub(crate) fn take_upload(&mut self, upload: Option<Upload>) {
+        self.upload = upload;
+    }
+
+    /// Takes the body of a PATCH, which the upload shares if it kept it.
+    pub(crate) fn take_body(&mut self, body: Piece) {
+        self.body = Some(body);
+    }
+
+    /// Drops it.
+    pub fn release(self) {}
+}

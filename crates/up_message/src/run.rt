@@ -1,0 +1,100 @@
+//! Bytes that several owners share, in one piece or in many.
+ghost use Rattle.std.specs.Prelude.{◌≡◌, length, IfOk, IfErr};
+ghost use Rattle.up_message.specs.Joins.{pieced};
+
+use crate::piece::Piece;
+use std::alloc::{AllocError, AllocFailed, Global};
+use std::marker::Model;
+use std::slice;
+use std::sync::Arc;
+
+/// How the bytes of a run are kept.
+#[derive(Drop)]
+enum Shape {
+    One(Piece),
+    Several(Arc<Vec<Piece>>),
+}
+
+/// Bytes in one piece or in several, which other owners may share. However many pieces there are, sharing them takes the
+/// same short time. Contracts see the bytes, whatever the pieces.
+#[derive(Drop)]
+pub struct Run {
+    shape: Shape,
+    count: u64,
+}
+
+impl Model for Run {
+    ghost use Rattle.std.specs.Prelude.{◌≡◌, List, ℕ, length};
+    ghost use Rattle.std.specs.Coded.{coded_list, coded_ℕ};
+
+    ghost Value = { List ℕ };
+
+    ghost coded = { coded_list coded_ℕ };
+
+    ghost use Rattle.up_message.specs.Shapes.{shaped};
+
+    ghost view = { λ a. shaped a.shape };
+
+    ghost invariant = { λ a. a.count ≡ length (shaped a.shape) };
+}
+
+impl Run {
+    /// One piece, which is not copied. Takes no memory.
+    pub fn one(piece: Piece) -> Self
+        ensures { result ≡ piece }
+    {
+        let count = piece.len() as u64;
+        Run {
+            shape: Shape::One(piece),
+            count,
+        }
+    }
+
+    /// Pieces that have so many bytes together, none of which is copied. If memory is refused, the pieces come back.
+    pub fn several(
+        alloc: Global,
+        pieces: Vec<Piece>,
+        count: u64,
+    ) -> Result<Self, AllocFailed<Vec<Piece>>>
+        requires { count ≡ length (pieced pieces.items) }
+        ensures ok { IfOk result (λ run. run ≡ pieced pieces.items) }
+        ensures value_returned { IfErr result (λ e. e.value ≡ pieces) }
+    {
+        let pieces = Arc::new(alloc, pieces)?;
+        Ok(Run {
+            shape: Shape::Several(pieces),
+            count,
+        })
+    }
+
+    /// How many bytes there are.
+    pub fn len(&self) -> u64
+        ensures { result ≡ length self.now }
+    {
+        self.count
+    }
+
+    /// The pieces, in order.
+    pub fn pieces(&self) -> &[Piece]
+        ensures { pieced result.now ≡ self.now }
+    {
+        match &self.shape {
+            Shape::One(piece) => slice::from_ref(piece),
+            Shape::Several(pieces) => pieces.as_slice(),
+        }
+    }
+
+    /// The same bytes for one owner more. None is copied.
+    pub fn share(&self) -> Result<Self, AllocError>
+        ensures { IfOk result (λ run. run ≡ self.now) }
+    {
+        let shape = match &self.shape {
+            Shape::One(piece) => Shape::One(piece.share()?),
+            Shape::Several(pieces) => Shape::Several(Arc::try_clone(pieces)?),
+        };
+        Ok(Run {
+            shape,
+            count: self.count,
+        })
+    }
+}

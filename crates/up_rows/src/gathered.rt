@@ -1,0 +1,28 @@
+//! Bytes in runs, in one piece.
+use std::alloc::{AllocError, Global};
+use up_message::{Piece, Run, Segments};
+
+/// Puts the pieces behind the bytes.
+pub fn put_pieces(bytes: &mut Vec<u8>, pieces: &[Piece]) -> Result<(), AllocError> {
+    for piece in pieces {
+        bytes.extend_from_slice(piece.as_slice())?;
+    }
+    Ok(())
+}
+
+/// Puts the runs behind the bytes.
+pub fn put_runs(bytes: &mut Vec<u8>, runs: &[Run]) -> Result<(), AllocError> {
+    for run in runs {
+        put_pieces(bytes, run.pieces())?;
+    }
+    Ok(())
+}
+
+/// The bytes of a body.
+pub fn gathered(alloc: Global, body: &Segments) -> Result<Vec<u8>, AllocError> {
+    let mut bytes = Vec::new(alloc);
+    let (front, last) = body.runs();
+    put_runs(&mut bytes, front)?;
+    put_pieces(&mut bytes, last.pieces())?;
+    Ok(bytes)
+}
