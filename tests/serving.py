@@ -1,6 +1,6 @@
-"""What the scripts of `tests/`, `bench/memory` and `bench/serve` share: the program `up`, a server of it for the time of
-a `with`, connections that speak HTTP/1.1 byte for byte, work in many threads at once, and the count of cases. It needs
-nothing but Python 3 and prints nothing by itself.
+"""What the scripts of `tests/`, `bench/memory`, `bench/serve` and `bench/lock` share: the program `up`, a server of it for
+the time of a `with`, connections that speak HTTP/1.1 byte for byte, work in many threads at once, and the count of cases.
+It needs nothing but Python 3 and prints nothing by itself.
 """
 import argparse
 import os
@@ -54,13 +54,14 @@ def seconds_of(process):
 
 class Server:
     """`up serve` with these words, on a free port of the loopback. It is killed at the end of the `with`. With `unheard` its
-    standard output is a pipe whose reader has gone. It has this environment, where one is given. One that may fail, and
-    doesn't listen, has no port."""
+    standard output is a pipe whose reader has gone, and with a `sink` it is that file. It has this environment, where one
+    is given. One that may fail, and doesn't listen, has no port."""
 
-    def __init__(self, program, *words, files=None, unheard=False, environment=None, may_fail=False):
+    def __init__(self, program, *words, files=None, unheard=False, sink=None, environment=None, may_fail=False):
         self.words = [program, "serve", "--address", "127.0.0.1:0", "--max-size", str(MAX_SIZE), *words]
         self.files = files
         self.unheard = unheard
+        self.sink = sink
         self.environment = environment
         self.may_fail = may_fail
 
@@ -71,7 +72,7 @@ class Server:
 
     def __enter__(self):
         self.told = tempfile.TemporaryFile()
-        told = subprocess.PIPE if self.unheard else self.told
+        told = subprocess.PIPE if self.unheard else self.sink or self.told
         self.process = subprocess.Popen(
             self.words, stdin=subprocess.DEVNULL, stdout=told, stderr=subprocess.PIPE, preexec_fn=self.limit,
             env=self.environment,
@@ -209,6 +210,26 @@ class Connection:
         return not self.read and not self.more()
 
 
+class Maker:
+    """A connection that is made anew before its 10,000 messages are used up."""
+
+    def __init__(self, server):
+        self.server, self.left = server, 0
+
+    def ask(self, message, status):
+        if self.left == 0:
+            self.connection, self.left = Connection(self.server), 9_000
+        self.left -= 1
+        self.connection.send(message)
+        reply = self.connection.reply()
+        same(reply.status, status, "the status of a reply")
+        return reply.fields.get("location")
+
+    def make(self, length, **fields):
+        named = {name.replace("_", "-"): value for name, value in fields.items()}
+        return self.ask(head("POST", "/files/", {"Upload-Length": length, **named}), 201)
+
+
 def at_once(work, count, meeting=None):
     """Does this work in so many threads, each with its number; the first fault of a thread fails the case. Those that
     wait at a meeting, a barrier, are let go then."""
@@ -251,6 +272,15 @@ def below(got, limit, what):
     """Fails the case where a figure isn't below its limit."""
     if not got < limit:
         raise AssertionError(f"{what}: {got:.3f}, not below {limit:.3f}")
+
+
+def settled(server):
+    """The memory of the server once it has done what it was asked, and has slept for a while."""
+    before = -1.0
+    while server.seconds() != before:
+        before = server.seconds()
+        time.sleep(0.3)
+    return server.status("VmRSS")
 
 
 def soon(holds, what):

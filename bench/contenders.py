@@ -1,0 +1,190 @@
+"""What `bench/serve` and `bench/lock` share: the programs that they measure by turns, and nginx; their clients in C; what a
+server takes of the processors; and tables.
+"""
+import argparse
+import os
+import re
+import resource
+import shutil
+import signal
+import socket
+import subprocess
+import sys
+import tempfile
+import time
+
+ROOT = os.path.dirname(os.path.dirname(os.path.abspath(__file__)))
+sys.path.insert(0, os.path.join(ROOT, "tests"))
+from serving import Server, build, soon  # noqa: E402
+
+MIB = 1 << 20
+
+# How many seconds a server is given to do what is left to do behind its last answer.
+QUIET = 0.1
+
+NGINX = """
+daemon off; worker_processes 2; pid {folder}/pid; error_log {folder}/errors; {user}
+events {{ worker_connections 4096; }}
+http {{
+    access_log off; sendfile on; tcp_nodelay on; keepalive_requests 1000000000; keepalive_timeout 1h;
+    client_max_body_size 0; client_body_buffer_size 256k; client_body_temp_path {folder}/bodies;
+    proxy_temp_path {folder}/proxy; fastcgi_temp_path {folder}/fastcgi; uwsgi_temp_path {folder}/uwsgi;
+    scgi_temp_path {folder}/scgi;
+    server {{
+        listen 127.0.0.1:{port} backlog=4096; root {folder}/files;
+        location / {{ dav_methods PUT DELETE; }}
+    }}
+}}
+"""
+
+
+class NginxServer:
+    """nginx on a free port, which keeps its files in memory; it is ended at the end of the `with`, and its files with it."""
+
+    def __enter__(self):
+        self.folder = tempfile.mkdtemp(prefix="up-bench-", dir="/dev/shm")
+        os.mkdir(os.path.join(self.folder, "files"))
+        with socket.socket() as free:
+            free.bind(("127.0.0.1", 0))
+            self.port = free.getsockname()[1]
+        path = os.path.join(self.folder, "conf")
+        user = "user root;" if os.geteuid() == 0 else ""
+        with open(path, "w", encoding="ascii") as file:
+            file.write(NGINX.format(folder=self.folder, port=self.port, user=user))
+        self.process = subprocess.Popen(["nginx", "-c", path, "-e", os.path.join(self.folder, "errors")])
+        soon(self.listens, "nginx listens")
+        return self
+
+    def __exit__(self, *_):
+        self.process.send_signal(signal.SIGTERM)
+        self.process.wait()
+        shutil.rmtree(self.folder)
+
+    def listens(self):
+        with socket.socket() as probe:
+            return probe.connect_ex(("127.0.0.1", self.port)) == 0 and len(self.processes()) == 3
+
+    def processes(self):
+        with open(f"/proc/{self.process.pid}/task/{self.process.pid}/children", encoding="ascii") as file:
+            return [self.process.pid, *map(int, file.read().split())]
+
+
+class Nginx:
+    """nginx as a contender, and what it speaks."""
+
+    name, kind = "nginx", "put"
+
+    def server(self):
+        return NginxServer()
+
+
+class Up:
+    """`up` as a contender: its name, its path, and the settings of the C library that it runs with, where they are its own. It
+    lets as many connections in as it can."""
+
+    kind = "tus"
+
+    def __init__(self, name, path, tunables=None):
+        self.name, self.path = name, path
+        self.environment = None if tunables is None else {**os.environ, "GLIBC_TUNABLES": tunables}
+
+    def server(self, *words, **more):
+        return Server(self.path, "--open", "4096", *words, environment=self.environment, **more)
+
+
+def named_program(text):
+    """The contender of a word `NAME=PATH[@GLIBC_TUNABLES]`."""
+    name, _, rest = text.partition("=")
+    path, at, tunables = rest.partition("@")
+    if not name or not os.access(path, os.X_OK) or os.path.isdir(path):
+        raise argparse.ArgumentTypeError(f"{text!r} is not NAME=PATH of a program")
+    return Up(name, path, tunables if at else None)
+
+
+def add_program_word(words):
+    words.add_argument(
+        "--program", action="append", type=named_program, metavar="NAME=PATH[@GLIBC_TUNABLES]", dest="programs",
+        help="a program to be measured, in place of crates/up/out/up; the word may stand several times",
+    )
+
+
+def contenders_of(programs):
+    """The programs that were named, or else the one of this tree, with the settings that the script `up` gives it."""
+    if programs:
+        names = [it.name for it in programs]
+        if len(set(names)) < len(names) or Nginx.name in names:
+            sys.exit("bench: each program needs a name of its own")
+        return programs
+    with open(os.path.join(ROOT, "up"), encoding="utf-8") as file:
+        found = re.search(r"^memory=(\S+)$", file.read(), re.MULTILINE)
+    return [Up("up", build(), os.environ.get("GLIBC_TUNABLES", found[1]) if found else None)]
+
+
+def by_turns(contenders, number):
+    """The contenders as they stand in the round of this number: in each another is the first."""
+    first = number % len(contenders)
+    return contenders[first:] + contenders[:first]
+
+
+def processor_seconds(server):
+    """What all processes of a server took of the processors so far: their clocks of Linux, which count ended threads too."""
+    return sum(time.clock_gettime((~process << 3) | 2) for process in server.processes())
+
+
+def touch(mebibytes):
+    """Writes to so much memory, in a process that then ends."""
+    if mebibytes:
+        subprocess.run([sys.executable, "-c", f"bytearray(b'x') * {mebibytes * MIB}"], check=True)
+
+
+def compiled(name, folder):
+    """The path of a client, which is compiled into the folder."""
+    if not shutil.which("cc"):
+        sys.exit("bench: there is no C compiler, cc")
+    path = os.path.join(folder, name)
+    subprocess.run(["cc", "-O2", "-Wall", "-pthread", "-o", path, os.path.join(ROOT, "bench", name + ".c")], check=True)
+    return path
+
+
+class Client:
+    """A client of a server, `bench/serve.c`, and the seconds that both took of the processors while they were timed."""
+
+    def __init__(self, path, kind, server):
+        self.path, self.kind, self.server = path, kind, server
+        self.seconds = self.server_seconds = 0.0
+
+    def words(self, *words):
+        return [self.path, str(self.server.port), self.kind, *map(str, words)]
+
+    def do(self, *words):
+        """The words that the client says."""
+        return subprocess.run(self.words(*words), stdout=subprocess.PIPE, check=True, text=True).stdout.split()
+
+    def timed(self, *words):
+        """The first number that the client says."""
+        before, of_server = self.so_far(), processor_seconds(self.server)
+        said = self.do(*words)
+        time.sleep(QUIET)
+        self.seconds += self.so_far() - before
+        self.server_seconds += processor_seconds(self.server) - of_server
+        return float(said[0])
+
+    @staticmethod
+    def so_far():
+        used = resource.getrusage(resource.RUSAGE_CHILDREN)
+        return used.ru_utime + used.ru_stime
+
+
+def say_machine():
+    print(f"{os.cpu_count()} cores, with a load of {os.getloadavg()[0]:.1f} before the start", flush=True)
+
+
+def say_table(rows, texts):
+    """Prints rows of words, of which the first has the titles. Of columns of texts, which are the first ones and the last,
+    the words begin at one place; of others they end there."""
+    widths = [max(map(len, column)) for column in zip(*rows)]
+    print()
+    for row in rows:
+        *front, last = row
+        words = [it.ljust(width) if at < texts else it.rjust(width) for at, (it, width) in enumerate(zip(front, widths))]
+        print("  ".join([*words, last]).rstrip(), flush=True)

@@ -1,0 +1,122 @@
+"""What `bench/serve` measures of the memory of `up`: the bytes that it holds, as they come in bodies of several sizes, in
+chunked coding and in a final upload, and connections that are idle.
+"""
+import contextlib
+import subprocess
+import sys
+import time
+
+from contenders import MIB, Client, processor_seconds
+from serving import Connection, Maker, head, same, settled
+
+# The most memory for the bytes held, and for those of a final upload, whose parts are held already; both in these bytes.
+MOST_HELD = 1.1
+MOST_FINAL = 0.001
+
+# The sizes of the bodies, and how many bytes are held of each.
+BODIES = [(1, 4 * MIB), (1024, 64 * MIB), (16_384, 64 * MIB), (65_536, 64 * MIB), (MIB, 64 * MIB), (256 * MIB, 256 * MIB)]
+
+PARTS = 64
+CHUNK = 65_536
+
+# What is measured of idle connections, and the most that it may be: MiB in all, also where each has made an upload of 1 KiB,
+# and seconds of the processors.
+IDLE, MOST_IDLE, MOST_USED = 1000, 24, 32
+SECONDS, MOST_SECONDS = 10, 0.1
+
+
+def size_of(count):
+    """A number of bytes as a text."""
+    for unit, name in ((MIB, "MiB"), (1024, "KiB")):
+        if count >= unit:
+            return f"{count // unit} {name}"
+    return "a byte"
+
+
+class Figure:
+    """What is measured, its value, and the most that it may be."""
+
+    def __init__(self, title, value, unit, most, ratio=None):
+        self.title, self.value, self.unit, self.most, self.ratio = title, value, unit, most, ratio
+
+    def is_met(self):
+        return (self.value if self.ratio is None else self.ratio) <= self.most
+
+    def cells(self):
+        shown = f"{self.value:,.3f} {self.unit}"
+        if self.ratio is None:
+            return [self.title, shown, "", f"{self.most:g} {self.unit}"]
+        return [self.title, shown, f"{self.ratio:.4f}", f"{self.most:g}"]
+
+
+def figure_of_bytes(title, grown, held, most=MOST_HELD):
+    return Figure(title, grown / MIB, "MiB", most, grown / held)
+
+
+def held(contender, path):
+    """Bodies of several sizes, of one upload each. The connection that brought them has ended."""
+    for size, count in BODIES:
+        with contender.server() as server:
+            before = settled(server)
+            Client(path, contender.kind, server).do("append", 1, count // size, size)
+            grown, peak = settled(server) - before, server.status("VmHWM") - before
+        title = f"{size_of(count)} in bodies of {size_of(size)}"
+        if size == count:
+            title = f"{size_of(count)} in one body"
+            yield figure_of_bytes("its peak, while they came", peak, count)
+        yield figure_of_bytes(title, grown, count)
+
+
+def chunked(contender, _):
+    """One body in chunked coding."""
+    with contender.server() as server:
+        before = settled(server)
+        with Connection(server) as connection:
+            path = connection.make(64 * MIB)
+            fields = {"Upload-Offset": 0, "Content-Type": "application/offset+octet-stream", "Transfer-Encoding": "chunked"}
+            connection.send(head("PATCH", path, fields))
+            for _ in range(64 * MIB // CHUNK):
+                connection.send(f"{CHUNK:x}\r\n".encode() + bytes(CHUNK) + b"\r\n")
+            connection.send(b"0\r\n\r\n")
+            same(connection.reply().status, 204, "the status of a PATCH")
+        yield figure_of_bytes("64 MiB in one body in chunked coding", settled(server) - before, 64 * MIB)
+
+
+def final(contender, _):
+    """A final upload of parts that are held."""
+    with contender.server() as server:
+        maker = Maker(server)
+        parts = [maker.make(MIB, Upload_Concat="partial") for _ in range(PARTS)]
+        for part in parts:
+            same(maker.connection.append(part, 0, bytes(MIB)).status, 204, "the status of a PATCH")
+        before = settled(server)
+        maker.ask(head("POST", "/files/", {"Upload-Concat": "final;" + " ".join(parts)}), 201)
+        yield figure_of_bytes(f"a final of {PARTS} parts of 1 MiB", settled(server) - before, PARTS * MIB, MOST_FINAL)
+
+
+@contextlib.contextmanager
+def staying(client, connections):
+    """So many connections that have made a small upload each, and are idle."""
+    words = client.words("stay", connections)
+    with subprocess.Popen(words, stdin=subprocess.PIPE, stdout=subprocess.PIPE, text=True) as process:
+        if process.stdout.readline() != "open\n":
+            sys.exit("bench: the connections did not stay open")
+        yield
+        process.stdin.close()
+
+
+def idle(contender, path):
+    """Connections that do nothing: the memory of the whole server, and its processor time."""
+    with contender.server() as server, contextlib.ExitStack() as open_ones:
+        for _ in range(IDLE):
+            open_ones.enter_context(Connection(server))
+        time.sleep(1)
+        yield Figure(f"{IDLE:,} connections that said nothing, the server and all", settled(server) / MIB, "MiB", MOST_IDLE)
+    with contender.server() as server, staying(Client(path, contender.kind, server), IDLE):
+        yield Figure(f"{IDLE:,} that have made an upload of 1 KiB each", settled(server) / MIB, "MiB", MOST_USED)
+        start = processor_seconds(server)
+        time.sleep(SECONDS)
+        yield Figure(f"processor time of {SECONDS} s with these", processor_seconds(server) - start, "s", MOST_SECONDS)
+
+
+FIGURES = [held, chunked, final, idle]
