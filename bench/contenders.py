@@ -15,7 +15,7 @@ import time
 
 ROOT = os.path.dirname(os.path.dirname(os.path.abspath(__file__)))
 sys.path.insert(0, os.path.join(ROOT, "tests"))
-from serving import Server, build, soon  # noqa: E402
+from serving import Server, build, same, soon  # noqa: E402
 
 MIB = 1 << 20
 
@@ -173,6 +173,14 @@ class Client:
     def so_far():
         used = resource.getrusage(resource.RUSAGE_CHILDREN)
         return used.ru_utime + used.ru_stime
+
+
+def hear(connection, count, status):
+    """Reads so many replies to requests that were sent together. They have no bodies, and all have this status."""
+    while connection.read.count(b"\r\n\r\n") < count and connection.more():
+        pass
+    same(connection.read.count(f"HTTP/1.1 {status} ".encode()), count, f"how many replies are {status}")
+    connection.read = b""
 
 
 def say_machine():

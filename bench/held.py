@@ -6,8 +6,8 @@ import subprocess
 import sys
 import time
 
-from contenders import MIB, Client, processor_seconds
-from serving import Connection, Maker, head, same, settled
+from contenders import MIB, Client, hear, processor_seconds
+from serving import Connection, Maker, head, patch, same, settled
 
 # The most memory for the bytes held, and for those of a final upload, whose parts are held already; both in these bytes.
 MOST_HELD = 1.1
@@ -15,6 +15,15 @@ MOST_FINAL = 0.001
 
 # The sizes of the bodies, and how many bytes are held of each.
 BODIES = [(1, 4 * MIB), (1024, 64 * MIB), (16_384, 64 * MIB), (65_536, 64 * MIB), (MIB, 64 * MIB), (256 * MIB, 256 * MIB)]
+
+# How many bytes a server has taken before.
+BEFORE = 65_536
+
+# How many bodies of a byte are sent before the replies are read.
+TOGETHER = 64
+
+# How many messages a connection has here; the server closes behind the 10,000th.
+MESSAGES = 8192
 
 PARTS = 64
 CHUNK = 65_536
@@ -53,12 +62,39 @@ def figure_of_bytes(title, grown, held, most=MOST_HELD):
     return Figure(title, grown / MIB, "MiB", most, grown / held)
 
 
+def append_bytes(server, count):
+    """An upload in bodies of a byte."""
+    with Connection(server) as first:
+        path = first.make(count)
+    message = patch(path, "%d", 1) + b"x"
+    for offset in range(0, count, MESSAGES):
+        with Connection(server) as connection:
+            for start in range(offset, min(offset + MESSAGES, count), TOGETHER):
+                connection.send(b"".join(message % at for at in range(start, start + TOGETHER)))
+                hear(connection, TOGETHER, 204)
+
+
+def append(client, size, count):
+    """An upload of so many bytes in bodies of this size. Its connections have ended."""
+    if size == 1:
+        append_bytes(client.server, count)
+    else:
+        client.do("append", 1, count // size, size)
+
+
+def warm(client, size=BEFORE):
+    """The memory of a server that has taken some bytes in such bodies."""
+    append(client, min(size, BEFORE), BEFORE)
+    return settled(client.server)
+
+
 def held(contender, path):
-    """Bodies of several sizes, of one upload each. The connection that brought them has ended."""
+    """Bodies of several sizes."""
     for size, count in BODIES:
         with contender.server() as server:
-            before = settled(server)
-            Client(path, contender.kind, server).do("append", 1, count // size, size)
+            client = Client(path, contender.kind, server)
+            before = warm(client, size)
+            append(client, size, count)
             grown, peak = settled(server) - before, server.status("VmHWM") - before
         title = f"{size_of(count)} in bodies of {size_of(size)}"
         if size == count:
@@ -67,10 +103,10 @@ def held(contender, path):
         yield figure_of_bytes(title, grown, count)
 
 
-def chunked(contender, _):
+def chunked(contender, path):
     """One body in chunked coding."""
     with contender.server() as server:
-        before = settled(server)
+        before = warm(Client(path, contender.kind, server))
         with Connection(server) as connection:
             path = connection.make(64 * MIB)
             fields = {"Upload-Offset": 0, "Content-Type": "application/offset+octet-stream", "Transfer-Encoding": "chunked"}

@@ -1,16 +1,16 @@
 /* The client of bench/serve: does one kind of work on the server at a port of the loopback, and says what it took.
  *
- *     client PORT tus|put append CONNECTIONS REQUESTS BYTES   seconds, and the name of what the first connection sent first
+ *     client PORT tus|put append CONNECTIONS REQUESTS BYTES   seconds, and the name of what came first
  *     client PORT tus|put check NAME BYTES                    nothing; fetches the bytes and looks at them
  *     client PORT tus|put fetch NAME BYTES TIMES              seconds; the bytes that come are dropped
  *     client PORT tus|put visit NAME CONNECTIONS              seconds, one connection after another
  *     client PORT tus|put beside BYTES                        the longest wait of a small request beside one of BYTES
  *     client PORT tus|put stay CONNECTIONS                    "open", and then waits for the end of its input
- *     client PORT tus lanes TURNS REQUESTS EVENTS             seconds for requests on an upload of lane 1, and for as many
- *                                                             while as many events of lane 0 wait for their hook
+ *     client PORT tus lanes TURNS REQUESTS EVENTS             seconds for requests on an upload of lane 1, and for as
+ *                                                             many while events of lane 0 wait for their hook
  *
- * `tus` makes uploads and appends to them by PATCH, `put` writes files by PUT. A connection has a thread, and waits for each
- * reply before the next request. It needs a C compiler on Linux. Where a reply isn't the wanted one it ends with 1.
+ * `tus` makes uploads and appends to them by PATCH, `put` writes files by PUT. A connection has a thread and waits for
+ * each reply before the next request. It needs a C compiler on Linux, and ends with 1 where a reply is a wrong one.
  */
 #include "talk.h"
 #include <pthread.h>
@@ -63,11 +63,12 @@ static int append_head(const struct talk *talk, char *head, size_t request, size
             "Content-Type: application/offset+octet-stream\r\nUpload-Offset: %zu\r\nContent-Length: %zu\r\n\r\n",
             talk->path, request * bytes, bytes);
     }
-    return snprintf(head, HEAD, "PUT %s-%zu HTTP/1.1\r\nHost: a\r\nContent-Length: %zu\r\n\r\n", talk->path, request, bytes);
+    return snprintf(head, HEAD, "PUT %s-%zu HTTP/1.1\r\nHost: a\r\nContent-Length: %zu\r\n\r\n",
+        talk->path, request, bytes);
 }
 
-/* Sends the request of this number, as much of its bytes as the system takes with the head, and then the others; and reads the
- * reply. */
+/* Sends the request of this number, as much of its bytes as the system takes with the head, and then the others; and
+ * reads the reply. */
 static void append(struct talk *talk, size_t request, size_t bytes)
 {
     char head[HEAD];
@@ -148,7 +149,7 @@ static void compare(const char *bytes, size_t count, size_t place)
     }
 }
 
-/* Fetches the bytes. They are looked at, or else the system drops them, which takes less. */
+/* Fetches the bytes, and looks at them or drops them. */
 static void fetch(struct talk *talk, const char *name, size_t bytes, int looks)
 {
     static char into[PIECE];
@@ -160,7 +161,7 @@ static void fetch(struct talk *talk, const char *name, size_t bytes, int looks)
         compare(talk->body, place, 0);
     }
     while (talk->rest > 0) {
-        ssize_t came = recv(talk->socket, into, PIECE, looks ? 0 : MSG_TRUNC);
+        ssize_t came = recv(talk->socket, into, PIECE, 0);
         if (came <= 0) {
             stop("the body broke off: %m");
         }
@@ -267,8 +268,8 @@ static void work_stay(int connections)
 {
     struct talk *talks = calloc(connections, sizeof *talks);
     for (int number = 0; number < connections; number++) {
-        make(&talks[number], number, 1);
-        append(&talks[number], 0, 1);
+        make(&talks[number], number, 1024);
+        append(&talks[number], 0, 1024);
     }
     printf("open\n");
     fflush(stdout);

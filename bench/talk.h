@@ -1,5 +1,5 @@
-/* What the clients of bench/ share: a connection to a port of the loopback, what is sent on it, and the heads of replies. Where
- * a reply isn't the wanted one, or the connection breaks off, the program ends with 1.
+/* What the clients of bench/ share: a connection to a port of the loopback, what is sent on it, and the heads of
+ * replies. Where a reply isn't the wanted one, or the connection breaks off, the program ends with 1.
  */
 #define _GNU_SOURCE
 #include <arpa/inet.h>

@@ -2,10 +2,12 @@
  *
  *     watch PORT PATH [PORT PATH]..
  *
- * For each pair a thread sends a HEAD on a connection that is kept, waits for the answer, and sends the next at once; where the
- * server closes, as behind the 10,000th, it connects anew, and that isn't counted. It says "begun" once all have had their first
- * answer, and at the end of its input a line for each pair: how many answers there were, and the mean and the longest wait for
- * one, in milliseconds. It needs a C compiler on Linux. Where an answer isn't 200 it ends with 1.
+ * For each pair a thread sends a HEAD on a connection that is kept, waits for the answer, and sends the next at once;
+ * where the server closes, as behind the 10,000th, it connects anew, and that isn't counted. It says "begun" once all
+ * have had their first answer, and at the end of its input a line for each pair: how many answers there were, and the
+ * mean and the longest wait for one, in milliseconds. A thread sleeps while it waits, and runs on any processor: one
+ * that spins, or keeps to one processor, has to wait for others itself where processors are few. It needs a C compiler
+ * on Linux. Where an answer isn't 200 it ends with 1.
  */
 #include "talk.h"
 #include <pthread.h>
