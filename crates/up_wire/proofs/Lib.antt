@@ -17,3 +17,4 @@ pub mod OneAnswerBodies
 pub mod OneAnswerKinds
 pub mod OneAnswer
 pub mod Places
+pub mod Bodies

@@ -1,6 +1,9 @@
 -- What a call of a device does, as its callers see it.
-use Rattle.std.specs.Prelude.{◌≡◌, ◌≢◌, ℕ, ◌+◌, ◌-◌, ◌<◌, ◌≤◌, ◌⊎◌, Bool, true, false, List, [], ◌∷◌, ◌++◌, All, length, take, Option, Some, None, ⊤}
+use Rattle.std.specs.Prelude.{◌≡◌, ◌≢◌, ℕ, ◌+◌, ◌-◌, ◌^◌, ◌<◌, ◌≤◌, ◌⊎◌, ◌↔◌, Bool, true, false, List, [], ◌∷◌, ◌++◌, All, length, take, Option, Some, None, Result, Ok, Err, ⊤}
 use Rattle.std.specs.Io.KnownBytes.{IsAtEnd}
+use Rattle.std.specs.IoError.{error_kind}
+use Rattle.std.specs.declared.io.Error.{Error}
+use Rattle.std.specs.declared.io.ErrorKind.TheVariants.{Interrupted}
 use Rattle.httparse.specs.Ascii.{line_feed}
 use Rattle.up_wire.specs.Limits.{max_interruptions}
 use Rattle.up_wire.specs.declared.device.NextByte.{NextByte}
@@ -157,3 +160,15 @@ abbrev pub TakesSome : WriteSome → List ℕ → Type 0
 TakesSome (Write.Took count) bytes = (count ≤ length bytes) × (0 < length bytes → 0 < count)
 TakesSome Write.Interrupted bytes = ⊤
 TakesSome Write.Failed bytes = ⊤
+
+-- an error of std is an interruption, and so many before it leave room to count it
+abbrev pub IsInterruption : Error → ℕ → Type 0
+IsInterruption error before = (error_kind error ≡ Interrupted) × (before < 2 ^ 64 - 1)
+
+-- what a sink answers where a writer of std answered so to that many bytes, after so many interruptions: a write that took
+-- none of some bytes failed
+abbrev pub IsWriteAnswer : Result ℕ Error → ℕ → ℕ → WriteSome → Type 0
+IsWriteAnswer (Ok count) most before answer =
+    ((count ≡ 0) × (0 < most) × (answer ≡ Write.Failed)) ⊎ (((0 < count) ⊎ (most ≡ 0)) × (answer ≡ Write.Took count))
+IsWriteAnswer (Err error) most before answer =
+    IsNothing answer × ((answer ≡ Write.Interrupted) ↔ IsInterruption error before)

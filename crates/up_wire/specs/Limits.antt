@@ -17,6 +17,10 @@ max_line = 256
 abbrev pub first_room : ℕ
 first_room = 8192
 
+-- how many bytes a large body has at least: so many are read of it before it has any room
+abbrev pub large : ℕ
+large = 32768
+
 -- the interruption of one call that counts as a failure
 abbrev pub max_interruptions : ℕ
 max_interruptions = 1000

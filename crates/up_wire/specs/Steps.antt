@@ -162,6 +162,20 @@ abbrev pub IsBytesRead : {X : Type 0} → ℕ → List ℕ → Ending → Result
 IsBytesRead size bytes ending (Ok done) = (length bytes ≡ size) × (ending ≡ open_yet)
 IsBytesRead size bytes ending (Err stop) = IsStop ending (length bytes < size) ⊥ stop
 
+-- the buffer holds the bytes that came of a body of that size or more, and no more room than is allowed
+pub record HoldsFront (size : ℕ) (came : List ℕ) (body : Vec ℕ Global) : Type 0 where
+  pub items : body.items ≡ came
+  pub within : length came ≤ size
+  pub bounded : IsBounded body
+
+-- the front of a body, before which no memory was lacking
+abbrev pub IsFrontRead : {X : Type 0} → ℕ → List ℕ → Ending → Vec ℕ Global → Result X Stop → Type 0
+IsFrontRead size came ending body (Ok done) = HoldsFront size came body × (ending ≡ open_yet)
+IsFrontRead size came ending body (Err Stop.Ended) = HoldsFront size came body × (length came < size) × (ending ≡ ended)
+IsFrontRead size came ending body (Err Stop.Failed) = HoldsFront size came body × (length came < size) × (ending ≡ failed)
+IsFrontRead size came ending body (Err Stop.Bad) = ⊥
+IsFrontRead size came ending body (Err Stop.NoMemory) = ⊤
+
 -- a chunk line that says this size; the input goes on behind it
 pub record IsLineOf (input : List ℕ) (ending : Ending) (size : ℕ) : Type 0 where
   pub line : ChunkLine

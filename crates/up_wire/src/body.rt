@@ -1,16 +1,16 @@
 //! Reading a body.
-ghost use Rattle.std.specs.Prelude.{◌≡◌, ◌+◌, ◌-◌, ◌<◌, ◌≤◌, ◌⊎◌, ◌++◌, List, ℕ, length, take, vec_len, true, false};
+ghost use Rattle.std.specs.Prelude.{◌≡◌, ◌+◌, ◌-◌, ◌<◌, ◌≤◌, ◌⊎◌, ◌∷◌, ◌++◌, [], List, ℕ, length, take, vec_len, true, false, OnOk, IfErr};
 ghost use Rattle.std.specs.Io.KnownBytes.{Consumes};
 ghost use Rattle.up_wire.specs.Device.{Counts};
 ghost use Rattle.up_wire.specs.Message.{Ending};
-ghost use Rattle.up_wire.specs.Limits.{max_interruptions};
-ghost use Rattle.up_wire.specs.Steps.{EndsSo, IsBodyRead, batch_ending, IsBatch, IsBytesRead, IsBounded, IsBoundedBy, HasBoundedBody, stopped};
+ghost use Rattle.up_wire.specs.Limits.{max_interruptions, large};
+ghost use Rattle.up_wire.specs.Steps.{EndsSo, IsBodyRead, batch_ending, IsBatch, IsBytesRead, IsFrontRead, IsBounded, IsBoundedBy, HasBoundedBody, stopped};
 
 use crate::chunks::read_chunks;
 use crate::device::{ReadSome, Source};
 use crate::framing::Framing;
 use crate::room::make_room;
-use crate::step::MAX_INTERRUPTIONS;
+use crate::step::{MAX_INTERRUPTIONS, Step, take_step};
 use crate::wire_fault::WireFault;
 use std::alloc::Global;
 
@@ -87,10 +87,104 @@ fn read_sized<R: Source>(
         interruptions.old interruptions.new }
 {
     let mut body = Vec::new(alloc);
+    if let Err(stop) = read_front(source, interruptions, &mut body, size) {
+        return stop.into_body(body);
+    }
     match read_bytes(source, interruptions, &mut body, size, size) {
         Ok(()) => BodyRead::Whole(body),
         Err(stop) => stop.into_body(body),
     }
+}
+
+/// A body of so many bytes or more is large: so many are read of it before it has any room.
+const LARGE: usize = 1 << 15;
+
+/// Reads the front of a large body, behind its first byte, for which it waits. Reads nothing of one that isn't large.
+fn read_front<R: Source>(
+    source: &mut R,
+    interruptions: &mut u32,
+    body: &mut Vec<u8>,
+    size: u64,
+) -> Result<(), Stop>
+    requires patient { interruptions.old < max_interruptions }
+    requires empty { body.old.items ≡ [] }
+    requires bounded { IsBounded body.old }
+    ensures answer { (run : List ℕ) × (ending : Ending)
+        × Consumes (R.device source.old).bytes (R.device source.new).bytes run
+        × EndsSo ending (R.device source.new) interruptions.new
+        × IsFrontRead size run ending body.new result }
+    ensures counts { Counts (R.device source.old) (R.device source.new)
+        interruptions.old interruptions.new }
+{
+    if size < LARGE as u64 {
+        return Ok(());
+    }
+    match take_step(source, interruptions) {
+        Step::Byte(first) => read_large_front(source, interruptions, body, size, first),
+        Step::Ended => Err(Stop::Ended),
+        Step::Failed => Err(Stop::Failed),
+    }
+}
+
+/// Reads the front of a large body, of which the first byte came, and gives the body its room only then. It has a frame of its own on the
+/// stack, so that no connection that only announced a body touches it.
+#[inline(never)]
+fn read_large_front<R: Source>(
+    source: &mut R,
+    interruptions: &mut u32,
+    body: &mut Vec<u8>,
+    size: u64,
+    first: u8,
+) -> Result<(), Stop>
+    requires patient { interruptions.old < max_interruptions }
+    requires empty { body.old.items ≡ [] }
+    requires large { large ≤ size }
+    requires bounded { IsBounded body.old }
+    ensures answer { (run : List ℕ) × (ending : Ending)
+        × Consumes (R.device source.old).bytes (R.device source.new).bytes run
+        × EndsSo ending (R.device source.new) interruptions.new
+        × IsFrontRead size (first ∷ run) ending body.new result }
+    ensures counts { Counts (R.device source.old) (R.device source.new)
+        interruptions.old interruptions.new }
+{
+    let mut front = [0; LARGE];
+    front[0] = first;
+    let mut filled = 1;
+    'batches: while filled < LARGE {
+        match fill(source, interruptions, &mut front, filled) {
+            Batch::Came(count) => filled += count,
+            Batch::Ended => {
+                put_front(body, &front[..filled], size)?;
+                return Err(Stop::Ended);
+            }
+            Batch::Failed => {
+                put_front(body, &front[..filled], size)?;
+                return Err(Stop::Failed);
+            }
+        }
+    }
+    put_front(body, &front, size)
+}
+
+/// Puts the front of a body into it, with room for as many bytes more, but for no more than `size` in all.
+fn put_front(body: &mut Vec<u8>, front: &[u8], size: u64) -> Result<(), Stop>
+    requires empty { body.old.items ≡ [] }
+    requires some { 0 < length front.now }
+    requires within { length front.now ≤ size }
+    requires bounded { IsBounded body.old }
+    ensures memory { IfErr result (λ stop. stop ≡ Stop.NoMemory) }
+    ensures items { OnOk result (body.new.items ≡ front.now) }
+    ensures bounded { OnOk result (IsBounded body.new) }
+{
+    if !make_room(body, size, 2 * front.len()) {
+        return Err(Stop::NoMemory);
+    }
+    let room = body.capacity();
+    // std promises of no call that fills a buffer that it takes no more room than there is.
+    if body.extend_from_slice(front).is_err() || body.capacity() > room {
+        return Err(Stop::NoMemory);
+    }
+    Ok(())
 }
 
 /// Reads bytes to the end of `body` until it has `size` of them. It may come to have `most`.

@@ -1,7 +1,7 @@
 //! A reader of std as a source.
-ghost use Rattle.std.specs.Prelude.{◌≡◌, ℕ, ◌<◌, ◌≤◌, ◌⊎◌, ◌+◌, false, not, List, [], ◌++◌, Some, IfOk, OnErr, length, take, vec_len, vec_capacity, if◌then◌else◌};
+ghost use Rattle.std.specs.Prelude.{◌≡◌, ℕ, ◌<◌, ◌≤◌, ◌⊎◌, ◌↔◌, ◌+◌, false, not, IsTrue, List, [], ◌++◌, Some, IfOk, OnErr, length, take, vec_len, vec_capacity, if◌then◌else◌};
 ghost use Rattle.std.specs.Io.KnownBytes.{Consumes, Keeps, IsAtEnd};
-ghost use Rattle.up_wire.specs.Device.{device_of, maybe_byte, IsNoneAtEnd, IsInLine};
+ghost use Rattle.up_wire.specs.Device.{device_of, maybe_byte, IsNoneAtEnd, IsInLine, IsInterruption};
 
 use crate::device::{NextByte, ReadSome, Source};
 use memchr::memchr;
@@ -22,6 +22,7 @@ impl<R> Input<R> {
         ensures reader { self.new.reader ≡ self.old.reader }
         ensures ended { self.new.has_ended ≡ self.old.has_ended }
         ensures failed { self.new.has_failed ≡ not result }
+        ensures kind { IsTrue result ↔ IsInterruption error.now self.old.interruptions }
         ensures interrupted { self.new.interruptions
             ≡ if result then self.old.interruptions + 1 else self.old.interruptions }
     {

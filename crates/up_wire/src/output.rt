@@ -1,6 +1,6 @@
 //! A writer of std as a sink.
-ghost use Rattle.std.specs.Prelude.{◌≡◌, ◌+◌, false};
-ghost use Rattle.up_wire.specs.Device.{device_of, IsNothing, is_failed_write, interrupted_writes};
+ghost use Rattle.std.specs.Prelude.{◌≡◌, ◌+◌, ◌↔◌, false, IsFalse};
+ghost use Rattle.up_wire.specs.Device.{device_of, IsNothing, is_failed_write, interrupted_writes, IsInterruption, IsWriteAnswer};
 
 use crate::device::{Sink, WriteSome};
 use std::io::{self, ErrorKind, Write};
@@ -18,6 +18,8 @@ impl<W> Output<W> {
     fn note(&mut self, error: &io::Error) -> WriteSome
         ensures writer { self.new.writer ≡ self.old.writer }
         ensures nothing { IsNothing result }
+        ensures kind { (result ≡ WriteSome.Interrupted)
+            ↔ IsInterruption error.now self.old.interruptions }
         ensures failed { self.new.has_failed ≡ is_failed_write result }
         ensures interrupted { self.new.interruptions
             ≡ self.old.interruptions + interrupted_writes result }
@@ -29,6 +31,25 @@ impl<W> Output<W> {
         }
         self.has_failed = true;
         WriteSome::Failed
+    }
+
+    /// What the sink answers where the writer answered so to `most` bytes.
+    fn answer(&mut self, written: io::Result<usize>, most: usize) -> WriteSome
+        requires { IsFalse self.old.has_failed }
+        ensures answer { IsWriteAnswer written most self.old.interruptions result }
+        ensures writer { self.new.writer ≡ self.old.writer }
+        ensures failed { self.new.has_failed ≡ is_failed_write result }
+        ensures interrupted { self.new.interruptions
+            ≡ self.old.interruptions + interrupted_writes result }
+    {
+        match written {
+            Ok(count) if count > 0 || most == 0 => WriteSome::Took(count),
+            Ok(_) => {
+                self.has_failed = true;
+                WriteSome::Failed
+            }
+            Err(error) => self.note(&error),
+        }
     }
 }
 
@@ -60,14 +81,8 @@ impl<W: Write> Sink for Output<W> {
         if self.has_failed {
             return WriteSome::Failed;
         }
-        match self.writer.write(bytes) {
-            Ok(count) if count > 0 || bytes.is_empty() => WriteSome::Took(count),
-            Ok(_) => {
-                self.has_failed = true;
-                WriteSome::Failed
-            }
-            Err(error) => self.note(&error),
-        }
+        let written = self.writer.write(bytes);
+        self.answer(written, bytes.len())
     }
 
     fn flush(&mut self) -> WriteSome {
