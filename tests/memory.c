@@ -6,8 +6,10 @@
  * pthread_create, which asks for the stack of a thread. Requests that the C library makes for itself through these
  * names count too (pthread_create makes one by calloc); what it takes from the system by mmap doesn't. Those whose
  * number is from `first` to `last` are refused: the answer is the one for want of memory, and nothing else is done.
+ * `whose` says whose requests are counted: those of all threads (0), of the first one (1), or of all others (2). The
+ * requests of the first one alone come in the same order in each run. What isn't counted isn't refused.
  *
- * The four numbers stand in the file that MEMORY_CONTROL names, in this order. The test reads and writes them while
+ * The five numbers stand in the file that MEMORY_CONTROL names, in this order. The test reads and writes them while
  * the program runs. Without that name nothing is counted and nothing refused.
  */
 #define _GNU_SOURCE
@@ -26,7 +28,10 @@ struct control {
     atomic_ulong refused;
     atomic_ulong first;
     atomic_ulong last;
+    atomic_ulong whose;
 };
+
+enum { OF_ALL, OF_FIRST, OF_OTHERS };
 
 typedef int starter(pthread_t *, const pthread_attr_t *, void *(*)(void *), void *);
 
@@ -39,9 +44,13 @@ extern void *__libc_memalign(size_t, size_t);
 static struct control *control;
 static starter *start_thread;
 
+/* Whether this is the thread that the program began in. Such a variable is there before memory can be asked for. */
+static __thread int is_first __attribute__((tls_model("initial-exec")));
+
 /* Runs before the program's `main`. */
 __attribute__((constructor)) static void begin(void)
 {
+    is_first = 1;
     start_thread = (starter *)dlsym(RTLD_NEXT, "pthread_create");
     const char *path = getenv("MEMORY_CONTROL");
     if (path == NULL)
@@ -60,6 +69,9 @@ __attribute__((constructor)) static void begin(void)
 static int is_refused(void)
 {
     if (control == NULL)
+        return 0;
+    unsigned long whose = atomic_load(&control->whose);
+    if (whose != OF_ALL && (whose == OF_FIRST) != is_first)
         return 0;
     unsigned long number = atomic_fetch_add(&control->asked, 1) + 1;
     if (number < atomic_load(&control->first) || number > atomic_load(&control->last))

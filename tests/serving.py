@@ -20,22 +20,25 @@ ROOT = os.path.dirname(os.path.dirname(os.path.abspath(__file__)))
 # The most seconds that a server may take to listen, and that a reply is waited for.
 MOST_WAIT = 20
 
+# What `rt run` has a program run with, where it doesn't run without words.
+FIRST_WORDS = {"up": ["--", "replay"]}
+
 # No client here goes through a proxy.
 os.environ["no_proxy"] = "127.0.0.1"
 
-# The largest upload that a server takes here, in bytes.
+# The largest upload that a server takes here, in bytes, unless it is told another size.
 MAX_SIZE = 1 << 30
 
 
 def build(name="up", root=ROOT):
     """The path of a program of the crates, which is built anew where they changed; that takes some minutes."""
     folder = os.path.join(root, "crates", name)
+    words = ["rt", "run", *FIRST_WORDS.get(name, [])]
     with open(os.path.join(folder, "stdin"), "rb") as given:
-        subprocess.run(["rt", "run"], cwd=folder, stdin=given, stdout=subprocess.DEVNULL, stderr=subprocess.DEVNULL)
-    program = os.path.join(folder, "out", name)
-    if not os.path.exists(program):
-        sys.exit(f"{name} was not built")
-    return program
+        ran = subprocess.run(words, cwd=folder, stdin=given, stdout=subprocess.DEVNULL, stderr=subprocess.DEVNULL)
+    if ran.returncode != 0:
+        sys.exit(f"{name} was not built, or failed: `{' '.join(words)} < stdin` in {folder} says why")
+    return os.path.join(folder, "out", name)
 
 
 def status_of(process, name):
@@ -57,8 +60,10 @@ class Server:
     standard output is a pipe whose reader has gone, and with a `sink` it is that file. It has this environment, where one
     is given. One that may fail, and doesn't listen, has no port."""
 
-    def __init__(self, program, *words, files=None, unheard=False, sink=None, environment=None, may_fail=False):
-        self.words = [program, "serve", "--address", "127.0.0.1:0", "--max-size", str(MAX_SIZE), *words]
+    def __init__(
+        self, program, *words, size=MAX_SIZE, files=None, unheard=False, sink=None, environment=None, may_fail=False
+    ):
+        self.words = [program, "serve", "--address", "127.0.0.1:0", "--max-size", str(size), *words]
         self.files = files
         self.unheard = unheard
         self.sink = sink

@@ -1,21 +1,35 @@
 //! The listener of a server.
+use crate::fault::Fault;
 use std::io;
 use std::net::{Net, TcpListener, TcpStream};
 use std::os::fd::AsRawFd;
-use up_server::Serving;
+use up_server::{ServerFault, Serving};
 
 /// How many connections may wait for the server to accept them; std asks for 128.
 const BACKLOG: i32 = 4096;
 
-/// Listens at the address, and says so on standard error, with the port that the system picked in place of port 0. An error is an address
-/// that can't be listened at.
+/// Listens at the address, and says so on standard error, with the port that the system picked in place of port 0.
+fn listen_at<R: Net<Listener = TcpListener, Stream = TcpStream> + Eprint>(
+    rt: &R,
+    address: &str,
+) -> io::Result<TcpListener> {
+    let listener = TcpListener::bind(rt, address)?;
+    let _ = libc::net::listen(listener.as_raw_fd(), BACKLOG);
+    let bound = listener.local_addr()?;
+    let _ = eprintln!(rt; "up_server: listening on {bound}");
+    Ok(listener)
+}
+
+/// Listens where the words ask for it. The error says why the address can't be listened at.
 pub fn listen<R: Net<Listener = TcpListener, Stream = TcpStream> + Eprint>(
     rt: &R,
     serving: &Serving,
-) -> io::Result<TcpListener> {
-    let listener = TcpListener::bind(rt, serving.address.as_str())?;
-    let _ = libc::net::listen(listener.as_raw_fd(), BACKLOG);
-    let address = listener.local_addr()?;
-    let _ = eprintln!(rt; "up_server: listening on {address}");
-    Ok(listener)
+) -> Result<TcpListener, Fault> {
+    match listen_at(rt, serving.address.as_str()) {
+        Ok(listener) => Ok(listener),
+        Err(reason) => match serving.address.clone() {
+            Ok(address) => Err(Fault::Listen { address, reason }),
+            Err(_) => Err(Fault::Server(ServerFault::Memory)),
+        },
+    }
 }

@@ -8,9 +8,9 @@ use std::sync::Wait;
 use std::test::Fail;
 use std::thread;
 use std::thread::Threads;
-use up_dispatch::{Board, BoardParts, Naming};
+use up_dispatch::{Board, BoardParts, Naming, Report, Seat};
 use up_hooks::PostHook;
-use up_lanes::{Lane, LaneEnd};
+use up_lanes::{Lane, LaneEnd, Refill};
 
 /// A new board of these parts, which have two queues, and a lane over each of them, with its post-hook.
 pub fn open_board<B: Naming, H: PostHook + Drop>(
@@ -18,8 +18,9 @@ pub fn open_board<B: Naming, H: PostHook + Drop>(
     parts: BoardParts,
     hooks: (H, H),
 ) -> Result<(Board<B>, Vec<Lane<H>>), Fail>
-    requires named { IsNamed B.name B.parts B.queue parts }
+    requires named { IsNamed B.name B.parts B.queue B.lanes parts }
     requires lanes { length parts.queues ≡ 2 }
+    requires sized { B.max_size ≡ 1048576 }
     requires first { H.is_sound hooks.0 × (H.handed hooks.0 ≡ []) }
     requires second { H.is_sound hooks.1 × (H.handed hooks.1 ≡ []) }
     ensures own { IfOk result (λ r. All (λ l. l.queue ≡ B.queue l.lane) r.1.items) }
@@ -35,10 +36,11 @@ pub fn open_board<B: Naming, H: PostHook + Drop>(
     Ok((board, lanes))
 }
 
-/// Runs each lane to its end, in a thread of its own.
-fn run_each<B: Naming + Send + Sync, H: PostHook + Drop, R: Threads + Wait + Sync>(
+/// Runs each lane of a board to its end, in a thread of its own. `refill` is what the lanes call, the board itself or what stands before it.
+pub fn run_each<B: Naming + Send + Sync, H: PostHook + Drop, R: Threads + Wait + Sync, L: Refill>(
     rt: &R,
     board: &Board<B>,
+    refill: &L,
     lanes: Vec<Lane<H>>,
 ) -> Result<Vec<LaneEnd<H>>, AllocError>
     requires own { All (λ l. l.queue ≡ B.queue l.lane) lanes.items }
@@ -50,7 +52,10 @@ fn run_each<B: Naming + Send + Sync, H: PostHook + Drop, R: Threads + Wait + Syn
         &|lane: Lane<H>| -> LaneEnd<H>
             requires { lane.queue ≡ B.queue lane.lane }
             ensures { result.take_end.queue ≡ B.queue result.lane }
-        { lane.run(rt, board) },
+        {
+            let _of = board;
+            lane.run(rt, refill)
+        },
     )
 }
 
@@ -60,11 +65,13 @@ pub fn run_beside<
     B: Naming + Send + Sync,
     H: PostHook + Drop,
     R: Threads + Wait + Sync,
+    L: Refill,
     F: FnOnce() -> T + Send,
     T: Send,
 >(
     rt: &R,
     board: &Board<B>,
+    refill: &L,
     lanes: Vec<Lane<H>>,
     work: F,
 ) -> (T, Result<Vec<LaneEnd<H>>, AllocError>)
@@ -84,6 +91,21 @@ pub fn run_beside<
         || -> Result<Vec<LaneEnd<H>>, AllocError>
             requires { All (λ l. l.queue ≡ B.queue l.lane) lanes.items }
             ensures { IfOk result (λ v. All (λ e. e.take_end.queue ≡ B.queue e.lane) v.items) }
-        { run_each(rt, board, lanes) },
+        { run_each(rt, board, refill, lanes) },
     )
+}
+
+/// The report of a board that is brought to its end with all of its lanes, and with the seats from which it was changed.
+pub fn finished<B: Naming, H: PostHook + Drop>(
+    alloc: Global,
+    board: Board<B>,
+    seats: Vec<Seat<B>>,
+    ends: Vec<LaneEnd<H>>,
+) -> Result<Report<H>, Fail>
+    requires own { All (λ e. e.take_end.queue ≡ B.queue e.lane) ends.items }
+{
+    match board.finish(alloc, seats, ends) {
+        Ok(report) => Ok(report),
+        Err(_) => Err("all are back".into()),
+    }
 }

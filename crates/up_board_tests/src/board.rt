@@ -1,26 +1,24 @@
-//! A board step by step, in one thread; and requests from a seat of a board whose queues are full.
+//! A board step by step, in one thread.
 ghost use Rattle.std.specs.Prelude.{◌≡◌, length, All, []};
-ghost use Rattle.up_dispatch.specs.Lists.{EachAt};
 ghost use Rattle.up_dispatch.specs.Parts.{IsNamed};
-ghost use Rattle.up_events.specs.declared.limits.TheConstants.{MOST_BYTES};
-ghost use Rattle.up_headers.specs.Table.{FitsWithin};
 
+use crate::conversations::talk;
+use crate::fifteen::status_of;
 use crate::requests::{append, creation};
-use std::alloc::{AllocError, Global};
+use std::alloc::Global;
 use std::marker::Brand;
 use std::process::Abort;
 use std::sync::Wait;
 use std::test::Fail;
-use up_dispatch::{Board, BoardParts, Keeper, MOST_SEATS, Naming, Seat, Seated, answer};
+use up_dispatch::{Board, BoardParts, Counting, Keeper, MOST_SEATS, Naming, Seat, Seated};
 use up_events::{Event, Id};
 use up_headers::Request;
-use up_hooks::{Outcome, PostHook, PreHooks, Recorder, new_recorders};
+use up_hooks::{Outcome, PostHook, PreHooks, new_recorders};
 use up_lanes::{Lane, Refill, StepEnd};
 use up_machine::{Asked, Plan, Refusal};
-use up_queue::TakeEnd;
 
 /// Makes an upload from a seat, and tells why it wasn't made.
-fn makes<B: Naming, R: Wait>(
+pub fn makes<B: Naming, R: Wait>(
     rt: &R,
     alloc: Global,
     board: &Board<B>,
@@ -67,15 +65,18 @@ fn stepped<B: Naming, H: PostHook + Drop, R: Wait + Abort>(
     parts: BoardParts,
     hooks: Vec<H>,
 ) -> Result<(), Fail>
-    requires named { IsNamed B.name B.parts B.queue parts }
+    requires named { IsNamed B.name B.parts B.queue B.lanes parts }
     requires lanes { length parts.queues ≡ 1 }
+    requires sized { B.max_size ≡ 1048576 }
     requires new { All (λ h. H.is_sound h × (H.handed h ≡ [])) hooks.items }
 {
     let (board, takes) = Board::<B>::new(alloc, parts, 1_048_576)?;
     let Some(mut seat) = board.seat(rt) else {
         return Err("a seat".into());
     };
-    assert_eq!(rt; makes(rt, alloc, &board, &mut seat, 1, 0), None);
+    let mut keeper = Seated::new(rt, &board, &mut seat);
+    let status = status_of(alloc, &mut keeper, creation(alloc, Some(0)), Id::new(1));
+    assert_eq!(rt; status, 201);
     for (take_end, hook) in takes.into_iter().zip(hooks) {
         step_each(rt, &board, Lane::new(0, take_end, hook));
     }
@@ -104,8 +105,8 @@ fn planned<B: Naming, R: Wait>(
     }
 }
 
-/// Holds that a closed board with the upload 1 answers, and changes nothing.
-fn changes_nothing<B: Naming, R: Wait + Abort>(
+/// Holds that a closed board with the upload 1 says that it is closed, and goes on to show the upload.
+fn says_that_it_is_closed<B: Naming, R: Wait + Abort>(
     rt: &R,
     alloc: Global,
     board: &Board<B>,
@@ -122,8 +123,18 @@ fn changes_nothing<B: Naming, R: Wait + Abort>(
     Ok(())
 }
 
+/// Holds that requests to make another upload and to bring the upload 1 to its end are refused by a closed board, and that it is shown.
+fn refuses<K: Keeper>(rt: &impl Abort, alloc: Global, keeper: &mut K) -> Result<(), Fail> {
+    let append = append(alloc, Id::new(1), 0, b"abc")?;
+    let made = status_of(alloc, keeper, creation(alloc, Some(3)), Id::new(2));
+    let appended = status_of(alloc, keeper, append, Id::new(0));
+    let shown = status_of(alloc, keeper, Request::Head(Id::new(1)), Id::new(0));
+    assert_eq!(rt; [made, appended, shown], [503, 503, 200]);
+    Ok(())
+}
+
 /// How many seats are left, if fewer than a board has.
-fn seats_left<B: Naming, R: Wait>(rt: &R, board: &Board<B>) -> u64 {
+pub fn seats_left<B: Naming, R: Wait>(rt: &R, board: &Board<B>) -> u64 {
     for count in 0..MOST_SEATS {
         if board.seat(rt).is_none() {
             return count;
@@ -134,8 +145,9 @@ fn seats_left<B: Naming, R: Wait>(rt: &R, board: &Board<B>) -> u64 {
 
 /// A board of two lanes that is closed over one upload, and all its seats.
 fn closed<B: Naming, R: Wait + Abort>(rt: &R, alloc: Global, parts: BoardParts) -> Result<(), Fail>
-    requires named { IsNamed B.name B.parts B.queue parts }
+    requires named { IsNamed B.name B.parts B.queue B.lanes parts }
     requires lanes { length parts.queues ≡ 2 }
+    requires sized { B.max_size ≡ 3 }
 {
     let (board, takes) = Board::<B>::new(alloc, parts, 3)?;
     assert_eq!(rt; takes.len(), 2);
@@ -144,8 +156,10 @@ fn closed<B: Naming, R: Wait + Abort>(rt: &R, alloc: Global, parts: BoardParts) 
     };
     assert_eq!(rt; makes(rt, alloc, &board, &mut seat, 1, 3), None);
     board.close(rt);
-    changes_nothing(rt, alloc, &board, &mut seat)?;
-    assert_eq!(rt; seats_left(rt, &board), MOST_SEATS - 1);
+    says_that_it_is_closed(rt, alloc, &board, &mut seat)?;
+    refuses(rt, alloc, &mut Seated::new(rt, &board, &mut seat))?;
+    assert_eq!(rt; seat.count(), 1);
+    assert_eq!(rt; seats_left(rt, &board), 65_535);
     Ok(())
 }
 
@@ -155,97 +169,36 @@ fn a_closed_board_answers_and_changes_nothing(rt: HostRuntime) -> Result<(), Fai
     closed::<Brand, _>(&rt, rt.alloc(), parts)
 }
 
-/// The status with which a request is answered where no closure is asked.
-fn status_of<K: Keeper>(alloc: Global, keeper: &mut K, request: Request, id: Id) -> u16
-    requires { FitsWithin MOST_BYTES request }
-{
-    answer(alloc, keeper, &PreHooks::new(Vec::new(alloc)), request, id).status
-}
+/// What a server can do whose uploads have one byte at most.
+const ABILITIES: &str =
+    "HTTP/1.1 204 No Content\r\nTus-Resumable: 1.0.0\r\nCache-Control: no-store\r\n\
+    Tus-Version: 1.0.0\r\nTus-Extension: creation,creation-defer-length,termination,concatenation\r\n\
+    Tus-Max-Size: 1\r\n\r\n";
 
-/// Five uploads of two bytes are made, and each gets a byte, and then each the other.
-pub fn fifteen<K: Keeper, R: Abort>(rt: &R, alloc: Global, keeper: &mut K) -> Result<(), Fail> {
-    for number in 1..6u8 {
-        let id = Id::new(u128::from(number));
-        let request = creation(alloc, Some(2));
-        assert_eq!(rt; status_of(alloc, keeper, request, id), 201);
-    }
-    for offset in 0..2u64 {
-        for number in 1..6u8 {
-            let request = append(alloc, Id::new(u128::from(number)), offset, b"a")?;
-            assert_eq!(rt; status_of(alloc, keeper, request, Id::new(0)), 204);
-        }
-    }
-    Ok(())
-}
-
-/// How many events the lane hands over until it ends, its queue refilled where it is empty.
-fn handed<B: Naming, H: PostHook + Drop, R: Wait>(
-    rt: &R,
-    board: &Board<B>,
-    number: u64,
-    mut lane: Lane<H>,
-) -> u64 {
-    let mut count: u64 = 0;
-    for _ in 0..100u64 {
-        match lane.step(rt) {
-            StepEnd::Handed => count = count.saturating_add(1),
-            StepEnd::Nothing => board.refill(rt, number),
-            StepEnd::Ended => return count,
-            StepEnd::NoMemory => return 0,
-        }
-    }
-    0
-}
-
-/// How many events each lane over these ends hands over until it ends.
-fn handed_by_each<B: Naming, H: PostHook + Drop, R: Wait>(
-    rt: &R,
-    alloc: Global,
-    board: &Board<B>,
-    takes: Vec<TakeEnd>,
-    hooks: Vec<H>,
-) -> Result<Vec<u64>, AllocError>
-    requires ends { EachAt (λ k e. (e.taken ≡ []) × (e.queue ≡ B.queue k)) takes.items }
-    requires new { All (λ h. H.is_sound h × (H.handed h ≡ [])) hooks.items }
-{
-    let mut counts = Vec::new(alloc);
-    for (take_end, hook) in takes.into_iter().zip(hooks) {
-        let number = counts.len() as u64;
-        counts.push(handed(rt, board, number, Lane::new(number, take_end, hook)))?;
-    }
-    Ok(counts)
-}
-
-/// All are answered before any lane takes an event from its queue of one place, and every event is handed over afterwards.
-fn crowded<B: Naming, H: PostHook + Drop, R: Wait + Abort>(
+/// A board of two lanes whose uploads have one byte at most.
+fn smallest<B: Naming, R: Wait + Abort>(
     rt: &R,
     alloc: Global,
     parts: BoardParts,
-    hooks: Vec<H>,
 ) -> Result<(), Fail>
-    requires named { IsNamed B.name B.parts B.queue parts }
+    requires named { IsNamed B.name B.parts B.queue B.lanes parts }
     requires lanes { length parts.queues ≡ 2 }
-    requires new { All (λ h. H.is_sound h × (H.handed h ≡ [])) hooks.items }
+    requires sized { B.max_size ≡ 1 }
 {
-    let (board, takes) = Board::<B>::new(alloc, parts, 1_048_576)?;
+    let (board, takes) = Board::<B>::new(alloc, parts, 1)?;
     let Some(mut seat) = board.seat(rt) else {
         return Err("a seat".into());
     };
-    fifteen(rt, alloc, &mut Seated::new(rt, &board, &mut seat))?;
-    board.close(rt);
-    board.close(rt);
-    let counts = handed_by_each(rt, alloc, &board, takes, hooks)?;
-    assert_eq!(rt; counts.as_slice(), [8, 12].as_slice());
-    assert_eq!(rt; seat.count(), 15);
+    let mut keeper = Seated::new(rt, &board, &mut seat);
+    let hooks = PreHooks::new(Vec::new(alloc));
+    let asked = b"OPTIONS * HTTP/1.1\r\n\r\n";
+    let (_, written) = talk(alloc, &mut keeper, &hooks, &mut Counting::new(), asked);
+    assert_eq!(rt; (takes.len(), str::from_utf8(&written)?), (2, ABILITIES));
     Ok(())
 }
 
 #[test]
-fn answers_before_any_lane_takes(rt: HostRuntime) -> Result<(), Fail> {
+fn a_board_of_the_smallest_uploads(rt: HostRuntime) -> Result<(), Fail> {
     let parts = BoardParts::new(rt.alloc(), 2, 1)?;
-    let done = |_: &Event| Outcome::Done;
-    let mut hooks = Vec::new(rt.alloc());
-    hooks.push(Recorder::new(rt.alloc(), done))?;
-    hooks.push(Recorder::new(rt.alloc(), done))?;
-    crowded::<Brand, _, _>(&rt, rt.alloc(), parts, hooks)
+    smallest::<Brand, _>(&rt, rt.alloc(), parts)
 }

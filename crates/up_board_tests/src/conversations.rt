@@ -34,16 +34,16 @@ const CREATIONS: &str =
     POST /files/ HTTP/1.1\r\nHost: a\r\nTus-Resumable: 1.0.0\r\nUpload-Length: 1\r\n\r\n";
 
 /// How a conversation ends, and what it writes.
-fn talk<K: Keeper, I: Ids>(
+pub fn talk<K: Keeper, I: Ids>(
     alloc: Global,
     keeper: &mut K,
+    hooks: &PreHooks,
     ids: &mut I,
-    asked: &str,
+    asked: &[u8],
 ) -> (Ended, Vec<u8>) {
-    let hooks = PreHooks::new(Vec::new(alloc));
-    let mut source = Input::new(asked.as_bytes());
+    let mut source = Input::new(asked);
     let mut sink = Output::new(Vec::new(alloc));
-    let ended = converse(alloc, keeper, &hooks, ids, MAX_SIZE, &mut source, &mut sink);
+    let ended = converse(alloc, keeper, hooks, ids, MAX_SIZE, &mut source, &mut sink);
     (ended, sink.into_inner())
 }
 
@@ -56,7 +56,8 @@ fn hold<K: Keeper, I: Ids, R: Abort>(
     asked: &str,
     wanted: (Ended, &str),
 ) -> Result<(), Fail> {
-    let (ended, written) = talk(alloc, keeper, ids, asked);
+    let hooks = PreHooks::new(Vec::new(alloc));
+    let (ended, written) = talk(alloc, keeper, &hooks, ids, asked.as_bytes());
     assert_eq!(rt; (ended, str::from_utf8(&written)?), wanted);
     Ok(())
 }
@@ -126,8 +127,9 @@ fn two_seats<B: Naming, R: Wait + Abort>(
     alloc: Global,
     parts: BoardParts,
 ) -> Result<(), Fail>
-    requires named { IsNamed B.name B.parts B.queue parts }
+    requires named { IsNamed B.name B.parts B.queue B.lanes parts }
     requires lanes { length parts.queues ≡ 2 }
+    requires sized { B.max_size ≡ 1048576 }
 {
     let (board, _takes) = Board::<B>::new(alloc, parts, MAX_SIZE)?;
     talk_from_two_seats(rt, alloc, &board)

@@ -8,6 +8,8 @@ mod beside;
 mod board;
 #[cfg(test)]
 mod conversations;
+#[cfg(test)]
+mod fifteen;
 mod gate;
 #[cfg(test)]
 mod gates;
@@ -20,6 +22,10 @@ mod requests;
 mod streams;
 #[cfg(test)]
 mod together;
+#[cfg(test)]
+mod twins;
+#[cfg(test)]
+mod unfinished;
 
 pub use gate::{Gate, HEAD, POST, is_set_in_time};
 pub use requests::{append, creation};

@@ -3,6 +3,7 @@
 ghost use Rattle.std.specs.Prelude.{◌≤◌};
 
 use std::alloc::{AllocError, Global};
+use std::io::{self, BufReader, Read};
 use std::process::Abort;
 use std::test::Fail;
 use up_dispatch::{Counting, Ended, converse_by_book};
@@ -63,6 +64,37 @@ const ABILITIES: &str =
 const HEAD_TOO_LARGE: &str =
     "HTTP/1.1 431 Request Header Fields Too Large\r\nTus-Resumable: 1.0.0\r\nCache-Control: no-store\r\n\
     Content-Type: text/plain\r\nContent-Length: 15\r\nConnection: close\r\n\r\n2 HeadTooLarge\n";
+
+const BAD_FRAMING: &str =
+    "HTTP/1.1 400 Bad Request\r\nTus-Resumable: 1.0.0\r\nCache-Control: no-store\r\n\
+    Content-Type: text/plain\r\nContent-Length: 13\r\nConnection: close\r\n\r\n3 BadFraming\n";
+
+const UNKNOWN_CODING: &str =
+    "HTTP/1.1 501 Not Implemented\r\nTus-Resumable: 1.0.0\r\nCache-Control: no-store\r\n\
+    Content-Type: text/plain\r\nContent-Length: 16\r\nConnection: close\r\n\r\n4 UnknownCoding\n";
+
+const BODY_TOO_LARGE: &str =
+    "HTTP/1.1 413 Payload Too Large\r\nTus-Resumable: 1.0.0\r\nCache-Control: no-store\r\n\
+    Content-Type: text/plain\r\nContent-Length: 15\r\nConnection: close\r\n\r\n5 BodyTooLarge\n";
+
+/// How a message is framed, and what comes of that.
+const FRAMINGS: [(&str, &str); 6] = [
+    ("Content-Length: +5\r\n\r\nabcde", BAD_FRAMING),
+    ("Content-Length: 5, 5\r\n\r\nabcde", BAD_FRAMING),
+    (
+        "Content-Length: 5\r\nContent-Length: 5\r\n\r\nabcde",
+        BAD_FRAMING,
+    ),
+    (
+        "Transfer-Encoding: gzip, chunked\r\n\r\n0\r\n\r\n",
+        UNKNOWN_CODING,
+    ),
+    (
+        "Transfer-Encoding: chunked\r\n\r\nFFFFFFFF\r\n",
+        BODY_TOO_LARGE,
+    ),
+    ("Transfer-Encoding: chunked\r\n\r\nzz\r\n", BAD_FRAMING),
+];
 
 /// Room for two replies.
 const ROOM: usize = 1024;
@@ -184,6 +216,23 @@ fn counts_the_interruptions_of_each_call(rt: HostRuntime) -> Result<(), Fail> {
     Ok(())
 }
 
+/// A reader that gives one byte at each call.
+#[derive(Drop)]
+struct Dripping<'a> {
+    bytes: &'a [u8],
+}
+
+impl<'a> Read for Dripping<'a> {
+    fn read(&mut self, buf: &mut [u8]) -> io::Result<usize> {
+        let ([first, rest @ ..], Some(place)) = (self.bytes, buf.first_mut()) else {
+            return Ok(0);
+        };
+        *place = *first;
+        self.bytes = rest;
+        Ok(1)
+    }
+}
+
 #[test]
 fn takes_one_byte_at_a_time_as_all_at_once(rt: HostRuntime) -> Result<(), Fail> {
     for input in [INPUT, IN_CHUNKS] {
@@ -192,6 +241,9 @@ fn takes_one_byte_at_a_time_as_all_at_once(rt: HostRuntime) -> Result<(), Fail> 
         hold(&rt, rt.alloc(), &mut bytes, 0, wanted, 1)?;
         let mut whole = Input::new(input.as_bytes());
         hold(&rt, rt.alloc(), &mut whole, 0, wanted, 2)?;
+        let bytes = input.as_bytes();
+        let mut drops = Input::new(BufReader::new(rt.alloc(), Dripping { bytes })?);
+        hold(&rt, rt.alloc(), &mut drops, 0, wanted, 3)?;
     }
     Ok(())
 }
@@ -229,6 +281,26 @@ fn takes_a_head_of_16384_bytes_and_no_longer_one(rt: HostRuntime) -> Result<(), 
     let abilities = format!(in rt.alloc(); "{ABILITIES}\r\n")?;
     hold_head(&rt, rt.alloc(), 16_384, abilities.as_str())?;
     hold_head(&rt, rt.alloc(), 16_385, HEAD_TOO_LARGE)
+}
+
+/// Serves an append of five bytes that is framed so, and compares the reply.
+fn hold_framing(rt: &impl Abort, alloc: Global, framing: &str, reply: &str) -> Result<(), Fail> {
+    let start = "PATCH /files/00000000000000000000000000000001 HTTP/1.1\r\nHost: a\r\n\
+        Tus-Resumable: 1.0.0\r\n";
+    let message = format!(in alloc; "{start}{framing}")?;
+    let mut source = Tape::new(message.as_bytes(), 0, false);
+    let wanted = ([reply, ""], (Ended::Closed, 0, None));
+    hold(rt, alloc, &mut source, 0, wanted, message.len() as u64)
+}
+
+#[test]
+fn closes_at_a_message_that_is_framed_wrongly(rt: HostRuntime) -> Result<(), Fail> {
+    for (framing, reply) in FRAMINGS {
+        hold_framing(&rt, rt.alloc(), framing, reply)?;
+    }
+    let chunked = "Transfer-Encoding: chunked\r\n\r\n5;";
+    let long = repeated(rt.alloc(), chunked, "x", 253, "\r\n")?;
+    hold_framing(&rt, rt.alloc(), long.as_str(), BAD_FRAMING)
 }
 
 /// 10,001 requests, and the replies to all but the last.

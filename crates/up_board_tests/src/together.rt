@@ -2,7 +2,7 @@
 ghost use Rattle.std.specs.Prelude.{◌≡◌, [], length};
 ghost use Rattle.up_dispatch.specs.Parts.{IsNamed};
 
-use crate::beside::{open_board, run_beside};
+use crate::beside::{finished, open_board, run_beside};
 use crate::requests;
 use std::alloc::Global;
 use std::marker::{Brand, Send, Sync};
@@ -11,10 +11,10 @@ use std::sync::Wait;
 use std::test::Fail;
 use std::thread;
 use std::thread::Threads;
-use up_dispatch::{Board, BoardParts, FinishFault, Naming, Report, Seat, Unfinished};
+use up_dispatch::{Board, BoardParts, Naming, Report, Seat};
 use up_events::{Event, Hook, Id};
 use up_hooks::{Outcome, PostHook, Recorder};
-use up_lanes::{How, LaneEnd};
+use up_lanes::How;
 use up_machine::Asked;
 
 /// How many uploads there are.
@@ -118,61 +118,32 @@ fn seats_of<B: Naming, R: Wait>(
     Ok((maker, seats))
 }
 
-/// A board of two lanes whose uploads are changed from two seats at once; it is finished once all seats and lanes are back.
-fn brought_back<B: Naming + Send + Sync, H: PostHook + Drop, R: Threads + Wait + Abort + Sync>(
+/// The report of a board of two lanes whose uploads are changed from two seats at once.
+fn changed_at_once<B: Naming + Send + Sync, H: PostHook + Drop, R: Threads + Wait + Abort + Sync>(
     rt: &R,
     alloc: Global,
     parts: BoardParts,
     hooks: (H, H),
 ) -> Result<Report<H>, Fail>
-    requires named { IsNamed B.name B.parts B.queue parts }
+    requires named { IsNamed B.name B.parts B.queue B.lanes parts }
     requires lanes { length parts.queues ≡ 2 }
+    requires sized { B.max_size ≡ 1048576 }
     requires first { H.is_sound hooks.0 × (H.handed hooks.0 ≡ []) }
     requires second { H.is_sound hooks.1 × (H.handed hooks.1 ≡ []) }
 {
     let (board, lanes) = open_board::<B, _>(alloc, parts, hooks)?;
     let (maker, others) = seats_of(rt, alloc, &board)?;
     let shared = &board;
-    let (seats, lanes) = run_beside(
+    let (seats, ends) = run_beside(
         rt,
+        shared,
         shared,
         lanes,
         || thread::map_vec(rt, others, &|seat| change(rt, alloc, shared, seat)),
     );
-    let (seats, lanes) = (seats?, lanes?);
-    let Err(
-        Unfinished {
-            fault,
-            board,
-            mut seats,
-            lanes,
-        },
-    ) = board.finish(alloc, seats, lanes)
-    else {
-        return Err("a seat is out".into());
-    };
-    assert_eq!(rt;
-        (fault, seats.len(), lanes.len()),
-        (FinishFault::SeatsOut, 2, 2)
-    );
+    let (mut seats, ends) = (seats?, ends?);
     seats.push(maker)?;
-    let none: Vec<LaneEnd<H>> = Vec::new(alloc);
-    let Err(
-        Unfinished {
-            fault,
-            board,
-            seats,
-            ..
-        },
-    ) = board.finish(alloc, seats, none)
-    else {
-        return Err("the lanes are out".into());
-    };
-    assert_eq!(rt; (fault, seats.len()), (FinishFault::LanesOut, 3));
-    match board.finish(alloc, seats, lanes) {
-        Ok(report) => Ok(report),
-        Err(_) => Err("all are back".into()),
-    }
+    finished(alloc, board, seats, ends)
 }
 
 #[test]
@@ -183,6 +154,6 @@ fn two_seats_at_once(rt: HostRuntime) -> Result<(), Fail> {
         Recorder::new(rt.alloc(), done),
         Recorder::new(rt.alloc(), done),
     );
-    let report = brought_back::<Brand, _, _>(&rt, rt.alloc(), parts, hooks)?;
+    let report = changed_at_once::<Brand, _, _>(&rt, rt.alloc(), parts, hooks)?;
     tells_all(&rt, &report)
 }

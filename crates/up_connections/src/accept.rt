@@ -1,6 +1,4 @@
 //! Many connections at a time, each in a thread that serves it alone.
-ghost use Rattle.std.specs.Prelude.{◌≤◌};
-
 use crate::door::Door;
 use crate::hall::Hall;
 use crate::pool::Pool;
@@ -13,7 +11,6 @@ use std::sync::{Mutex, Wait};
 use std::thread::{Builder, Scope, Threads};
 use std::{io, thread};
 use up_dispatch::{Board, Ids, Naming, Seat};
-use up_events::MOST_BYTES;
 use up_hooks::PreHooks;
 
 /// How many bytes the stack of a connection's thread has.
@@ -131,19 +128,15 @@ pub fn serve_connections<B: Naming + Send + Sync, I: Ids + Send + Drop, T: Threa
     board: &Board<B>,
     hooks: &PreHooks,
     ids: I,
-    max_size: u64,
     listener: &TcpListener,
     visits: &Visits,
-) -> Result<Vec<Seat<B>>, AllocError>
-    requires small { max_size ≤ MOST_BYTES }
-{
+) -> Result<Vec<Seat<B>>, AllocError> {
     let hall = Hall {
         board,
         door: Door::new(),
         pool: Pool::new(alloc)?,
         ids: Mutex::new(ids),
         seats: Seats::new(alloc, visits.open)?,
-        max_size,
     };
     serve_in(rt, alloc, &hall, hooks, listener, visits);
     Ok(hall.seats.into_inner())

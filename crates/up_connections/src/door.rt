@@ -19,7 +19,8 @@ impl Door {
         }
     }
 
-    /// Waits until fewer than `most` are open, and opens one. Tells how many are open then.
+    /// Waits until fewer than `most` are open, and opens one. Tells how many are open then. That it is from 1 to `most` is proved; that it
+    /// is the number of those that are open is tested.
     pub fn enter<R: Wait>(&self, rt: &R, most: u64) -> u64
         ensures { (1 ≤ result) × (result ≤ most) }
     {

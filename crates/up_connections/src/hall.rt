@@ -1,7 +1,4 @@
 //! What connections share.
-ghost use Rattle.std.specs.Prelude.{◌≤◌};
-ghost use Rattle.up_events.specs.declared.limits.TheConstants.{MOST_BYTES};
-
 use crate::door::Door;
 use crate::pool::Pool;
 use crate::seats::Seats;
@@ -16,6 +13,4 @@ pub struct Hall<'a, B: Naming, I> {
     pub pool: Pool,
     pub ids: Mutex<I>,
     pub seats: Seats<B>,
-    pub max_size: u64,
-    pub ghost small: { max_size ≤ MOST_BYTES },
 }

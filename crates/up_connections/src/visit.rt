@@ -1,5 +1,4 @@
 //! One connection.
-ghost use Rattle.std.specs.Prelude.{◌≤◌};
 ghost use Rattle.up_hooks.specs.Gives.{ClosuresGive};
 ghost use Rattle.up_dispatch.specs.Answering.{Serves, course};
 ghost use Rattle.up_dispatch.specs.Keepers.{by_seat};
@@ -32,7 +31,7 @@ const LINGERING: u64 = 2;
 /// How many times bytes are read and dropped of a connection that is being closed.
 const MOST_DROPPED: usize = MOST_BYTES as usize / DROPPED;
 
-/// Serves one conversation from a seat of the board, with ids of this source.
+/// Serves one conversation from a seat of the board, with ids of this source. No body may be larger than an upload of the board.
 pub fn converse_at<B: Naming, I: Ids, R: Source, W: Sink, T: Wait>(
     rt: &T,
     alloc: Global,
@@ -40,15 +39,15 @@ pub fn converse_at<B: Naming, I: Ids, R: Source, W: Sink, T: Wait>(
     seat: &mut Seat<B>,
     hooks: &PreHooks,
     ids: &mut I,
-    max_size: u64,
     source: &mut R,
     sink: &mut W,
 ) -> Ended
-    requires small { max_size ≤ MOST_BYTES }
-    ensures served { Converses (Serves (by_seat B.queue (ClosuresGive hooks.now)) I.draws) max_size
+    ensures served { Converses
+        (Serves (by_seat B.queue B.lanes B.max_size (ClosuresGive hooks.now)) I.draws) B.max_size
         (stand (course seat.old ids.old) (R.device source.old) (W.device sink.old))
         (stand (course seat.new ids.new) (R.device source.new) (W.device sink.new)) result }
 {
+    let max_size = board.max_size();
     let mut seated = Seated::new(rt, board, seat);
     converse(alloc, &mut seated, hooks, ids, max_size, source, sink)
 }
@@ -74,7 +73,6 @@ fn talk<B: Naming, I: Ids, T: Wait>(
         seat,
         hooks,
         &mut ids,
-        hall.max_size,
         &mut source,
         &mut sink,
     ))

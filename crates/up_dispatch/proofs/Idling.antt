@@ -35,22 +35,22 @@ put_whole queue log feed fed is =
     sym (length-take-le feed.cursor log fed.within) ∙ sym (count_of_items (take feed.cursor log)) ∙ ap length (sym (put_events queue log feed fed) ∙ is) ∙ count_of_items log
 
 -- what keeps a lane idle, by the feed and the log
-pub idle_if : (queue : ℕ → QueueId) (book : State) (feeds : List Feed) (given total parts amount : ℕ) (lane taken : ℕ) (feed : Feed) → IsLawfulBoard queue book feeds given total parts amount
+pub idle_if : (queue : ℕ → QueueId) (count limit : ℕ) (book : State) (feeds : List Feed) (given total parts amount : ℕ) (lane taken : ℕ) (feed : Feed) → IsLawfulBoard queue count limit book feeds given total parts amount
     → lane < length feeds → feed ≡ get_or feeds lane feed → book.closed ≡ false → feed.cursor ≡ length (lane_log book.journal lane) → taken ≡ length (lane_log book.journal lane)
     → IsIdle (standing book feeds given total) lane taken
-idle_if queue book feeds given total parts amount lane taken feed lawful within is going all count =
+idle_if queue count limit book feeds given total parts amount lane taken feed lawful within is going all as_many =
     let fed : IsFed (queue lane) (lane_log book.journal lane) false feed =
     subst (λ b. IsFed (queue lane) (lane_log book.journal lane) b feed) going (subst (IsFed (queue lane) (lane_log book.journal lane) book.closed) (sym is) (lawful.fed lane feed within)) in
     record {
       there = omega (arith, within, lawful.lanes);
       going = going;
       put_all = ap (λ e. e.put) (end_is feeds lane feed within is) ∙ all_put (queue lane) (lane_log book.journal lane) feed fed all;
-      taken_all = count;
+      taken_all = as_many;
     }
 
-pub cursor_if : (queue : ℕ → QueueId) (book : State) (feeds : List Feed) (given total parts amount : ℕ) (lane taken : ℕ) (feed : Feed) → IsLawfulBoard queue book feeds given total parts amount
+pub cursor_if : (queue : ℕ → QueueId) (count limit : ℕ) (book : State) (feeds : List Feed) (given total parts amount : ℕ) (lane taken : ℕ) (feed : Feed) → IsLawfulBoard queue count limit book feeds given total parts amount
     → lane < length feeds → feed ≡ get_or feeds lane feed → IsIdle (standing book feeds given total) lane taken → feed.cursor ≡ length (lane_log book.journal lane)
-cursor_if queue book feeds given total parts amount lane taken feed lawful within is idle =
+cursor_if queue count limit book feeds given total parts amount lane taken feed lawful within is idle =
     let fed : IsFed (queue lane) (lane_log book.journal lane) false feed =
     subst (λ b. IsFed (queue lane) (lane_log book.journal lane) b feed) idle.going (subst (IsFed (queue lane) (lane_log book.journal lane) book.closed) (sym is) (lawful.fed lane feed within)) in
     put_whole (queue lane) (lane_log book.journal lane) feed fed (ap (λ e. e.put) (sym (end_is feeds lane feed within is)) ∙ idle.put_all)

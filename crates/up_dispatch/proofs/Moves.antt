@@ -59,13 +59,15 @@ fills_extends old new lane fills k =
 abbrev with_change : State → Accepted → State
 with_change s c = record s { journal = noted s.journal c }
 
-pub lawful_change : (queue : ℕ → QueueId) (s t : State) (c : Accepted) (feeds : List Feed) (given total parts amount : ℕ) → IsLawfulBoard queue s feeds given total parts amount → s.closed ≡ false
-    → IsSoundBook t → t.journal ≡ noted s.journal c → t.closed ≡ s.closed
-    → IsLawfulBoard queue t feeds given (total + 1) parts amount
-lawful_change queue s t c feeds given total parts amount lawful going sound noted_is same =
+pub lawful_change : (queue : ℕ → QueueId) (count limit : ℕ) (s t : State) (c : Accepted) (feeds : List Feed) (given total parts amount : ℕ) → IsLawfulBoard queue count limit s feeds given total parts amount → s.closed ≡ false
+    → IsSoundBook t → t.journal ≡ noted s.journal c → t.closed ≡ s.closed → t.max_size ≡ s.max_size
+    → IsLawfulBoard queue count limit t feeds given (total + 1) parts amount
+lawful_change queue count limit s t c feeds given total parts amount lawful going sound noted_is same size =
     let lanes : t.journal.lanes ≡ s.journal.lanes = ap (λ j. j.lanes) noted_is in
     record {
       sound = sound;
+      named = lanes ∙ lawful.named;
+      sized = size ∙ lawful.sized;
       some = subst (λ n. 0 < n) (sym lanes) lawful.some;
       lanes = lawful.lanes ∙ sym lanes;
       fed = EachAt-weaker (λ k (f : Feed). IsFed (queue k) (lane_log s.journal k) s.closed f) (λ k (f : Feed). IsFed (queue k) (lane_log t.journal k) t.closed f) feeds lawful.fed
@@ -83,13 +85,13 @@ lawful_change queue s t c feeds given total parts amount lawful going sound note
     }
 
 -- a book with what a request changed, or as it was
-pub lawful_after : (queue : ℕ → QueueId) (s t : State) (request : Request) (id : ℕ) (change : Option Accepted) (feeds : List Feed) (given total parts amount : ℕ) → IsLawfulBoard queue s feeds given total parts amount
+pub lawful_after : (queue : ℕ → QueueId) (count limit : ℕ) (s t : State) (request : Request) (id : ℕ) (change : Option Accepted) (feeds : List Feed) (given total parts amount : ℕ) → IsLawfulBoard queue count limit s feeds given total parts amount
     → (change ≢ None → s.closed ≡ false) → IsSoundBook t → t ≡ after s request id change
-    → IsLawfulBoard queue t feeds given (total + changed change) parts amount
-lawful_after queue s t request id None feeds given total parts amount lawful open_if sound is =
-    subst (λ n. IsLawfulBoard queue t feeds given n parts amount) (omega arith) (subst (λ (u : State). IsLawfulBoard queue u feeds given total parts amount) (sym is) lawful)
-lawful_after queue s t request id (Some c) feeds given total parts amount lawful open_if sound is =
-    lawful_change queue s t c feeds given total parts amount lawful (open_if (λ e. cc)) sound (ap (λ (u : State). u.journal) is) (ap (λ (u : State). u.closed) is)
+    → IsLawfulBoard queue count limit t feeds given (total + changed change) parts amount
+lawful_after queue count limit s t request id None feeds given total parts amount lawful open_if sound is =
+    subst (λ n. IsLawfulBoard queue count limit t feeds given n parts amount) (omega arith) (subst (λ (u : State). IsLawfulBoard queue count limit u feeds given total parts amount) (sym is) lawful)
+lawful_after queue count limit s t request id (Some c) feeds given total parts amount lawful open_if sound is =
+    lawful_change queue count limit s t c feeds given total parts amount lawful (open_if (λ e. cc)) sound (ap (λ (u : State). u.journal) is) (ap (λ (u : State). u.closed) is) (ap (λ (u : State). u.max_size) is)
 
 -- one lane more is filled
 pub filled_more : (s t : State) → t ≡ s → (old new : List PutSide) (lane : ℕ) → ((k : ℕ) → k < lane → IsFilled s k (end_at old k)) → FillsOnly old new lane → IsFilled s lane (end_at new lane)

@@ -29,9 +29,11 @@ module _ {X Y : Type 0} (f : X → Y) (P : ℕ → X → Type 0) (Q : ℕ → Y 
 pub recalled_sound : (book : State) → IsSoundBook book → IsSoundBook (recalled book)
 recalled_sound book sound = record { legal = sound.legal; fits = sound.fits; small = sound.small }
 
-pub standing_lawful : (queue : ℕ → QueueId) (book : State) (feeds : List Feed) (given total parts amount : ℕ) → IsLawfulBoard queue book feeds given total parts amount → IsLawfulStanding queue (standing book feeds given total)
-standing_lawful queue book feeds given total parts amount lawful = record {
+pub standing_lawful : (queue : ℕ → QueueId) (count limit : ℕ) (book : State) (feeds : List Feed) (given total parts amount : ℕ) → IsLawfulBoard queue count limit book feeds given total parts amount → IsLawfulStanding queue count limit (standing book feeds given total)
+standing_lawful queue count limit book feeds given total parts amount lawful = record {
   sound = recalled_sound book lawful.sound;
+  named = lawful.named;
+  sized = lawful.sized;
   lanes = length-map feeds (λ (f : Feed). f.put_end) ∙ lawful.lanes;
   queues = EachAt-map (λ (f : Feed). f.put_end) (λ k (f : Feed). IsFed (queue k) (lane_log book.journal k) book.closed f) (λ k (e : PutSide). e.queue ≡ queue k) feeds lawful.fed (λ k f fed. fed.queue_is);
   puts = EachAt-map (λ (f : Feed). f.put_end) (λ k (f : Feed). IsFed (queue k) (lane_log book.journal k) book.closed f) (λ k (e : PutSide). IsPutOf book k e) feeds lawful.fed (λ k f fed. (f.cursor, f.ended, fed.put_is, fed.within, fed.whole));

@@ -27,16 +27,17 @@ BookCommits s request id asked t result = Answers result (decide s request id as
 abbrev pub by_book : Gives → Keeping State
 by_book gives = keeping BookPlans BookCommits gives
 
--- the plans of some lawful board that has all changes made from the seat
-abbrev pub SeatPlans : (ℕ → QueueId) → Planning ℕ
-SeatPlans queue count request result =
-    (s : Standing) × IsLawfulStanding queue s × (count ≤ length s.book.journal.accepted) × Answers result (decide_plan s.book request)
+-- the plans of some lawful board, of so many lanes and for uploads of so many bytes, that has all changes made from the seat
+abbrev pub SeatPlans : (ℕ → QueueId) → ℕ → ℕ → Planning ℕ
+SeatPlans queue lanes max_size count request result =
+    (s : Standing) × IsLawfulStanding queue lanes max_size s × (count ≤ length s.book.journal.accepted)
+    × Answers result (decide_plan s.book request)
 
 -- the commits of such a board
-abbrev pub SeatCommits : (ℕ → QueueId) → Committing ℕ
-SeatCommits queue count request id asked after_it result =
-    (old : Standing) × (new : Standing) × CommitsTo queue old new count after_it request id asked result
+abbrev pub SeatCommits : (ℕ → QueueId) → ℕ → ℕ → Committing ℕ
+SeatCommits queue lanes max_size count request id asked after_it result =
+    (old : Standing) × (new : Standing) × CommitsTo queue lanes max_size old new count after_it request id asked result
 
 -- a seat keeps by the decisions of such a board
-abbrev pub by_seat : (ℕ → QueueId) → Gives → Keeping ℕ
-by_seat queue gives = keeping (SeatPlans queue) (SeatCommits queue) gives
+abbrev pub by_seat : (ℕ → QueueId) → ℕ → ℕ → Gives → Keeping ℕ
+by_seat queue lanes max_size gives = keeping (SeatPlans queue lanes max_size) (SeatCommits queue lanes max_size) gives

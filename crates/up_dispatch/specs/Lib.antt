@@ -6,6 +6,7 @@ pub mod Fed
 pub mod Idle
 pub mod Keepers
 pub mod Keeps
+pub mod Limits
 pub mod Lists
 pub mod Parts
 pub mod Puts

@@ -24,11 +24,14 @@ ends_of feeds = map (λ (f : Feed). f.put_end) feeds
 abbrev pub standing : State → List Feed → ℕ → ℕ → Standing
 standing book feeds given total = record { book = recalled book; ends = ends_of feeds; given = given; total = total }
 
--- the book is sound, and there is some lane; each lane's queue was put a beginning of its log, in which are all events that
--- the log has forgotten; the ledger counts the changes; the seats that
--- are left are kept here, and count nothing
-pub record IsLawfulBoard (queue : ℕ → QueueId) (book : State) (feeds : List Feed) (given total parts amount : ℕ) : Type 0 where
+-- the book is sound, has so many lanes, one at least, and takes uploads of so many bytes; each lane's queue was put a beginning
+-- of its log, in which are all events that the log has forgotten; the ledger counts the changes; the seats that are left are
+-- kept here, and count nothing
+pub record IsLawfulBoard (queue : ℕ → QueueId) (count limit : ℕ) (book : State) (feeds : List Feed)
+    (given total parts amount : ℕ) : Type 0 where
   pub sound : IsSoundBook book
+  pub named : book.journal.lanes ≡ count
+  pub sized : book.max_size ≡ limit
   pub some : 0 < book.journal.lanes
   pub lanes : length feeds ≡ book.journal.lanes
   pub fed : EachAt (λ k (f : Feed). IsFed (queue k) (lane_log book.journal k) book.closed f) feeds
@@ -45,8 +48,10 @@ IsPutOf book lane end =
     (cursor : ℕ) × (ended : Bool) × (end.put ≡ items_if (take cursor log) ended) × (cursor ≤ length log) × (ended ≡ true → (book.closed ≡ true) × (cursor ≡ length log))
 
 -- the same, as callers see it
-pub record IsLawfulStanding (queue : ℕ → QueueId) (s : Standing) : Type 0 where
+pub record IsLawfulStanding (queue : ℕ → QueueId) (count limit : ℕ) (s : Standing) : Type 0 where
   pub sound : IsSoundBook s.book
+  pub named : s.book.journal.lanes ≡ count
+  pub sized : s.book.max_size ≡ limit
   pub lanes : length s.ends ≡ s.book.journal.lanes
   pub queues : EachAt (λ k (e : PutSide). e.queue ≡ queue k) s.ends
   pub puts : EachAt (λ k (e : PutSide). IsPutOf s.book k e) s.ends

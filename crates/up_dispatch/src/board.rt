@@ -1,5 +1,6 @@
 //! The board that threads share.
-ghost use Rattle.std.specs.Prelude.{◌≡◌, ◌≤◌, ◌<◌, ◌^◌, [], length, IfOk, IfSome};
+ghost use Rattle.std.specs.Prelude.{◌≡◌, ◌≤◌, ◌<◌, ◌^◌, [], length, vec_len, IfOk, IfSome};
+ghost use Rattle.up_events.specs.Limits.{most_bytes};
 ghost use Rattle.up_headers.specs.Table.{FitsWithin};
 ghost use Rattle.up_dispatch.specs.Lists.{EachAt};
 ghost use Rattle.up_dispatch.specs.Parts.{IsNamed, capacities_of};
@@ -14,7 +15,7 @@ use std::sync::{Condvar, Mutex, Wait};
 use up_events::{Id, MOST_BYTES, MOST_LANES, NoMemory};
 use up_headers::Request;
 use up_lanes::Refill;
-use up_machine::{Asked, Done, Plan, Refusal, Remains};
+use up_machine::{Asked, Done, Plan, Refusal};
 use up_queue::TakeEnd;
 
 /// A book that threads share. What lies under its lock is a lawful board whenever the lock is free.
@@ -23,10 +24,16 @@ pub struct Board<B: Naming> {
     pub(crate) inside: Mutex<Inside<B>>,
     /// One for each lane. It wakes the lane where there may be something for it.
     pub(crate) bells: Vec<Condvar>,
+    pub(crate) max_size: u64,
+    ghost one_for_each: { vec_len bells ≡ B.lanes },
+    ghost small: { max_size ≤ most_bytes },
+    ghost sized: { max_size ≡ B.max_size },
 }
 
 /// So many bells.
-fn new_bells(alloc: Global, count: usize) -> Result<Vec<Condvar>, NoMemory> {
+fn new_bells(alloc: Global, count: usize) -> Result<Vec<Condvar>, NoMemory>
+    ensures count { IfOk result (λ bells. vec_len bells ≡ count) }
+{
     let mut bells = Vec::with_capacity(alloc, count)?;
     for _lane in 0..count {
         bells.push(Condvar::new())?;
@@ -42,15 +49,17 @@ impl<B: Naming> Board<B> {
         parts: BoardParts,
         max_size: u64,
     ) -> Result<(Board<B>, Vec<TakeEnd>), NoMemory>
-        requires named { IsNamed B.name B.parts B.queue parts }
+        requires named { IsNamed B.name B.parts B.queue B.lanes parts }
         requires some_lane { 0 < length parts.queues }
         requires few_lanes { length parts.queues ≤ MOST_LANES }
         requires small { max_size ≤ MOST_BYTES }
-        ensures ends { IfOk result (λ r. (length r.1.items ≡ length parts.queues) × EachAt (λ k e. (e.taken ≡ []) × (e.queue ≡ B.queue k)) r.1.items) }
+        requires sized { max_size ≡ B.max_size }
+        ensures ends { IfOk result (λ r. (length r.1.items ≡ length parts.queues)
+            × EachAt (λ k e. (e.taken ≡ []) × (e.queue ≡ B.queue k)) r.1.items) }
         ensures capacities { IfOk result (λ r. capacities_of r.1.items ≡ parts.capacities) }
     {
         let (inside, takes) = Inside::new(alloc, parts, max_size)?;
-        Ok((Board::over(alloc, inside, takes.len())?, takes))
+        Ok((Board::over(alloc, inside, takes.len(), max_size)?, takes))
     }
 
     /// The same, for a board that may run without an end: it counts the changes and doesn't keep them.
@@ -59,22 +68,44 @@ impl<B: Naming> Board<B> {
         parts: BoardParts,
         max_size: u64,
     ) -> Result<(Board<B>, Vec<TakeEnd>), NoMemory>
-        requires named { IsNamed B.name B.parts B.queue parts }
+        requires named { IsNamed B.name B.parts B.queue B.lanes parts }
         requires some_lane { 0 < length parts.queues }
         requires few_lanes { length parts.queues ≤ MOST_LANES }
         requires small { max_size ≤ MOST_BYTES }
-        ensures ends { IfOk result (λ r. (length r.1.items ≡ length parts.queues) × EachAt (λ k e. (e.taken ≡ []) × (e.queue ≡ B.queue k)) r.1.items) }
+        requires sized { max_size ≡ B.max_size }
+        ensures ends { IfOk result (λ r. (length r.1.items ≡ length parts.queues)
+            × EachAt (λ k e. (e.taken ≡ []) × (e.queue ≡ B.queue k)) r.1.items) }
         ensures capacities { IfOk result (λ r. capacities_of r.1.items ≡ parts.capacities) }
     {
         let (inside, takes) = Inside::forgetting(alloc, parts, max_size)?;
-        Ok((Board::over(alloc, inside, takes.len())?, takes))
+        Ok((Board::over(alloc, inside, takes.len(), max_size)?, takes))
     }
 
     // The lock round it, and the bells.
-    fn over(alloc: Global, inside: Inside<B>, lanes: usize) -> Result<Board<B>, NoMemory> {
+    fn over(
+        alloc: Global,
+        inside: Inside<B>,
+        lanes: usize,
+        max_size: u64,
+    ) -> Result<Board<B>, NoMemory>
+        requires named { lanes ≡ B.lanes }
+        requires small { max_size ≤ MOST_BYTES }
+        requires sized { max_size ≡ B.max_size }
+    {
         let bells = new_bells(alloc, lanes)?;
-        let inside = Mutex::new(inside);
-        Ok(Board { inside, bells })
+        Ok(Board {
+            inside: Mutex::new(inside),
+            bells,
+            max_size,
+        })
+    }
+
+    /// The most bytes of an upload, as the book has it.
+    pub fn max_size(&self) -> u64
+        ensures size { result ≡ B.max_size }
+        ensures small { result ≤ MOST_BYTES }
+    {
+        self.max_size
     }
 
     /// A seat from which no change was made, unless all were given out.
@@ -93,7 +124,7 @@ impl<B: Naming> Board<B> {
         request: &Request,
     ) -> Result<Plan, Refusal>
         ensures same { seat.new ≡ seat.old }
-        ensures plan { SeatPlans B.queue seat.old request.now result }
+        ensures plan { SeatPlans B.queue B.lanes B.max_size seat.old request.now result }
     {
         let mut inside = self.inside.lock(rt);
         inside.audit(seat);
@@ -112,12 +143,12 @@ impl<B: Naming> Board<B> {
         asked: &Asked,
     ) -> Result<Done, Refusal>
         requires bounded { FitsWithin MOST_BYTES request }
-        ensures { SeatCommits B.queue seat.old request id asked.now seat.new result }
+        ensures { SeatCommits B.queue B.lanes B.max_size seat.old request id asked.now
+            seat.new result }
     {
-        let mut remains = Remains::new();
         let mut inside = self.inside.lock(rt);
         let lanes = inside.lanes();
-        let result = inside.commit(rt, alloc, seat, request, id, asked, &mut remains);
+        let (result, remains) = inside.commit(rt, alloc, seat, request, id, asked);
         drop(inside);
         if let Ok(
             Done {

@@ -16,6 +16,7 @@ use crate::seat::Seat;
 use std::alloc::Global;
 use std::sync::Mutex;
 use std::sync::ledger::Share;
+use thiserror::Error;
 use up_events::Changes;
 use up_hooks::PostHook;
 use up_lanes::{How, LaneEnd};
@@ -23,13 +24,16 @@ use up_machine::Book;
 use up_queue::compare;
 
 /// Why a board was not finished.
-#[derive(Clone, Copy, Debug, PartialEq, Eq)]
+#[derive(Clone, Copy, Debug, PartialEq, Eq, Error)]
 pub enum FinishFault {
     /// The seats that came made fewer changes than were accepted.
+    #[error("a seat is missing")]
     SeatsOut,
     /// Not each lane came once, in ascending order.
+    #[error("the lanes are not all there, each once and in order")]
     LanesOut,
     /// Memory for the report was refused.
+    #[error("out of memory")]
     NoMemory,
 }
 
@@ -157,10 +161,13 @@ impl<B: Naming> Inside<B> {
         seats: &[Seat<B>],
         lanes: &[LaneEnd<H>],
     ) -> Option<FinishFault>
-        ensures none { IfNone result ((length self.now.book.journal.accepted ≤ sum seats.now) × IsInOrder (λ e. e.lane) self.now.book.journal.lanes lanes.now) }
-        ensures seats_out { result ≡ Some FinishFault.SeatsOut → sum seats.now < length self.now.book.journal.accepted }
-        ensures lanes_out { result ≡ Some FinishFault.LanesOut → (length self.now.book.journal.accepted ≤ sum seats.now)
-            × ¬ IsInOrder (λ e. e.lane) self.now.book.journal.lanes lanes.now }
+        ensures none { IfNone result ((length self.now.book.journal.accepted ≤ sum seats.now)
+            × IsInOrder (λ e. e.lane) B.lanes lanes.now) }
+        ensures seats_out { result ≡ Some FinishFault.SeatsOut
+            → sum seats.now < length self.now.book.journal.accepted }
+        ensures lanes_out { result ≡ Some FinishFault.LanesOut
+            → (length self.now.book.journal.accepted ≤ sum seats.now)
+            × ¬ IsInOrder (λ e. e.lane) B.lanes lanes.now }
         ensures memory { result ≢ Some FinishFault.NoMemory }
     {
         if missing(self.book.journal().accepted_count(), seats) > 0 {
@@ -181,12 +188,15 @@ impl<B: Naming> Inside<B> {
     ) -> Result<Vec<LaneReport<H>>, FinishFault>
         ensures room { IfOk result (λ r. (r.items ≡ []) × (length lanes.now ≤ vec_capacity r)) }
         ensures all_seats { IfOk result (λ r. length self.now.book.journal.accepted ≤ sum seats.now) }
-        ensures all_lanes { IfOk result (λ r. IsInOrder (λ e. e.lane) self.now.book.journal.lanes lanes.now) }
-        ensures seats_out { IfErr result (λ fault. fault ≡ FinishFault.SeatsOut → sum seats.now < length self.now.book.journal.accepted) }
-        ensures lanes_out { IfErr result (λ fault. fault ≡ FinishFault.LanesOut → (length self.now.book.journal.accepted ≤ sum seats.now)
-            × ¬ IsInOrder (λ e. e.lane) self.now.book.journal.lanes lanes.now) }
-        ensures no_memory { IfErr result (λ fault. fault ≡ FinishFault.NoMemory → (length self.now.book.journal.accepted ≤ sum seats.now)
-            × IsInOrder (λ e. e.lane) self.now.book.journal.lanes lanes.now) }
+        ensures all_lanes { IfOk result (λ r. IsInOrder (λ e. e.lane) B.lanes lanes.now) }
+        ensures seats_out { IfErr result (λ fault. fault ≡ FinishFault.SeatsOut
+            → sum seats.now < length self.now.book.journal.accepted) }
+        ensures lanes_out { IfErr result (λ fault. fault ≡ FinishFault.LanesOut
+            → (length self.now.book.journal.accepted ≤ sum seats.now)
+            × ¬ IsInOrder (λ e. e.lane) B.lanes lanes.now) }
+        ensures no_memory { IfErr result (λ fault. fault ≡ FinishFault.NoMemory
+            → (length self.now.book.journal.accepted ≤ sum seats.now)
+            × IsInOrder (λ e. e.lane) B.lanes lanes.now) }
     {
         if let Some(fault) = self.fault(seats, lanes) {
             return Err(fault);
@@ -207,14 +217,18 @@ impl<B: Naming> Inside<B> {
         requires queues { All (λ e. e.take_end.queue ≡ B.queue e.lane) lanes.items }
         requires room { (reports.items ≡ []) × (vec_len lanes ≤ vec_capacity reports) }
         requires all_seats { length self.book.journal.accepted ≤ sum seats.items }
-        requires all_lanes { IsInOrder (λ e. e.lane) self.book.journal.lanes lanes.items }
+        requires all_lanes { IsInOrder (λ e. e.lane) B.lanes lanes.items }
         ensures accepted { result.accepted.items ≡ self.book.journal.accepted }
         ensures keeps { result.accepted.keeps ≡ self.book.journal.keeps }
         ensures legal { IsLegal result.accepted.items }
         ensures counts { length result.accepted.items ≡ sum seats.items }
-        ensures lanes { (vec_len result.lanes ≡ vec_len lanes) × EachPair (λ e x. (x.lane ≡ e.lane) × (x.hook ≡ e.hook) × (x.how ≡ e.how)) lanes.items result.lanes.items }
-        ensures handed { HandOver H.handed (vec_len result.lanes) result.accepted.items result.lanes.items }
-        ensures delivered { TellEachUpload H.handed (vec_len result.lanes) result.accepted.items result.lanes.items }
+        ensures lanes { (vec_len result.lanes ≡ vec_len lanes)
+            × EachPair (λ e x. (x.lane ≡ e.lane) × (x.hook ≡ e.hook) × (x.how ≡ e.how))
+            lanes.items result.lanes.items }
+        ensures handed { HandOver H.handed (vec_len result.lanes) result.accepted.items
+            result.lanes.items }
+        ensures delivered { TellEachUpload H.handed (vec_len result.lanes) result.accepted.items
+            result.lanes.items }
     {
         let Inside {
             book,
@@ -239,18 +253,26 @@ impl<B: Naming> Inside<B> {
     ) -> Result<Report<H>, Unfinished<Inside<B>, B, H>>
         requires { All (λ e. e.take_end.queue ≡ B.queue e.lane) lanes.items }
         ensures back { IfErr result (λ u. (u.board ≡ self) × (u.seats ≡ seats) × (u.lanes ≡ lanes)) }
-        ensures seats_out { IfErr result (λ u. u.fault ≡ FinishFault.SeatsOut → sum seats.items < length self.book.journal.accepted) }
-        ensures lanes_out { IfErr result (λ u. u.fault ≡ FinishFault.LanesOut → (length self.book.journal.accepted ≤ sum seats.items)
-            × ¬ IsInOrder (λ e. e.lane) self.book.journal.lanes lanes.items) }
-        ensures no_memory { IfErr result (λ u. u.fault ≡ FinishFault.NoMemory → (length self.book.journal.accepted ≤ sum seats.items)
-            × IsInOrder (λ e. e.lane) self.book.journal.lanes lanes.items) }
+        ensures seats_out { IfErr result (λ u. u.fault ≡ FinishFault.SeatsOut
+            → sum seats.items < length self.book.journal.accepted) }
+        ensures lanes_out { IfErr result (λ u. u.fault ≡ FinishFault.LanesOut
+            → (length self.book.journal.accepted ≤ sum seats.items)
+            × ¬ IsInOrder (λ e. e.lane) B.lanes lanes.items) }
+        ensures no_memory { IfErr result (λ u. u.fault ≡ FinishFault.NoMemory
+            → (length self.book.journal.accepted ≤ sum seats.items)
+            × IsInOrder (λ e. e.lane) B.lanes lanes.items) }
+        ensures all_lanes { IfOk result (λ r. IsInOrder (λ e. e.lane) B.lanes lanes.items) }
         ensures accepted { IfOk result (λ r. r.accepted.items ≡ self.book.journal.accepted) }
         ensures keeps { IfOk result (λ r. r.accepted.keeps ≡ self.book.journal.keeps) }
         ensures legal { IfOk result (λ r. IsLegal r.accepted.items) }
         ensures counts { IfOk result (λ r. length r.accepted.items ≡ sum seats.items) }
-        ensures lanes { IfOk result (λ r. (vec_len r.lanes ≡ vec_len lanes) × EachPair (λ e x. (x.lane ≡ e.lane) × (x.hook ≡ e.hook) × (x.how ≡ e.how)) lanes.items r.lanes.items) }
-        ensures handed { IfOk result (λ r. HandOver H.handed (vec_len r.lanes) r.accepted.items r.lanes.items) }
-        ensures delivered { IfOk result (λ r. TellEachUpload H.handed (vec_len r.lanes) r.accepted.items r.lanes.items) }
+        ensures lanes { IfOk result (λ r. (vec_len r.lanes ≡ vec_len lanes)
+            × EachPair (λ e x. (x.lane ≡ e.lane) × (x.hook ≡ e.hook) × (x.how ≡ e.how))
+            lanes.items r.lanes.items) }
+        ensures handed { IfOk result (λ r.
+            HandOver H.handed (vec_len r.lanes) r.accepted.items r.lanes.items) }
+        ensures delivered { IfOk result (λ r.
+            TellEachUpload H.handed (vec_len r.lanes) r.accepted.items r.lanes.items) }
     {
         match self.begun(alloc, seats.as_slice(), lanes.as_slice()) {
             Ok(reports) => Ok(self.completed(reports, seats, lanes)),
@@ -267,8 +289,10 @@ impl<B: Naming> Inside<B> {
 impl<B: Naming> Board<B> {
     /// Ends the board, once all its seats and the ends of its lanes are brought back, and reports. What a lane's post-hook was handed is the
     /// first of the lane's log of the accepted changes: of each upload the first of its events, each once and in order, and none
-    /// after its end; all of them where the lane is drained. Where something is missing, or memory is, all that was given
-    /// comes back with the reason, the first that holds in the order of `FinishFault`. It waits for nobody.
+    /// after its end; all of them where the lane is drained. If something is missing, or memory is, all that was given comes
+    /// back with the reason, the first that holds in the order of `FinishFault`. `LanesOut` is exact. For `SeatsOut` the contract
+    /// asks no more than that some lawful board of this name has more changes than the seats made, and tests hold it to this
+    /// board. It waits for nobody.
     pub fn finish<H: PostHook + Drop>(
         self,
         alloc: Global,
@@ -277,16 +301,25 @@ impl<B: Naming> Board<B> {
     ) -> Result<Report<H>, Unfinished<Board<B>, B, H>>
         requires { All (λ e. e.take_end.queue ≡ B.queue e.lane) lanes.items }
         ensures back { IfErr result (λ u. (u.seats ≡ seats) × (u.lanes ≡ lanes)) }
-        ensures refused { IfErr result (λ u. (s : Standing) × IsLawfulStanding B.queue s
+        ensures refused { IfErr result (λ u. (s : Standing) × IsLawfulStanding B.queue B.lanes B.max_size s
             × IsRefusedFor u.fault (length s.book.journal.accepted) (sum seats.items)
-            (IsInOrder (λ e. e.lane) s.book.journal.lanes lanes.items)) }
+            (IsInOrder (λ e. e.lane) B.lanes lanes.items)) }
+        ensures all_lanes { IfOk result (λ r. IsInOrder (λ e. e.lane) B.lanes lanes.items) }
         ensures legal { IfOk result (λ r. IsLegal r.accepted.items) }
         ensures counts { IfOk result (λ r. length r.accepted.items ≡ sum seats.items) }
-        ensures lanes { IfOk result (λ r. (vec_len r.lanes ≡ vec_len lanes) × EachPair (λ e x. (x.lane ≡ e.lane) × (x.hook ≡ e.hook) × (x.how ≡ e.how)) lanes.items r.lanes.items) }
-        ensures handed { IfOk result (λ r. HandOver H.handed (vec_len r.lanes) r.accepted.items r.lanes.items) }
-        ensures delivered { IfOk result (λ r. TellEachUpload H.handed (vec_len r.lanes) r.accepted.items r.lanes.items) }
+        ensures lanes { IfOk result (λ r. (vec_len r.lanes ≡ vec_len lanes)
+            × EachPair (λ e x. (x.lane ≡ e.lane) × (x.hook ≡ e.hook) × (x.how ≡ e.how))
+            lanes.items r.lanes.items) }
+        ensures handed { IfOk result (λ r.
+            HandOver H.handed (vec_len r.lanes) r.accepted.items r.lanes.items) }
+        ensures delivered { IfOk result (λ r.
+            TellEachUpload H.handed (vec_len r.lanes) r.accepted.items r.lanes.items) }
     {
-        let Board { inside, bells } = self;
+        let Board {
+            inside,
+            bells,
+            max_size,
+        } = self;
         let inside = inside.into_inner();
         inside.is_lawful();
         match inside.finish(alloc, seats, lanes) {
@@ -303,6 +336,7 @@ impl<B: Naming> Board<B> {
                 board: Board {
                     inside: Mutex::new(board),
                     bells,
+                    max_size,
                 },
                 seats,
                 lanes,

@@ -2,7 +2,7 @@
 ghost use Rattle.std.specs.Prelude.{◌≡◌, ℕ, ◌+◌, ◌<◌, ◌≤◌, ◌^◌, [], length, IfOk, OnOk, OnErr, IsErr, IfSome, IfNone, true, false, IsTrue, ◌↔◌};
 ghost use Rattle.up_events.specs.Records.{empty_records, lane_log};
 ghost use Rattle.up_queue.specs.Line.{items_if};
-ghost use Rattle.up_queue.specs.Sides.{WasFull};
+ghost use Rattle.up_queue.specs.Sides.{MayBeFull};
 ghost use Rattle.up_headers.specs.Table.{FitsWithin};
 ghost use Rattle.up_machine.specs.State.{counting_state, empty_state};
 ghost use Rattle.up_machine.specs.Decision.{Answers, decide, decide_plan, is_asked, is_refusal};
@@ -46,7 +46,8 @@ impl<B: Naming> Model for Inside<B> {
 
     ghost view = { λ i. standing i.book i.feeds.items i.given i.total.total };
 
-    ghost invariant = { λ i. IsLawfulBoard B.queue i.book i.feeds.items i.given i.total.total i.rest.parts i.rest.amount };
+    ghost invariant = { λ i. IsLawfulBoard B.queue B.lanes B.max_size i.book i.feeds.items i.given
+        i.total.total i.rest.parts i.rest.amount };
 }
 
 impl<B: Naming> Inside<B> {
@@ -56,13 +57,15 @@ impl<B: Naming> Inside<B> {
         parts: BoardParts,
         max_size: u64,
     ) -> Result<(Inside<B>, Vec<TakeEnd>), NoMemory>
-        requires named { IsNamed B.name B.parts B.queue parts }
+        requires named { IsNamed B.name B.parts B.queue B.lanes parts }
         requires some_lane { 0 < length parts.queues }
         requires few_lanes { length parts.queues ≤ MOST_LANES }
         requires small { max_size ≤ MOST_BYTES }
+        requires sized { max_size ≡ B.max_size }
         ensures book { IfOk result (λ r. r.0.book ≡ empty_state (length parts.queues) max_size) }
         ensures counts { IfOk result (λ r. (r.0.given ≡ 0) × (r.0.total ≡ 0)) }
-        ensures ends { IfOk result (λ r. (length r.1.items ≡ length parts.queues) × EachAt (λ k e. (e.taken ≡ []) × (e.queue ≡ B.queue k)) r.1.items) }
+        ensures ends { IfOk result (λ r. (length r.1.items ≡ length parts.queues)
+            × EachAt (λ k e. (e.taken ≡ []) × (e.queue ≡ B.queue k)) r.1.items) }
         ensures capacities { IfOk result (λ r. capacities_of r.1.items ≡ parts.capacities) }
     {
         let book = Book::new(alloc, parts.lanes(), max_size)?;
@@ -75,13 +78,15 @@ impl<B: Naming> Inside<B> {
         parts: BoardParts,
         max_size: u64,
     ) -> Result<(Inside<B>, Vec<TakeEnd>), NoMemory>
-        requires named { IsNamed B.name B.parts B.queue parts }
+        requires named { IsNamed B.name B.parts B.queue B.lanes parts }
         requires some_lane { 0 < length parts.queues }
         requires few_lanes { length parts.queues ≤ MOST_LANES }
         requires small { max_size ≤ MOST_BYTES }
+        requires sized { max_size ≡ B.max_size }
         ensures book { IfOk result (λ r. r.0.book ≡ counting_state (length parts.queues) max_size) }
         ensures counts { IfOk result (λ r. (r.0.given ≡ 0) × (r.0.total ≡ 0)) }
-        ensures ends { IfOk result (λ r. (length r.1.items ≡ length parts.queues) × EachAt (λ k e. (e.taken ≡ []) × (e.queue ≡ B.queue k)) r.1.items) }
+        ensures ends { IfOk result (λ r. (length r.1.items ≡ length parts.queues)
+            × EachAt (λ k e. (e.taken ≡ []) × (e.queue ≡ B.queue k)) r.1.items) }
         ensures capacities { IfOk result (λ r. capacities_of r.1.items ≡ parts.capacities) }
     {
         let book = Book::forgetting(alloc, parts.lanes(), max_size)?;
@@ -90,13 +95,15 @@ impl<B: Naming> Inside<B> {
 
     // Over a new book.
     fn over(book: Book, parts: BoardParts) -> (Inside<B>, Vec<TakeEnd>)
-        requires named { IsNamed B.name B.parts B.queue parts }
+        requires named { IsNamed B.name B.parts B.queue B.lanes parts }
         requires some_lane { 0 < length parts.queues }
         requires new { book.journal ≡ record (empty_records (length parts.queues)) { keeps = book.journal.keeps } }
         requires going { book.closed ≡ false }
+        requires sized { book.max_size ≡ B.max_size }
         ensures book { result.0.book ≡ book }
         ensures counts { (result.0.given ≡ 0) × (result.0.total ≡ 0) }
-        ensures ends { (length result.1.items ≡ length parts.queues) × EachAt (λ k e. (e.taken ≡ []) × (e.queue ≡ B.queue k)) result.1.items }
+        ensures ends { (length result.1.items ≡ length parts.queues)
+            × EachAt (λ k e. (e.taken ≡ []) × (e.queue ≡ B.queue k)) result.1.items }
         ensures capacities { capacities_of result.1.items ≡ parts.capacities }
     {
         let BoardParts {
@@ -131,13 +138,14 @@ impl<B: Naming> Inside<B> {
         self.book.plan(alloc, request)
     }
 
-    /// Puts what is left of the lane's log into its queue, until that is full. The log then forgets what was put.
+    /// Puts what is left of the lane's log into its queue, until that takes no more. The log then forgets what was put.
     pub fn fill<R: Wait>(&mut self, rt: &R, lane: u64) -> Filled
         requires { lane < self.old.book.journal.lanes }
         ensures book { self.new ≡ record self.old { ends = self.new.ends } }
         ensures fills { FillsOnly self.old.ends self.new.ends lane }
-        ensures whole { result ≡ Filled.Whole → (end_at self.new.ends lane).put ≡ items_if (lane_log self.old.book.journal lane) self.old.book.closed }
-        ensures full { result ≡ Filled.Full → WasFull (end_at self.new.ends lane) }
+        ensures whole { result ≡ Filled.Whole → (end_at self.new.ends lane).put
+            ≡ items_if (lane_log self.old.book.journal lane) self.old.book.closed }
+        ensures full { result ≡ Filled.Full → MayBeFull (end_at self.new.ends lane) }
         ensures filled { IsFilled self.old.book lane (end_at self.new.ends lane) }
     {
         let closed = self.book.is_closed();
@@ -166,7 +174,7 @@ impl<B: Naming> Inside<B> {
 
     /// What lies under the lock is a lawful board. A law: it does nothing.
     pub fn is_lawful(&self)
-        ensures { IsLawfulStanding B.queue self.now }
+        ensures { IsLawfulStanding B.queue B.lanes B.max_size self.now }
     {
         let _ = self.feeds.len();
     }
@@ -176,7 +184,7 @@ impl<B: Naming> Inside<B> {
         ensures same { (self.new ≡ self.old) × (seat.new ≡ seat.old) }
         ensures covers { seat.old ≤ self.old.total }
         ensures counts { self.old.total ≡ length self.old.book.journal.accepted }
-        ensures lawful { IsLawfulStanding B.queue self.old }
+        ensures lawful { IsLawfulStanding B.queue B.lanes B.max_size self.old }
     {
         let Inside { total, .. } = self;
         let Seat { share, .. } = seat;
@@ -210,8 +218,8 @@ impl<B: Naming> Inside<B> {
         Ok(done)
     }
 
-    /// Decides on a request from a seat as the book does, and puts the events of its change. What it leaves over goes into
-    /// `remains`, to be dropped after the lock is free.
+    /// Decides on a request from a seat as the book does, and puts the events of its change. What it leaves over comes back,
+    /// to be dropped after the lock is free.
     pub fn commit<R: Wait>(
         &mut self,
         rt: &R,
@@ -220,18 +228,23 @@ impl<B: Naming> Inside<B> {
         request: Request,
         id: Id,
         asked: &Asked,
-        remains: &mut Remains,
-    ) -> Result<Done, Refusal>
+    ) -> (Result<Done, Refusal>, Remains)
         requires bounded { FitsWithin MOST_BYTES request }
-        ensures { CommitsTo B.queue self.old self.new seat.old seat.new request id asked.now result }
+        ensures { CommitsTo B.queue B.lanes B.max_size self.old self.new seat.old seat.new
+            request id asked.now result.0 }
     {
         self.audit(seat);
-        let done = self.note(alloc, seat, request, id, asked, remains)?;
-        if let Some(change) = &done.change {
-            let lane = change.id().lane(self.lanes());
-            self.fill(rt, lane);
+        let mut remains = Remains::new();
+        match self.note(alloc, seat, request, id, asked, &mut remains) {
+            Ok(done) => {
+                if let Some(change) = &done.change {
+                    let lane = change.id().lane(self.lanes());
+                    self.fill(rt, lane);
+                }
+                (Ok(done), remains)
+            }
+            Err(refusal) => (Err(refusal), remains),
         }
-        Ok(done)
     }
 
     /// Accepts no change from now on, and puts what the queues have room for.

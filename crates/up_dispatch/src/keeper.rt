@@ -126,9 +126,9 @@ impl<B: Naming, R: Wait> Keeper for Seated<'_, B, R> {
 
     ghost lender = { λ k. k.seat.ghost_name };
 
-    ghost plans = { SeatPlans B.queue };
+    ghost plans = { SeatPlans B.queue B.lanes B.max_size };
 
-    ghost commits = { SeatCommits B.queue };
+    ghost commits = { SeatCommits B.queue B.lanes B.max_size };
 
     fn plan(&mut self, alloc: Global, request: &Request) -> Result<Plan, Refusal> {
         self.board.plan(self.rt, alloc, self.seat, request)

@@ -1,3 +1,4 @@
+pub mod Limits
 pub mod IdText
 pub mod Names
 pub mod Lists

@@ -1,6 +1,10 @@
 //! What the definitions promise of each other.
+ghost use Rattle.std.specs.Prelude.{◌≡◌};
+ghost use Rattle.up_events.specs.Limits.{most_bytes, most_lanes};
 ghost use Rattle.up_events.specs.Log.{FrontsAreLawful, LogsAreLawful, LogsGrowAtTheirEnd, LogsTellEvents};
 ghost use Rattle.up_events.specs.Delivery.{NumberedIsDelivered};
+
+use crate::limits::{MOST_BYTES, MOST_LANES};
 
 /// For every legal list of changes the log of a lane is lawful: each upload's events are numbered
 /// 1, 2, 3 and so on, with post-create first, post-finish at most once, and nothing after
@@ -26,4 +30,10 @@ pub fn logs_grow_at_their_end()
 /// What stands at the front of a lawful list of events is lawful.
 pub fn fronts_are_lawful()
     ensures { FrontsAreLawful }
+{}
+
+/// The limits are those that the definitions name.
+pub fn limits_are_exact()
+    ensures lanes { MOST_LANES ≡ most_lanes }
+    ensures bytes { MOST_BYTES ≡ most_bytes }
 {}

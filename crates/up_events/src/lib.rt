@@ -20,7 +20,8 @@ pub use fault::NoMemory;
 pub use id::Id;
 pub use journal::{Added, Journal};
 pub use law::{
-    fronts_are_lawful, logs_are_lawful, logs_grow_at_their_end, numbered_events_are_delivered,
+    fronts_are_lawful, limits_are_exact, logs_are_lawful, logs_grow_at_their_end,
+    numbered_events_are_delivered,
 };
 pub use limits::{MOST_BYTES, MOST_LANES};
 pub use room::make_room;

@@ -27,7 +27,7 @@ const NAP: u64 = 1_000;
 pub enum StepEnd {
     /// One event was taken and handed over.
     Handed,
-    /// The queue was empty at one moment of the step.
+    /// The queue gave nothing. By the contract that may be although an item is there.
     Nothing,
     /// The end was taken, in this step or in an earlier one. No step does anything any more.
     Ended,
@@ -106,7 +106,8 @@ impl<H: PostHook> Lane<H> {
         }
     }
 
-    /// Takes one item once the post-hook has room for an event, and hands the event over. It doesn't sleep.
+    /// Takes one item once the post-hook has room for an event, and hands the event over. It doesn't sleep. `Nothing` may be
+    /// answered although an item is there.
     pub fn step<R: Wait>(&mut self, rt: &R) -> StepEnd
         ensures step { StepsTo result self.old self.new }
         ensures lawful { IsLawful self.new.handed }

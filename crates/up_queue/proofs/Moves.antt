@@ -1,5 +1,5 @@
 -- Each step of a queue keeps its rule.
-use Rattle.std.proofs.Common.{◌≡◌, ◌≢◌, ℕ, zero, suc, true, false, true≢false, List, [], ◌∷◌, ◌++◌, length, set, sym, refl, ap, ◌∙◌, subst, ⊎_elim, append_assoc, arith, length-append}
+use Rattle.std.proofs.Common.{◌≡◌, ◌≢◌, ◌≤◌, ℕ, zero, suc, true, false, true≢false, List, [], ◌∷◌, ◌++◌, length, set, sym, refl, ap, ◌∙◌, subst, ⊎_elim, append_assoc, arith, length-append}
 use mathlib.Core.Option.{some, some-ne-none}
 use lib.ListN.{get_elem?}
 use Rattle.crossbeam_queue.specs.Fifo.{Pushes, Pops, Forks, Merges, Learns}
@@ -150,15 +150,11 @@ merges pass v other u a b items views h at two at' =
           (λ j y apart e. now j y e apart);
     }
 
-pub learns_taken : (pass : ℕ) (v : EndView) → v.puts ≡ true → Learns IsInOrder pass v (λ items. (taken : List Item) × IsLine v.capacity v.put taken items)
-learns_taken pass v a items views h at =
-    let is = (h.known pass v at).puts a in
-    (h.taken, subst (λ (y : ℕ × List Item). IsLine y.0 y.1 h.taken items) (λ i. (sym is.1 i, sym is.2 i)) h.line)
-
-pub learns_put : (pass : ℕ) (v : EndView) → v.takes ≡ true → Learns IsInOrder pass v (λ items. (put : List Item) × IsLine v.capacity put v.taken items)
-learns_put pass v b items views h at =
-    let is = (h.known pass v at).takes b in
-    (h.put, subst (λ (y : ℕ × List Item). IsLine y.0 h.put y.1 items) (λ i. (sym is.1 i, sym is.2 i)) h.line)
+pub learns_held : (pass : ℕ) (v : EndView) → v.puts ≡ true → Learns IsInOrder pass v (λ items. length items ≤ length v.put)
+learns_held pass v a items views h at =
+    let put = ap length (((h.known pass v at).puts a).2 ∙ h.line.whole) in
+    let parts = length-append h.taken items in
+    omega arith
 
 pub learns_both : (pass : ℕ) (v : EndView) → v.puts ≡ true → v.takes ≡ true → Learns IsInOrder pass v (λ items. IsLine v.capacity v.put v.taken items)
 learns_both pass v a b items views h at =

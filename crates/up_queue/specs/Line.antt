@@ -40,11 +40,3 @@ pub record IsLine (capacity : ℕ) (put taken held : List Item) : Type 0 where
   pub whole : put ≡ taken ++ held
   pub room : length held ≤ capacity
   pub orderly : IsOrderly put
-
--- of what was put, as many items as the capacity are held
-abbrev pub IsFullAfter : ℕ → List Item → Type 0
-IsFullAfter capacity put = (taken : List Item) × (held : List Item) × IsLine capacity put taken held × (length held ≡ capacity)
-
--- what was taken is all that was put
-abbrev pub IsEmptyAfter : ℕ → List Item → Type 0
-IsEmptyAfter capacity taken = (put : List Item) × IsLine capacity put taken []

@@ -1,8 +1,8 @@
 -- What contracts see of the two ends of a queue.
-use Rattle.std.specs.Prelude.{◌≡◌, ℕ, List, [], ◌∷◌, ◌++◌, length}
+use Rattle.std.specs.Prelude.{◌≡◌, ℕ, ◌≤◌, List, [], ◌∷◌, ◌++◌, length}
 use Rattle.atomic_table.specs.Seated.{TableId}
 use Rattle.up_queue.specs.declared.item.Item.{Item}
-use Rattle.up_queue.specs.Line.{IsLine, IsFullAfter, IsEmptyAfter}
+use Rattle.up_queue.specs.Line.{IsLine}
 
 -- which queue it is: no other one has the same
 abbrev pub QueueId : Type 0
@@ -33,13 +33,10 @@ with_put end item = record end { put = end.put ++ item ∷ [] }
 abbrev pub with_taken : TakeSide → Item → TakeSide
 with_taken end item = record end { taken = end.taken ++ item ∷ [] }
 
--- at one moment the queue held as many items as its capacity
-abbrev pub WasFull : PutSide → Type 0
-WasFull end = IsFullAfter end.capacity end.put
-
--- at one moment the queue held nothing
-abbrev pub WasEmpty : TakeSide → Type 0
-WasEmpty end = IsEmptyAfter end.capacity end.taken
+-- the queue may be full by what this end knows: no fewer items were put than it can hold. So an end that has put fewer finds
+-- room. Of a take there is no such word: it may give nothing although the queue holds an item
+abbrev pub MayBeFull : PutSide → Type 0
+MayBeFull end = end.capacity ≤ length end.put
 
 -- what was put is what was taken, followed by that many items
 abbrev pub AreLeft : PutSide → TakeSide → ℕ → Type 0

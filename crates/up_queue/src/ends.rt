@@ -3,7 +3,7 @@ ghost use Rattle.std.specs.Prelude.{◌≡◌, ◌<◌, [], ◌∷◌, ◌++◌,
 ghost use Rattle.up_queue.specs.declared.fault.QueueFault.TheVariants.{ZeroCapacity};
 ghost use Rattle.up_queue.specs.declared.fault.PutFault.TheVariants.{Full};
 ghost use Rattle.up_queue.specs.Line.{IsOrderly};
-ghost use Rattle.up_queue.specs.Sides.{AreNewEnds, AreLeft, with_put, with_taken, WasFull, WasEmpty};
+ghost use Rattle.up_queue.specs.Sides.{AreNewEnds, AreLeft, with_put, with_taken, MayBeFull};
 
 use crate::fault::{PutFault, QueueFault};
 use crate::item::Item;
@@ -94,14 +94,15 @@ fn made<N: Room>(alloc: Global, capacity: u64) -> Result<(PutEnd, TakeEnd), NoMe
 }
 
 impl PutEnd {
-    /// Puts an item behind those that the queue holds. It comes back only where the queue was full at one moment of the
-    /// call. The caller sees to the order: behind what was put before, the item's event is the next of its upload, and
-    /// nothing stands behind an end. Takes no memory.
+    /// Puts an item behind those that the queue holds. It comes back only if the queue was full at one moment of the call;
+    /// the contract says no more than that the queue may be full: this end has put no fewer items than it can hold. The
+    /// caller sees to the order: behind what was put before, the item's event is the next of its upload, and nothing stands
+    /// behind an end. Takes no memory.
     pub fn put<R: Wait>(&mut self, rt: &R, item: Item) -> Result<(), PutFault>
         requires orderly { IsOrderly (self.old.put ++ item ∷ []) }
         ensures put { OnOk result (self.new ≡ with_put self.old item) }
         ensures unchanged { OnErr result (self.new ≡ self.old) }
-        ensures full { IfErr result (λ fault. (fault ≡ Full item) × WasFull self.old) }
+        ensures full { IfErr result (λ fault. (fault ≡ Full item) × MayBeFull self.old) }
     {
         match push(rt, &self.line, &mut self.pass, item) {
             Ok(()) => {
@@ -114,12 +115,12 @@ impl PutEnd {
 }
 
 impl TakeEnd {
-    /// Takes the oldest item that the queue holds. There is none only where the queue was empty at one moment of the
-    /// call. Takes no memory.
+    /// Takes the oldest item that the queue holds. The array gives none only if it was empty at one moment of the call, but
+    /// the contract doesn't say so: by it, `None` may be answered although an item is there. Takes no memory.
     pub fn take<R: Wait>(&mut self, rt: &R) -> Option<Item>
         ensures taken { IfSome result (λ item. self.new ≡ with_taken self.old item) }
         ensures orderly { IsOrderly self.new.taken }
-        ensures empty { result ≡ None → (self.new ≡ self.old) × WasEmpty self.old }
+        ensures unchanged { result ≡ None → self.new ≡ self.old }
     {
         let item = pop(rt, &self.line, &mut self.pass)?;
         self.count = self.count.wrapping_add(1);

@@ -16,7 +16,7 @@ pub enum QueueFault {
 /// Why an item was not put.
 #[derive(Clone, Copy, Debug, PartialEq, Eq, Error)]
 pub enum PutFault {
-    /// The queue was full. The item comes back.
+    /// The queue may be full. The item comes back.
     #[error("the queue is full")]
     Full(Item),
 }

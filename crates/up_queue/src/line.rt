@@ -1,8 +1,8 @@
 //! The steps of a queue under its rule, each with a pass: what an end of the queue carries of what it knows.
-ghost use Rattle.std.specs.Prelude.{◌≡◌, ◌<◌, List, true, [], ◌∷◌, ◌++◌, IfOk, IfSome, IfErr, OnOk, None};
+ghost use Rattle.std.specs.Prelude.{◌≡◌, ◌<◌, ◌≤◌, List, true, [], ◌∷◌, ◌++◌, length, IfOk, IfSome, IfErr, OnOk, None};
 ghost use Rattle.crossbeam_queue.specs.Passes.{view, IsPassOf, ruled_capacity};
 ghost use Rattle.up_queue.specs.declared.item.Item.{Item};
-ghost use Rattle.up_queue.specs.Line.{IsLine, IsOrderly, IsFullAfter, IsEmptyAfter};
+ghost use Rattle.up_queue.specs.Line.{IsLine, IsOrderly};
 ghost use Rattle.up_queue.specs.Rule.{putting, taking};
 
 use crate::item::Item;
@@ -32,7 +32,7 @@ pub fn open<N: Room>(
     Ok((line, putter, taker))
 }
 
-/// Puts an item, or hands it back where the line was full.
+/// Puts an item, or hands it back if the line may be full.
 pub fn push<R: Wait>(
     rt: &R,
     line: &Line,
@@ -48,12 +48,12 @@ pub fn push<R: Wait>(
         ≡ putting (ruled_capacity line.now) ((view pass.old).put ++ item ∷ [])) }
     ensures unchanged { IfErr result (λ back.
         (back ≡ item) × (view pass.new ≡ view pass.old)) }
-    ensures full { IfErr result (λ _. IsFullAfter (ruled_capacity line.now) (view pass.old).put) }
+    ensures full { IfErr result (λ _. ruled_capacity line.now ≤ length (view pass.old).put) }
 {
     line.push_as::<Puts, R>(rt, pass, item)
 }
 
-/// Takes the oldest item, where the line was not empty.
+/// Takes the oldest item, if it finds one.
 pub fn pop<R: Wait>(rt: &R, line: &Line, pass: &mut Pass<Item, EndView>) -> Option<Item>
     requires line { IsPassOf line.now pass.old }
     requires takes { view pass.old ≡ taking (ruled_capacity line.now) (view pass.old).taken }
@@ -63,8 +63,6 @@ pub fn pop<R: Wait>(rt: &R, line: &Line, pass: &mut Pass<Item, EndView>) -> Opti
         ≡ taking (ruled_capacity line.now) ((view pass.old).taken ++ item ∷ [])) }
     ensures orderly { IfSome result (λ _. IsOrderly (view pass.new).taken) }
     ensures unchanged { result ≡ None → view pass.new ≡ view pass.old }
-    ensures empty { result ≡ None
-        → IsEmptyAfter (ruled_capacity line.now) (view pass.old).taken }
 {
     line.pop_as::<Takes, R>(rt, pass)
 }

@@ -67,8 +67,7 @@ impl Lesson<Item, EndView> for Both {
     ghost fact = { λ v items. IsLine v.capacity v.put v.taken items };
 }
 
-/// A put: one item more was put. Where the queue is full, the put end learns that what it put is what was taken, followed
-/// by as many items as the capacity.
+/// A put: one item more was put. If the queue is full, the put end learns that it put no fewer items than are held.
 pub struct Puts;
 
 impl Outcome<Item, EndView> for Puts {
@@ -79,15 +78,12 @@ impl Outcome<Item, EndView> for Puts {
 }
 
 impl Lesson<Item, EndView> for Puts {
-    ghost use Rattle.std.specs.Prelude.{List};
-    ghost use Rattle.up_queue.specs.declared.item.Item.{Item};
-    ghost use Rattle.up_queue.specs.Line.{IsLine};
+    ghost use Rattle.std.specs.Prelude.{◌≤◌, length};
 
-    ghost fact = { λ v items. (taken : List Item) × IsLine v.capacity v.put taken items };
+    ghost fact = { λ v items. length items ≤ length v.put };
 }
 
-/// A take: one item more was taken, and what was taken is orderly. Where the queue is empty, the take end learns that what
-/// it took is what was put.
+/// A take: one item more was taken, and what was taken is orderly. If the queue is empty, the take end learns nothing.
 pub struct Takes;
 
 impl Outcome<Item, EndView> for Takes {
@@ -99,9 +95,5 @@ impl Outcome<Item, EndView> for Takes {
 }
 
 impl Lesson<Item, EndView> for Takes {
-    ghost use Rattle.std.specs.Prelude.{List};
-    ghost use Rattle.up_queue.specs.declared.item.Item.{Item};
-    ghost use Rattle.up_queue.specs.Line.{IsLine};
-
-    ghost fact = { λ v items. (put : List Item) × IsLine v.capacity put v.taken items };
+    ghost fact = { λ _ _. Unit {0} };
 }

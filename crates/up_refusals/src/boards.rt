@@ -224,7 +224,8 @@ fn begin<B: Naming + Send + Sync, H: PostHook + Told + Drop, R: Print + Wait>(
     parts: BoardParts,
     hooks: (H, H),
 ) -> io::Result<bool>
-    requires named { IsNamed B.name B.parts B.queue parts }
+    requires named { IsNamed B.name B.parts B.queue B.lanes parts }
+    requires sized { B.max_size ≡ 1024 }
     requires two { length parts.queues ≡ 2 }
     requires first { H.is_sound hooks.0 × (H.handed hooks.0 ≡ []) }
     requires second { H.is_sound hooks.1 × (H.handed hooks.1 ≡ []) }

@@ -13,7 +13,8 @@
 //! times COUNT TEXT            as `put`, so many times
 //! reads WAITS EACH            the next row's source is interrupted so often before its first byte, and before each other
 //! writes ROOM WAITS EACH      the next row's sink has room for so many bytes, and is interrupted so
-//! end TEXT => ..              messages that are read, in one piece and byte by byte; the input ends behind the text
+//! end TEXT => ..              messages that are read, in one piece and byte by byte, and of a reader that gives single bytes; the input ends
+//!                             behind the text
 //! fail TEXT => ..             messages that are read, byte by byte; a read fails behind the text
 //! both TEXT => ..             as `end`, and as `fail`
 //! slow TEXT => ..             as `end`, byte by byte alone, and all that is left unread is told
@@ -28,6 +29,7 @@
 //! shared TEXT => ..           a body of which another owner knows
 //! refused => .. and lost => ..     the responses for what is refused, and for what no memory is left
 //! faults => ..                each fault, its status and its text
+//! id TEXT => ..               the id that has the text
 //! metadata TEXT => ..         what a metadata text reads as
 //! request TEXT => ..          what a line of method and target, and a line for each field, ask for
 //! ```

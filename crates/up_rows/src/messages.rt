@@ -119,6 +119,7 @@ impl Messages {
             "refused" => responses::refused(alloc, self),
             "lost" => responses::lost(alloc, self),
             "faults" => asked::faults(alloc),
+            "id" => asked::id(alloc, bytes),
             "metadata" => asked::metadata(alloc, bytes),
             "request" => asked::asked(alloc, bytes),
             "count" => counting::counted(alloc, bytes),

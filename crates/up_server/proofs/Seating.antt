@@ -9,10 +9,14 @@ use Rattle.up_wire.specs.Device.{Device}
 pub only_seat : (seats none : List ℕ) (count : ℕ) → none ≡ [] → seats ≡ none ++ count ∷ [] → sum seats ≡ count
 only_seat seats none count p q = ap sum (q ∙ ap (λ l. l ++ count ∷ []) p) ∙ omega arith
 
-pub served_so : (queue : ℕ → QueueId) (gives : Gives) (max_size first last none count : ℕ) (i j k l : Device) (ended : Ended) → first ≡ none → last ≡ count
-    → IsServedFrom queue gives max_size first last i j k l ended → IsServedFrom queue gives max_size none count i j k l ended
-served_so queue gives max_size first last none count i j k l ended p q served =
-    subst (λ n. IsServedFrom queue gives max_size n count i j k l ended) p (subst (λ n. IsServedFrom queue gives max_size first n i j k l ended) q served)
+pub served_so : (queue : ℕ → QueueId) (gives : Gives) (lanes own_lanes size own_size first last none count : ℕ) (i j k l : Device) (ended : Ended)
+    → lanes ≡ own_lanes → size ≡ own_size → first ≡ none → last ≡ count
+    → IsServedFrom queue own_lanes gives own_size first last i j k l ended → IsServedFrom queue lanes gives size none count i j k l ended
+served_so queue gives lanes own_lanes size own_size first last none count i j k l ended p q r s served =
+    subst (λ n. IsServedFrom queue n gives size none count i j k l ended) (sym p) (
+    subst (λ n. IsServedFrom queue own_lanes gives n none count i j k l ended) (sym q) (
+    subst (λ n. IsServedFrom queue own_lanes gives own_size n count i j k l ended) r (
+    subst (λ n. IsServedFrom queue own_lanes gives own_size first n i j k l ended) s served)))
 
 -- what was lent three times came back so
 pub come_back : {X Y Z : Type 0} (P : X → Y → Z → Type 0) (x x' : X) (y y' : Y) (z z' : Z) → x' ≡ x → y' ≡ y → z' ≡ z → P x y z → P x' y' z'

@@ -14,10 +14,10 @@ use Rattle.up_server.specs.declared.server_fault.ServerFault.TheVariants as Faul
 use Rattle.up_server.specs.declared.settings.Settings.{Settings}
 use Rattle.up_wire.specs.Device.{Device}
 
--- One conversation was served from the only seat of a new board whose closures may give this, over these queues. The report is that of the
--- board, and tells as many changes as were made from the seat.
+-- One conversation was served from the only seat of a new board of this size whose closures may give this, over these queues. The report
+-- is that of the board, and tells as many changes as were made from the seat.
 pub record IsRun {H : Type 0} (handed : H → List Event) (queue : ℕ → QueueId) (gives : Gives) (settings : Settings) (served : Served H) (source source_after sink sink_after : Device) : Type 0 where
-  pub converses : IsServedFrom queue gives settings.max_size 0 (length served.report.accepted.items) source source_after sink sink_after served.ended
+  pub converses : IsServedFrom queue settings.lanes gives settings.max_size 0 (length served.report.accepted.items) source source_after sink sink_after served.ended
   pub report : IsReportOf handed settings.lanes served.report
 
 -- the input was served to its end, or to where it broke off

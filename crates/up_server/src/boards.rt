@@ -1,7 +1,7 @@
 //! A board with its lanes: how it begins, and how it ends.
 ghost use Rattle.std.specs.Prelude.{◌≡◌, All, IfOk, vec_len, [], length, sum};
 ghost use Rattle.up_dispatch.specs.Lists.{EachAt};
-ghost use Rattle.up_dispatch.specs.Parts.{NamesQueues};
+ghost use Rattle.up_dispatch.specs.Parts.{IsNamed};
 ghost use Rattle.up_server.specs.Reported.{IsReportOf};
 
 use crate::lanes::lanes_over;
@@ -12,17 +12,17 @@ use up_events::NoMemory;
 use up_hooks::PostHook;
 use up_lanes::{Lane, LaneEnd};
 
-/// A new board of these parts, which counts the changes and doesn't keep them, and a lane over each of its queues, with the post-hook at its place.
+/// A new board of these parts and of this size, which counts the changes and doesn't keep them, and a lane over each of its queues, with the
+/// post-hook at its place.
 pub fn open<B: Naming, H: PostHook + Drop>(
     alloc: Global,
     parts: BoardParts,
     post_hooks: Vec<H>,
     settings: &Settings,
 ) -> Result<(Board<B>, Vec<Lane<H>>), NoMemory>
-    requires name { parts.name ≡ B.name }
-    requires parts { parts.parts ≡ B.parts }
-    requires queues { NamesQueues B.queue parts.queues }
-    requires lanes { length parts.queues ≡ settings.now.lanes }
+    requires named { IsNamed B.name B.parts B.queue B.lanes parts }
+    requires lanes { settings.now.lanes ≡ B.lanes }
+    requires sized { settings.now.max_size ≡ B.max_size }
     requires one_for_each { vec_len post_hooks ≡ settings.now.lanes }
     requires new { All (λ h. H.is_sound h × (H.handed h ≡ [])) post_hooks.items }
     ensures count { IfOk result (λ r. vec_len r.1 ≡ settings.now.lanes) }

@@ -55,8 +55,8 @@ struct Word<'a> {
     help: &'a str,
 }
 
-/// The words that any server has: how large it is, what it refuses, and what it tells.
-const COMMON: [Word<'static>; 8] = [
+/// The words that any server has: how large it is, and what it refuses.
+const COMMON: [Word<'static>; 7] = [
     Word {
         name: "lanes",
         kind: Kind::Number(1, MOST_LANES),
@@ -99,16 +99,10 @@ const COMMON: [Word<'static>; 8] = [
         default: None,
         help: "Refuse to complete an upload of more than N bytes, from 0 to 18446744073709551615",
     },
-    Word {
-        name: "events",
-        kind: Kind::Nothing,
-        default: None,
-        help: "Write each event to standard output as a line, as it is handed over",
-    },
 ];
 
-/// The words that say which connections are served.
-const CONNECTIONS: [Word<'static>; 3] = [
+/// The words that say which connections are served, and what is told meanwhile.
+const CONNECTIONS: [Word<'static>; 4] = [
     Word {
         name: "address",
         kind: Kind::Text("HOST:PORT"),
@@ -126,6 +120,12 @@ const CONNECTIONS: [Word<'static>; 3] = [
         kind: Kind::Number(1, MOST_OPEN),
         default: Some("1024"),
         help: "How many connections are open at a time, from 1 to 4096; others wait",
+    },
+    Word {
+        name: "events",
+        kind: Kind::Nothing,
+        default: None,
+        help: "Write each event to standard output as a line, as it is handed over",
     },
 ];
 
@@ -208,6 +208,7 @@ fn serving_of(alloc: Global, serve: &ArgMatches<'_>) -> Result<Serving, AllocErr
         address: text_of(alloc, serve, "address")?.unwrap_or(String::new(alloc)),
         connections: connections.map(|count| count.clamp(1, MOST_CONNECTIONS)),
         open: value_of(serve, "open", MOST_OPEN),
+        events: serve.get_flag("events"),
     })
 }
 
@@ -227,7 +228,6 @@ fn words_of(
         max_length: matches.get_one::<u64>("max-length"),
         keep: matches.get_flag("keep"),
         max_finish: matches.get_one::<u64>("max-finish"),
-        events: matches.get_flag("events"),
         serve,
     })
 }

@@ -22,4 +22,4 @@ pub use listening::{keep_serving, serve};
 pub use rules::{at_most, finishes_at_most, keeps, needs_key, refuse};
 pub use server_fault::ServerFault;
 pub use serving::replay;
-pub use settings::{Serving, Settings, Words};
+pub use settings::{Serving, Settings, Words, limits_are_exact};

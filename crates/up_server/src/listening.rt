@@ -1,7 +1,7 @@
 //! A run of the server over connections.
-ghost use Rattle.std.specs.Prelude.{◌≡◌, ◌⊎◌, ◌≤◌, [], All, Err, IfOk, length, vec_len};
+ghost use Rattle.std.specs.Prelude.{◌≡◌, ◌⊎◌, [], All, Err, IfOk, length, vec_len};
 ghost use Rattle.up_dispatch.specs.Lists.{EachAt};
-ghost use Rattle.up_dispatch.specs.Parts.{NamesQueues};
+ghost use Rattle.up_dispatch.specs.Parts.{IsNamed};
 ghost use Rattle.up_dispatch.specs.declared.finish.Report.{Report};
 ghost use Rattle.up_hooks.specs.declared.recorder.Recorder.{Recorder};
 ghost use Rattle.up_hooks.specs.declared.teller.Teller.{Teller};
@@ -20,7 +20,7 @@ use std::thread;
 use std::thread::{Scope, Threads};
 use up_connections::{Visits, serve_connections};
 use up_dispatch::{Board, BoardParts, Ids, Naming, Report, Seat};
-use up_events::{Event, MOST_BYTES, NoMemory};
+use up_events::{Event, NoMemory};
 use up_hooks::{Outcome, PostHook, PreHooks, Recorder, Teller};
 use up_lanes::{Lane, LaneEnd};
 use up_wire::Sink;
@@ -40,18 +40,16 @@ fn attend_in<
     board: &'s Board<B>,
     lanes: Vec<Lane<H>>,
     hooks: &PreHooks,
-    max_size: u64,
     listener: &TcpListener,
     visits: &Visits,
     ids: I,
 ) -> Result<(Vec<Seat<B>>, Vec<LaneEnd<H>>), AllocError>
     requires lanes { EachAt (λ k l. (l.lane ≡ k) × (l.queue ≡ B.queue k)) lanes.items }
-    requires small { max_size ≤ MOST_BYTES }
     ensures count { IfOk result (λ r. vec_len r.1 ≡ vec_len lanes) }
     ensures ends { IfOk result (λ r. EachAt (λ k e. H.is_sound e.hook × (e.lane ≡ k) × (e.take_end.queue ≡ B.queue k)) r.1.items) }
 {
     let running = start_all(scope, rt, alloc, board, lanes)?;
-    let seats = serve_connections(rt, alloc, board, hooks, ids, max_size, listener, visits);
+    let seats = serve_connections(rt, alloc, board, hooks, ids, listener, visits);
     let ends = end_all(rt, board, running)?;
     Ok((seats?, ends))
 }
@@ -69,13 +67,11 @@ fn attend<
     board: &Board<B>,
     lanes: Vec<Lane<H>>,
     hooks: &PreHooks,
-    max_size: u64,
     listener: &TcpListener,
     visits: &Visits,
     ids: I,
 ) -> Result<(Vec<Seat<B>>, Vec<LaneEnd<H>>), AllocError>
     requires lanes { EachAt (λ k l. (l.lane ≡ k) × (l.queue ≡ B.queue k)) lanes.items }
-    requires small { max_size ≤ MOST_BYTES }
     ensures count { IfOk result (λ r. vec_len r.1 ≡ vec_len lanes) }
     ensures ends { IfOk result (λ r. EachAt (λ k e. H.is_sound e.hook × (e.lane ≡ k) × (e.take_end.queue ≡ B.queue k)) r.1.items) }
 {
@@ -84,14 +80,9 @@ fn attend<
         rt,
         move |scope| -> Result<(Vec<Seat<B>>, Vec<LaneEnd<H>>), AllocError>
             requires lanes { EachAt (λ k l. (l.lane ≡ k) × (l.queue ≡ B.queue k)) lanes.items }
-            requires small { max_size ≤ MOST_BYTES }
             ensures count { IfOk result (λ r. vec_len r.1 ≡ vec_len lanes) }
             ensures ends { IfOk result (λ r. EachAt (λ k e. H.is_sound e.hook × (e.lane ≡ k) × (e.take_end.queue ≡ B.queue k)) r.1.items) }
-        {
-            attend_in(
-                scope, rt, alloc, board, lanes, hooks, max_size, listener, visits, ids,
-            )
-        },
+        { attend_in(scope, rt, alloc, board, lanes, hooks, listener, visits, ids) },
     )
 }
 
@@ -107,27 +98,16 @@ fn run<B: Naming + Send + Sync, H: PostHook + Drop, I: Ids + Send + Drop, T: Thr
     visits: &Visits,
     ids: I,
 ) -> Result<Report<H>, NoMemory>
-    requires name { parts.name ≡ B.name }
-    requires parts { parts.parts ≡ B.parts }
-    requires queues { NamesQueues B.queue parts.queues }
-    requires lanes { length parts.queues ≡ settings.now.lanes }
+    requires named { IsNamed B.name B.parts B.queue B.lanes parts }
+    requires lanes { settings.now.lanes ≡ B.lanes }
+    requires sized { settings.now.max_size ≡ B.max_size }
     requires one_for_each { vec_len post_hooks ≡ settings.now.lanes }
     requires new { All (λ h. H.is_sound h × (H.handed h ≡ [])) post_hooks.items }
     ensures report { IfOk result (λ r. IsReportOf H.handed settings.now.lanes r) }
     ensures sound { IfOk result (λ r. All (λ x. H.is_sound x.hook) r.lanes.items) }
 {
     let (board, lanes) = boards::open::<B, _>(alloc, parts, post_hooks, settings)?;
-    let (seats, ends) = attend(
-        rt,
-        alloc,
-        &board,
-        lanes,
-        hooks,
-        settings.max_size,
-        listener,
-        visits,
-        ids,
-    )?;
+    let (seats, ends) = attend(rt, alloc, &board, lanes, hooks, listener, visits, ids)?;
     boards::finish(alloc, board, seats, ends)
 }
 

@@ -1,8 +1,8 @@
 //! One conversation on a new board, with each lane in a thread of its own.
-ghost use Rattle.std.specs.Prelude.{◌≡◌, ◌≤◌, IfOk, vec_len, [], length, All};
+ghost use Rattle.std.specs.Prelude.{◌≡◌, IfOk, vec_len, [], length, All};
 ghost use Rattle.up_hooks.specs.Gives.{ClosuresGive};
 ghost use Rattle.up_dispatch.specs.Lists.{EachAt};
-ghost use Rattle.up_dispatch.specs.Parts.{NamesQueues};
+ghost use Rattle.up_dispatch.specs.Parts.{IsNamed};
 ghost use Rattle.up_server.specs.Seats.{IsServedFrom};
 ghost use Rattle.up_server.specs.Run.{IsRun};
 
@@ -16,7 +16,7 @@ use std::thread;
 use std::thread::{Scope, Threads};
 use up_connections::converse_at;
 use up_dispatch::{Board, BoardParts, Counting, Ended, Naming, Report, Seat};
-use up_events::{MOST_BYTES, NoMemory};
+use up_events::NoMemory;
 use up_hooks::{PostHook, PreHooks};
 use up_lanes::{Lane, LaneEnd};
 use up_wire::{Sink, Source};
@@ -42,18 +42,14 @@ fn converse_from<B: Naming, R: Source, W: Sink, T: Wait>(
     board: &Board<B>,
     seat: &mut Seat<B>,
     hooks: &PreHooks,
-    max_size: u64,
     source: &mut R,
     sink: &mut W,
 ) -> Ended
-    requires small { max_size ≤ MOST_BYTES }
-    ensures served { IsServedFrom B.queue (ClosuresGive hooks.now) max_size seat.old seat.new
+    ensures served { IsServedFrom B.queue B.lanes (ClosuresGive hooks.now) B.max_size seat.old seat.new
         (R.device source.old) (R.device source.new) (W.device sink.old) (W.device sink.new) result }
 {
     let mut ids = Counting::new();
-    converse_at(
-        rt, alloc, board, seat, hooks, &mut ids, max_size, source, sink,
-    )
+    converse_at(rt, alloc, board, seat, hooks, &mut ids, source, sink)
 }
 
 /// Starts the lanes in the scope, serves one conversation from the seat, closes the board, and waits for the lanes.
@@ -73,19 +69,17 @@ fn drive_in<
     seat: &mut Seat<B>,
     lanes: Vec<Lane<H>>,
     hooks: &PreHooks,
-    max_size: u64,
     source: &mut R,
     sink: &mut W,
 ) -> Result<Driven<H>, AllocError>
     requires lanes { EachAt (λ k l. (l.lane ≡ k) × (l.queue ≡ B.queue k)) lanes.items }
-    requires small { max_size ≤ MOST_BYTES }
     ensures count { IfOk result (λ d. vec_len d.lanes ≡ vec_len lanes) }
     ensures ends { IfOk result (λ d. EachAt (λ k e. H.is_sound e.hook × (e.lane ≡ k) × (e.take_end.queue ≡ B.queue k)) d.lanes.items) }
-    ensures served { IfOk result (λ d. IsServedFrom B.queue (ClosuresGive hooks.now) max_size seat.old seat.new
+    ensures served { IfOk result (λ d. IsServedFrom B.queue B.lanes (ClosuresGive hooks.now) B.max_size seat.old seat.new
         (R.device source.old) (R.device source.new) (W.device sink.old) (W.device sink.new) d.ended) }
 {
     let running = start_all(scope, rt, alloc, board, lanes)?;
-    let ended = converse_from(rt, alloc, board, seat, hooks, max_size, source, sink);
+    let ended = converse_from(rt, alloc, board, seat, hooks, source, sink);
     let lanes = end_all(rt, board, running)?;
     Ok(Driven { ended, lanes })
 }
@@ -103,15 +97,13 @@ fn drive<B: Naming + Send + Sync, H: PostHook + Drop, R: Source, W: Sink, T: Thr
     seat: &mut Seat<B>,
     lanes: Vec<Lane<H>>,
     hooks: &PreHooks,
-    max_size: u64,
     source: &mut R,
     sink: &mut W,
 ) -> Result<Driven<H>, AllocError>
     requires lanes { EachAt (λ k l. (l.lane ≡ k) × (l.queue ≡ B.queue k)) lanes.items }
-    requires small { max_size ≤ MOST_BYTES }
     ensures count { IfOk result (λ d. vec_len d.lanes ≡ vec_len lanes) }
     ensures ends { IfOk result (λ d. EachAt (λ k e. H.is_sound e.hook × (e.lane ≡ k) × (e.take_end.queue ≡ B.queue k)) d.lanes.items) }
-    ensures served { IfOk result (λ d. IsServedFrom B.queue (ClosuresGive hooks.now) max_size seat.old seat.new
+    ensures served { IfOk result (λ d. IsServedFrom B.queue B.lanes (ClosuresGive hooks.now) B.max_size seat.old seat.new
         (R.device source.old) (R.device source.new) (W.device sink.old) (W.device sink.new) d.ended) }
 {
     let (driven, seat, source, sink) = thread::scope(
@@ -119,18 +111,15 @@ fn drive<B: Naming + Send + Sync, H: PostHook + Drop, R: Source, W: Sink, T: Thr
         rt,
         move |scope| -> (Result<Driven<H>, AllocError>, &mut Seat<B>, &mut R, &mut W)
             requires lanes { EachAt (λ k l. (l.lane ≡ k) × (l.queue ≡ B.queue k)) lanes.items }
-            requires small { max_size ≤ MOST_BYTES }
             ensures count { IfOk result.0 (λ d. vec_len d.lanes ≡ vec_len lanes) }
             ensures ends { IfOk result.0 (λ d. EachAt (λ k e. H.is_sound e.hook × (e.lane ≡ k) × (e.take_end.queue ≡ B.queue k)) d.lanes.items) }
             ensures same_seat { result.1.ghost_name ≡ seat.entry.ghost_name }
             ensures same_source { result.2.ghost_name ≡ source.entry.ghost_name }
             ensures same_sink { result.3.ghost_name ≡ sink.entry.ghost_name }
-            ensures served { IfOk result.0 (λ d. IsServedFrom B.queue (ClosuresGive hooks.entry.now) max_size seat.entry.now result.1.now
+            ensures served { IfOk result.0 (λ d. IsServedFrom B.queue B.lanes (ClosuresGive hooks.entry.now) B.max_size seat.entry.now result.1.now
                 (R.device source.entry.now) (R.device result.2.now) (W.device sink.entry.now) (W.device result.3.now) d.ended) }
         {
-            let driven = drive_in(
-                scope, rt, alloc, board, seat, lanes, hooks, max_size, source, sink,
-            );
+            let driven = drive_in(scope, rt, alloc, board, seat, lanes, hooks, source, sink);
             (driven, seat, source, sink)
         },
     );
@@ -157,10 +146,9 @@ pub fn run<
     source: &mut R,
     sink: &mut W,
 ) -> Result<Served<H>, NoMemory>
-    requires name { parts.name ≡ B.name }
-    requires parts { parts.parts ≡ B.parts }
-    requires queues { NamesQueues B.queue parts.queues }
-    requires lanes { length parts.queues ≡ settings.now.lanes }
+    requires named { IsNamed B.name B.parts B.queue B.lanes parts }
+    requires lanes { settings.now.lanes ≡ B.lanes }
+    requires sized { settings.now.max_size ≡ B.max_size }
     requires one_for_each { vec_len post_hooks ≡ settings.now.lanes }
     requires new { All (λ h. H.is_sound h × (H.handed h ≡ [])) post_hooks.items }
     ensures run { IfOk result (λ served. IsRun H.handed B.queue (ClosuresGive hooks.now) settings.now served
@@ -171,17 +159,7 @@ pub fn run<
     let Some(mut seat) = board.seat(rt) else {
         return Err(NoMemory);
     };
-    let Driven { ended, lanes } = drive(
-        rt,
-        alloc,
-        &board,
-        &mut seat,
-        lanes,
-        hooks,
-        settings.max_size,
-        source,
-        sink,
-    )?;
+    let Driven { ended, lanes } = drive(rt, alloc, &board, &mut seat, lanes, hooks, source, sink)?;
     let mut seats = Vec::with_capacity(alloc, 1)?;
     seats.push(seat)?;
     let report = boards::finish(alloc, board, seats, lanes)?;

@@ -1,6 +1,7 @@
 //! What a run of the server is given.
 ghost use Rattle.std.specs.Prelude.{◌≡◌, ℕ, ◌≤◌, Some};
 ghost use Rattle.up_events.specs.declared.limits.TheConstants.{MOST_BYTES, MOST_LANES};
+ghost use Rattle.up_server.specs.Limits.{most_capacity, most_connections, most_open};
 ghost use Rattle.up_server.specs.declared.settings.TheConstants.{MOST_CAPACITY, MOST_CONNECTIONS, MOST_OPEN};
 
 /// The most items that the queue of a lane holds.
@@ -11,6 +12,13 @@ pub const MOST_CONNECTIONS: u64 = 65_536;
 
 /// The most connections that are open at a time.
 pub const MOST_OPEN: u64 = 4096;
+
+/// The limits are exactly the numbers of `specs/Limits.antt`.
+pub fn limits_are_exact()
+    ensures capacity { MOST_CAPACITY ≡ most_capacity }
+    ensures connections { MOST_CONNECTIONS ≡ most_connections }
+    ensures at_a_time { MOST_OPEN ≡ most_open }
+{}
 
 /// The size of a server.
 #[derive(Clone, Copy, Debug, PartialEq, Eq)]
@@ -46,6 +54,8 @@ pub struct Serving {
     pub connections: Option<u64>,
     /// How many connections are open at a time, from 1 to 4,096.
     pub open: u64,
+    /// Whether each event is written as a line as it is handed over.
+    pub events: bool,
     ghost connections_within: { (count : ℕ) → connections ≡ Some count → (1 ≤ count) × (count ≤ MOST_CONNECTIONS) },
     ghost open_within: { (1 ≤ «open») × («open» ≤ MOST_OPEN) },
 }
@@ -62,8 +72,6 @@ pub struct Words {
     pub keep: bool,
     /// The most bytes with which an upload may be complete.
     pub max_finish: Option<u64>,
-    /// Whether each event is written as a line as it is handed over.
-    pub events: bool,
     /// Where connections are served. Where there is none, standard input is.
     pub serve: Option<Serving>,
 }

@@ -3,6 +3,7 @@ ghost use Rattle.std.specs.Prelude.{◌≡◌, IsTrue, length};
 ghost use Rattle.up_dispatch.specs.Parts.{IsNamed};
 ghost use Rattle.up_hooks.specs.Verdicts.{is_lawful};
 
+use crate::conversations::talk;
 use crate::gate::{Gate, HEAD, POST};
 use std::alloc::Global;
 use std::marker::{Brand, Send, Sync};
@@ -11,15 +12,14 @@ use std::sync::{Arc, Wait};
 use std::test::Fail;
 use std::thread;
 use std::thread::Threads;
-use up_dispatch::{Board, BoardParts, Counting, Ended, Naming, Seat, Seated, converse};
+use up_dispatch::{Board, BoardParts, Counting, Ended, Naming, Seat, Seated};
 use up_hooks::{PreHook, PreHooks};
 use up_machine::{Ask, Point, Verdict};
-use up_wire::{Input, Output};
 
 const MAX_SIZE: u64 = 1 << 20;
 
 /// How a conversation from the seat ends, and what it writes.
-fn talk<B: Naming, R: Wait>(
+fn talk_from<B: Naming, R: Wait>(
     rt: &R,
     alloc: Global,
     board: &Board<B>,
@@ -27,18 +27,8 @@ fn talk<B: Naming, R: Wait>(
     hooks: &PreHooks,
     asked: &[u8],
 ) -> (Ended, Vec<u8>) {
-    let mut source = Input::new(asked);
-    let mut sink = Output::new(Vec::new(alloc));
-    let ended = converse(
-        alloc,
-        &mut Seated::new(rt, board, seat),
-        hooks,
-        &mut Counting::new(),
-        MAX_SIZE,
-        &mut source,
-        &mut sink,
-    );
-    (ended, sink.into_inner())
+    let mut keeper = Seated::new(rt, board, seat);
+    talk(alloc, &mut keeper, hooks, &mut Counting::new(), asked)
 }
 
 /// Asks from the seat once the closure was called.
@@ -51,7 +41,7 @@ fn talk_meanwhile<B: Naming, R: Wait>(
     gate: &Gate,
 ) -> (bool, Vec<u8>) {
     let was_called = gate.is_called_in_time();
-    let (_, written) = talk(rt, alloc, board, &mut seat, hooks, HEAD);
+    let (_, written) = talk_from(rt, alloc, board, &mut seat, hooks, HEAD);
     gate.open();
     (was_called, written)
 }
@@ -69,7 +59,7 @@ fn talk_from_two_seats<B: Naming + Send + Sync, R: Threads + Wait + Abort + Sync
     };
     let ((ended, made), (was_called, shown)) = thread::join(
         rt,
-        || talk(rt, alloc, board, &mut first, hooks, POST),
+        || talk_from(rt, alloc, board, &mut first, hooks, POST),
         || talk_meanwhile(rt, alloc, board, second, hooks, gate),
     );
     assert_eq!(rt; (was_called, ended), (true, Ended::Closed));
@@ -86,8 +76,9 @@ fn two_seats<B: Naming + Send + Sync, R: Threads + Wait + Abort + Sync>(
     hooks: &PreHooks,
     gate: &Gate,
 ) -> Result<(), Fail>
-    requires named { IsNamed B.name B.parts B.queue parts }
+    requires named { IsNamed B.name B.parts B.queue B.lanes parts }
     requires lanes { length parts.queues ≡ 2 }
+    requires sized { B.max_size ≡ 1048576 }
 {
     let (board, _takes) = Board::<B>::new(alloc, parts, MAX_SIZE)?;
     talk_from_two_seats(rt, alloc, &board, hooks, gate)

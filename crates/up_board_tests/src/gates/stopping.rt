@@ -2,8 +2,8 @@
 ghost use Rattle.std.specs.Prelude.{◌≡◌, All, [], IfOk, length};
 ghost use Rattle.up_dispatch.specs.Parts.{IsNamed};
 
-use crate::beside::{open_board, run_beside};
-use crate::board::fifteen;
+use crate::beside::{finished, open_board, run_beside};
+use crate::fifteen::{events_of_lane_0, fifteen};
 use crate::lanes::parts::Listing;
 use std::alloc::{AllocError, Global};
 use std::marker::{Brand, Send, Sync};
@@ -13,33 +13,8 @@ use std::test::Fail;
 use std::thread;
 use std::thread::Threads;
 use up_dispatch::{Board, BoardParts, LaneReport, Naming, Report, Seat, Seated};
-use up_events::{Event, Hook, Id};
 use up_hooks::PostHook;
 use up_lanes::{How, Lane, LaneEnd};
-
-fn event(id: u128, number: u64, hook: Hook, offset: u64) -> Event {
-    Event {
-        id: Id::new(id),
-        number,
-        hook,
-        offset,
-        length: Some(2),
-    }
-}
-
-/// What lane 0 is to be handed of five uploads of two bytes that get a byte each, and then each the other: those of uploads 2 and 4.
-fn wanted() -> [Event; 8] {
-    [
-        event(2, 1, Hook::Create, 0),
-        event(4, 1, Hook::Create, 0),
-        event(2, 2, Hook::Receive, 1),
-        event(4, 2, Hook::Receive, 1),
-        event(2, 3, Hook::Receive, 2),
-        event(2, 4, Hook::Finish, 2),
-        event(4, 3, Hook::Receive, 2),
-        event(4, 4, Hook::Finish, 2),
-    ]
-}
 
 /// The requests are answered from the seat.
 fn answered<B: Naming, R: Wait + Abort>(
@@ -106,8 +81,9 @@ fn stopped<B: Naming + Send + Sync, R: Threads + Wait + Abort + Sync>(
     hooks: (Listing, Listing),
     is_resumed: bool,
 ) -> Result<Report<Listing>, Fail>
-    requires named { IsNamed B.name B.parts B.queue parts }
+    requires named { IsNamed B.name B.parts B.queue B.lanes parts }
     requires lanes { length parts.queues ≡ 2 }
+    requires sized { B.max_size ≡ 1048576 }
     requires first { ⟦<Listing as PostHook>⟧.handed hooks.0 ≡ [] }
     requires second { ⟦<Listing as PostHook>⟧.handed hooks.1 ≡ [] }
 {
@@ -116,16 +92,19 @@ fn stopped<B: Naming + Send + Sync, R: Threads + Wait + Abort + Sync>(
         return Err("a seat".into());
     };
     let shared = &board;
-    let (seat, ends) = run_beside(rt, shared, lanes, || answered(rt, alloc, shared, seat));
+    let (seat, ends) = run_beside(
+        rt,
+        shared,
+        shared,
+        lanes,
+        || answered(rt, alloc, shared, seat),
+    );
     let (seat, ends) = (seat?, ends?);
     has_stopped(rt, &ends)?;
     let ends = ends_of(rt, &board, ends, is_resumed)?;
     let mut seats = Vec::new(alloc);
     seats.push(seat)?;
-    match board.finish(alloc, seats, ends) {
-        Ok(report) => Ok(report),
-        Err(_) => Err("all are back".into()),
-    }
+    finished(alloc, board, seats, ends)
 }
 
 /// That report, where the post-hook of lane 0 is refused memory so often once it has two events.
@@ -159,7 +138,10 @@ fn hold(
     assert_eq!(rt; report.accepted.len(), 15);
     assert_eq!(rt; told(first), (0, how, left, count));
     assert_eq!(rt; told(second), (1, How::Drained, 0, 12));
-    assert_eq!(rt; Some(first.hook.events.as_slice()), wanted().get(..count));
+    assert_eq!(rt;
+        Some(first.hook.events.as_slice()),
+        events_of_lane_0().get(..count)
+    );
     Ok(())
 }
 

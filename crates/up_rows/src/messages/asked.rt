@@ -3,6 +3,7 @@ use crate::row_fault::RowFault;
 use http::Method;
 use std::alloc::{AllocError, Global};
 use std::fmt::Write;
+use up_events::Id;
 use up_headers::{
     HeaderFault, MetadataFault, NewUpload, Pairs, Patch, Request, pairs_of, request_of,
 };
@@ -178,4 +179,12 @@ pub fn faults(alloc: Global) -> Result<String, RowFault> {
     push_header_faults(&mut words)?;
     write!(words, "{}", MetadataFault::NoMemory)?;
     Ok(words)
+}
+
+/// The id that has this text, or "none".
+pub fn id(alloc: Global, text: &[u8]) -> Result<String, RowFault> {
+    match Id::parse(text) {
+        Some(id) => Ok(format!(in alloc; "{id:?}")?),
+        None => Ok(String::from_str(alloc, "none")?),
+    }
 }

@@ -4,6 +4,7 @@ ghost use Rattle.std.specs.Prelude.{None};
 
 use std::alloc::Global;
 use std::cell::Cell;
+use std::io::{self, Read};
 use up_wire::{NextByte, Sink, Source, WriteSome};
 
 /// How often a device is interrupted before its first byte, and before each byte behind that.
@@ -70,6 +71,23 @@ impl<'a> Source for WaitingSource<'a> {
             return NextByte::Failed;
         }
         NextByte::End
+    }
+}
+
+/// A reader that gives its bytes one at each call.
+#[derive(Drop)]
+pub struct Drops<'a> {
+    pub bytes: &'a [u8],
+}
+
+impl<'a> Read for Drops<'a> {
+    fn read(&mut self, buf: &mut [u8]) -> io::Result<usize> {
+        let ([first, rest @ ..], Some(place)) = (self.bytes, buf.first_mut()) else {
+            return Ok(0);
+        };
+        *place = *first;
+        self.bytes = rest;
+        Ok(1)
     }
 }
 

@@ -1,11 +1,12 @@
 //! What messages are, in words: "POST / Host: a; [body] close asked rest [GET]", where `100 Continue` was sent on and bytes stay
 //! unread, "cut POST / [bo]", "3 BadFraming bare", or "end".
 use crate::messages::Messages;
-use crate::messages::devices::{WaitingSink, WaitingSource};
+use crate::messages::devices::{Drops, WaitingSink, WaitingSource};
 use crate::row_fault::RowFault;
 use std::alloc::{AllocError, Global};
 use std::cell::Cell;
 use std::fmt::Write;
+use std::io::BufReader;
 use up_message::Message;
 use up_wire::{Input, Limits, Source, Taken, read_message};
 
@@ -158,6 +159,25 @@ fn by_slice(
     Ok(words)
 }
 
+/// What is read of a reader that gives one byte at a time.
+fn by_drops(
+    alloc: Global,
+    rows: &Messages,
+    input: &[u8],
+    calls: usize,
+) -> Result<String, RowFault> {
+    let mut words = String::new(alloc);
+    let asks = Cell::new(0);
+    let Ok(reader) = BufReader::new(alloc, Drops { bytes: input }) else {
+        return Err(RowFault::Memory(AllocError));
+    };
+    let mut source = Input::new(reader);
+    if read_all(alloc, rows, &mut source, &asks, calls, false, &mut words)? {
+        push_rest(&mut words, source.into_inner().get_ref().bytes)?;
+    }
+    Ok(words)
+}
+
 /// The words of two ways, once where they are the same.
 fn joined(mut one: String, other: &str) -> Result<String, RowFault> {
     if one.as_str() != other {
@@ -167,7 +187,7 @@ fn joined(mut one: String, other: &str) -> Result<String, RowFault> {
     Ok(one)
 }
 
-/// What is read byte by byte and of a slice.
+/// What is read byte by byte, of a slice, and of a reader.
 pub fn either_way(
     alloc: Global,
     rows: &Messages,
@@ -175,8 +195,10 @@ pub fn either_way(
     calls: usize,
 ) -> Result<String, RowFault> {
     let by_slice = by_slice(alloc, rows, input, calls)?;
+    let by_drops = by_drops(alloc, rows, input, calls)?;
     let by_bytes = by_bytes(alloc, rows, input, false, calls, false)?;
-    joined(by_bytes, by_slice.as_str())
+    let both = joined(by_bytes, by_slice.as_str())?;
+    joined(both, by_drops.as_str())
 }
 
 /// What is read where the input ends, and where a read fails.

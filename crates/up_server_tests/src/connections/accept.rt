@@ -1,6 +1,6 @@
 //! Connections over sockets of this machine.
 ghost use Rattle.std.specs.Prelude.{◌≡◌, length};
-ghost use Rattle.up_dispatch.specs.Parts.{NamesQueues};
+ghost use Rattle.up_dispatch.specs.Parts.{IsNamed};
 
 use crate::clients::{ask_each, hold_answer};
 use std::alloc::Global;
@@ -24,15 +24,14 @@ fn counts<B: Naming + Send + Sync, T: Threads + Wait + Sync>(
     listener: &TcpListener,
     visits: &Visits,
 ) -> Result<Vec<u64>, Fail>
-    requires name { parts.name ≡ B.name }
-    requires parts { parts.parts ≡ B.parts }
-    requires queues { NamesQueues B.queue parts.queues }
+    requires named { IsNamed B.name B.parts B.queue B.lanes parts }
     requires lanes { length parts.queues ≡ 1 }
+    requires sized { B.max_size ≡ 1024 }
 {
     let (board, _takes) = Board::<B>::new(alloc, parts, 1_024)?;
     let hooks = PreHooks::new(Vec::new(alloc));
     let ids = Counting::new();
-    let seats = serve_connections(rt, alloc, &board, &hooks, ids, 1_024, listener, visits)?;
+    let seats = serve_connections(rt, alloc, &board, &hooks, ids, listener, visits)?;
     let mut counts = Vec::new(alloc);
     for seat in seats {
         counts.push(seat.count())?;

@@ -1,6 +1,6 @@
 //! Seats that are taken, put back and taken again.
 ghost use Rattle.std.specs.Prelude.{◌≡◌, length};
-ghost use Rattle.up_dispatch.specs.Parts.{NamesQueues};
+ghost use Rattle.up_dispatch.specs.Parts.{IsNamed};
 
 use std::alloc::Global;
 use std::marker::Brand;
@@ -25,10 +25,9 @@ fn taken_again<B: Naming, R: Wait + Abort>(
     alloc: Global,
     parts: BoardParts,
 ) -> Result<(), Fail>
-    requires name { parts.name ≡ B.name }
-    requires parts { parts.parts ≡ B.parts }
-    requires queues { NamesQueues B.queue parts.queues }
+    requires named { IsNamed B.name B.parts B.queue B.lanes parts }
     requires lanes { length parts.queues ≡ 1 }
+    requires sized { B.max_size ≡ 1 }
 {
     let (board, _takes) = Board::<B>::new(alloc, parts, 1)?;
     let seats = Seats::new(alloc, 2)?;

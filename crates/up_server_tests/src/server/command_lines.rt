@@ -117,18 +117,22 @@ fn reads_rules(rt: HostRuntime) -> Result<(), Fail> {
     Ok(())
 }
 
-/// The address, the connections and the open ones, where connections are served, and whether events are written.
-fn connections(words: &Words) -> (Option<(&str, Option<u64>, u64)>, bool) {
-    let served = match &words.serve {
-        Some(serving) => Some((serving.address.as_str(), serving.connections, serving.open)),
+/// The address, the connections, the open ones and whether events are written, where connections are served.
+fn connections(words: &Words) -> Option<(&str, Option<u64>, u64, bool)> {
+    match &words.serve {
+        Some(serving) => Some((
+            serving.address.as_str(),
+            serving.connections,
+            serving.open,
+            serving.events,
+        )),
         None => None,
-    };
-    (served, words.events)
+    }
 }
 
 /// Words, and the address, the connections and the open ones that they ask for, and whether events are written.
-const CONNECTIONS: [(&[&str], (Option<(&str, Option<u64>, u64)>, bool)); 6] = [
-    (&["serve"], (Some(("127.0.0.1:1080", None, 1024)), false)),
+const CONNECTIONS: [(&[&str], Option<(&str, Option<u64>, u64, bool)>); 6] = [
+    (&["serve"], Some(("127.0.0.1:1080", None, 1024, false))),
     (
         &[
             "serve",
@@ -139,18 +143,18 @@ const CONNECTIONS: [(&[&str], (Option<(&str, Option<u64>, u64)>, bool)); 6] = [
             "--open",
             "1",
         ],
-        (Some(("[::1]:0", Some(1), 1)), false),
+        Some(("[::1]:0", Some(1), 1, false)),
     ),
     (
         &["serve", "--connections", "65536", "--open", "4096"],
-        (Some(("127.0.0.1:1080", Some(65_536), 4096)), false),
+        Some(("127.0.0.1:1080", Some(65_536), 4096, false)),
     ),
-    (&["serve", "--address="], (Some(("", None, 1024)), false)),
+    (&["serve", "--address="], Some(("", None, 1024, false))),
     (
         &["serve", "--events", "--lanes", "3"],
-        (Some(("127.0.0.1:1080", None, 1024)), true),
+        Some(("127.0.0.1:1080", None, 1024, true)),
     ),
-    (&["replay", "--events"], (None, true)),
+    (&["replay"], None),
 ];
 
 #[test]
@@ -187,13 +191,13 @@ fn reads_sizes_and_rules_of_connections(rt: HostRuntime) -> Result<(), Fail> {
         (3, 5, 7)
     );
     assert_eq!(rt; rules(&found), (Some("a"), Some(4), true));
-    assert_eq!(rt; (found.max_finish, found.events), (Some(6), false));
+    assert_eq!(rt; found.max_finish, Some(6));
     Ok(())
 }
 
 #[test]
 fn refuses_other_words(rt: HostRuntime) -> Result<(), Fail> {
-    let lines: [&[&str]; 31] = [
+    let lines: [&[&str]; 32] = [
         &["replay", "--lanes", "0"],
         &["replay", "--lanes", "17"],
         &["replay", "--capacity", "0"],
@@ -215,7 +219,8 @@ fn refuses_other_words(rt: HostRuntime) -> Result<(), Fail> {
         &["--keep", "replay"],
         &["replay", "filename"],
         &["replay", "--address", "127.0.0.1:0"],
-        &["replay", "--events", "--events"],
+        &["replay", "--events"],
+        &["serve", "--events", "--events"],
         &["serve", "--connections", "0"],
         &["serve", "--connections", "65537"],
         &["serve", "--connections"],

@@ -1,4 +1,4 @@
-use Rattle.std.proofs.Common.{◌≡◌, ◌<◌, length, sym, ◌∙◌, subst, arith}
+use Rattle.std.proofs.Common.{◌<◌, length, sym, ◌∙◌, subst, arith}
 use Rattle.up_dispatch.proofs.Drops.{there}
 use Rattle.up_dispatch.specs.Reports.{HandOver, TellEachUpload}
 use Rattle.up_server.proofs.boards.finish.Goals as goal

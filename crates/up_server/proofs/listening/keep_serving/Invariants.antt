@@ -1,4 +1,4 @@
-use Rattle.std.specs.Prelude.{slice_index_or}
+use Rattle.std.specs.Prelude.{length, slice_index_or}
 use Rattle.up_queue.specs.Sides.{no_queue}
 use Rattle.up_server.proofs.listening.keep_serving.Given as goal
 
@@ -6,4 +6,8 @@ abbrev pub ghosts-run-B-Ledger : goal.ghosts-run-B-Ledger
 ghosts-run-B-Ledger g a = record { name = a.parts.name; parts = a.parts.parts }
 
 abbrev pub ghosts-run-B-Naming : goal.ghosts-run-B-Naming
-ghosts-run-B-Naming g a = record { queue = λ lane. slice_index_or a.parts.queues lane no_queue }
+ghosts-run-B-Naming g a = record {
+  queue = λ lane. slice_index_or a.parts.queues lane no_queue;
+  lanes = length a.parts.queues;
+  max_size = a.settings.now.max_size;
+}

@@ -1,4 +1,4 @@
-use Rattle.std.specs.Prelude.{slice_index_or}
+use Rattle.std.specs.Prelude.{length, slice_index_or}
 use Rattle.up_queue.specs.Sides.{no_queue}
 use Rattle.up_board_tests.proofs.gates.stopping.reported.Given as goal
 
@@ -6,4 +6,8 @@ abbrev pub ghosts-stopped-B-Ledger : goal.ghosts-stopped-B-Ledger
 ghosts-stopped-B-Ledger g a = record { name = a.parts.name; parts = a.parts.parts }
 
 abbrev pub ghosts-stopped-B-Naming : goal.ghosts-stopped-B-Naming
-ghosts-stopped-B-Naming g a = record { queue = λ lane. slice_index_or a.parts.queues lane no_queue }
+ghosts-stopped-B-Naming g a = record {
+  queue = λ lane. slice_index_or a.parts.queues lane no_queue;
+  lanes = length a.parts.queues;
+  max_size = 1048576;
+}

@@ -17,7 +17,7 @@ settle-lanes-requires-clause-fed g c κs within = λ k f e below.
     let queue : (get_or lanes k e).take_end.queue ≡ g.B.Naming.queue k =
     All-get_or (λ x. x.take_end.queue ≡ g.B.Naming.queue x.lane) lanes k e (omega (arith, below, c.args.lanes.ok.0)) c.requires.queues ∙ ap g.B.Naming.queue (c.requires.all_lanes.1 k e (omega (arith, below, c.args.lanes.ok.0))) in
     subst (λ q. IsFed q (lane_log book.journal k) book.closed (get_or c.self.inside.feeds.items k f)) (sym queue)
-    (c.self.invariant.fed k f (omega (arith, below, c.args.lanes.ok.0, c.requires.all_lanes.0, c.self.invariant.lanes, ap (λ (s : Standing). s.book.journal.lanes) c.self.view_is)))
+    (c.self.invariant.fed k f (omega (arith, below, c.args.lanes.ok.0, c.requires.all_lanes.0, c.self.invariant.named, c.self.invariant.lanes, ap (λ (s : Standing). s.book.journal.lanes) c.self.view_is)))
 
 pub returns-clause-handed : goal.returns-clause-handed
 returns-clause-handed g c = λ k d within.
@@ -26,7 +26,7 @@ returns-clause-handed g c = λ k d within.
     let handed = g.H.PostHook.handed r.hook in
     let accepted : c.into_accepted-accepted.result.items ≡ journal.accepted = c.into_accepted-accepted.ensures.items in
     let lanes : journal.lanes ≡ vec_len c.settle-lanes.result =
-    omega (arith, c.settle-lanes.ensures.count, c.requires.all_lanes.0, c.args.lanes.ok.0, ap (λ (s : Standing). s.book.journal.lanes) c.self.view_is) in
+    omega (arith, c.settle-lanes.ensures.count, c.requires.all_lanes.0, c.self.invariant.named, c.args.lanes.ok.0) in
     subst (λ n. IsHandedOver (log_of n c.into_accepted-accepted.result.items k) handed (is_drained r.how) r.left) lanes
     (subst (λ (l : List Accepted). IsHandedOver (log_of journal.lanes l k) handed (is_drained r.how) r.left) (sym accepted) (c.settle-lanes.ensures.handed k d within))
 

@@ -13,7 +13,7 @@ returns-then-feed-all g c =
     let is : feed ≡ get_or i.feeds.items c.args.lane feed = search rules in
     let log = c.log_len-all.ensures ∙ ap (λ j. length (lane_log j c.args.lane)) c.journal.ensures.journal in (
       λ all. subst (λ s. IsIdle s c.args.lane c.args.taken) c.self.view_is
-          (idle_if g.B.Naming.queue i.book i.feeds.items i.given i.total.total i.rest.parts i.rest.amount c.args.lane c.args.taken feed c.self.invariant within is
+          (idle_if g.B.Naming.queue g.B.Naming.lanes g.B.Naming.max_size i.book i.feeds.items i.given i.total.total i.rest.parts i.rest.amount c.args.lane c.args.taken feed c.self.invariant within is
           (sym c.is_closed.ensures ∙ c.if-is_closed.false) (c.if-feed-all.true ∙ log) (sym (eqb-true _ _ all) ∙ log)),
       λ idle. eq-eqb _ _ (sym (idle.taken_all ∙ ap (λ s. length (lane_log s.book.journal c.args.lane)) (sym c.self.view_is) ∙ sym log)),
     )
@@ -26,6 +26,6 @@ returns-else-feed-all g c =
     let is : feed ≡ get_or i.feeds.items c.args.lane feed = search rules in
     let log = c.log_len-all.ensures ∙ ap (λ j. length (lane_log j c.args.lane)) c.journal.ensures.journal in (
       λ all. absurd (c.if-feed-all.false (eqb-true _ _ all)),
-      λ idle. absurd (c.if-feed-all.false (cursor_if g.B.Naming.queue i.book i.feeds.items i.given i.total.total i.rest.parts i.rest.amount c.args.lane c.args.taken feed c.self.invariant within is
+      λ idle. absurd (c.if-feed-all.false (cursor_if g.B.Naming.queue g.B.Naming.lanes g.B.Naming.max_size i.book i.feeds.items i.given i.total.total i.rest.parts i.rest.amount c.args.lane c.args.taken feed c.self.invariant within is
           (subst (λ s. IsIdle s c.args.lane c.args.taken) (sym c.self.view_is) idle) ∙ sym log)),
     )

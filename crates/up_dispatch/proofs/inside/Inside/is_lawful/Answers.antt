@@ -6,4 +6,4 @@ use Rattle.up_dispatch.proofs.inside.Inside.is_lawful.Goals as goal
 pub returns : goal.returns
 returns g c =
     let i = c.self.inside in
-    subst (IsLawfulStanding g.B.Naming.queue) c.self.view_is (standing_lawful g.B.Naming.queue i.book i.feeds.items i.given i.total.total i.rest.parts i.rest.amount c.self.invariant)
+    subst (IsLawfulStanding g.B.Naming.queue g.B.Naming.lanes g.B.Naming.max_size) c.self.view_is (standing_lawful g.B.Naming.queue g.B.Naming.lanes g.B.Naming.max_size i.book i.feeds.items i.given i.total.total i.rest.parts i.rest.amount c.self.invariant)

@@ -1,0 +1,277 @@
+//! Boards that are not finished at the first try: what was given comes back, and serves on as before.
+ghost use Rattle.std.specs.Prelude.{◌≡◌, All, [], length};
+ghost use Rattle.up_dispatch.specs.Parts.{IsNamed};
+
+use crate::beside::{finished, open_board, run_beside, run_each};
+use crate::board::{makes, seats_left};
+use crate::fifteen::status_of;
+use crate::requests::append;
+use std::alloc::Global;
+use std::marker::{Brand, Send, Sync};
+use std::process::Abort;
+use std::sync::Wait;
+use std::sync::atomic::{AtomicU64, Ordering};
+use std::test::Fail;
+use std::thread::{Parker, Threads};
+use std::time::Duration;
+use up_dispatch::{
+    Board, BoardParts, FinishFault, LaneReport, Naming, Report, Seat, Seated, Unfinished,
+};
+use up_events::{Event, Id};
+use up_hooks::{Outcome, PostHook, Recorder};
+use up_lanes::{How, LaneEnd, Refill};
+
+/// A board as its lanes see it, and how often they went to sleep and woke.
+#[derive(Drop)]
+struct Watched<B: Naming> {
+    board: Board<B>,
+    asleep: AtomicU64,
+    awake: AtomicU64,
+}
+
+impl<B: Naming> Watched<B> {
+    fn new(board: Board<B>) -> Watched<B> {
+        Watched {
+            board,
+            asleep: AtomicU64::new(0),
+            awake: AtomicU64::new(0),
+        }
+    }
+
+    /// How often a lane went to sleep, and how often one woke.
+    fn counts(&self) -> (u64, u64) {
+        (
+            self.asleep.load(Ordering::SeqCst),
+            self.awake.load(Ordering::SeqCst),
+        )
+    }
+
+    /// Waits until these are the counts, for ten seconds at most, and then for a twentieth of a second more, and gives the counts.
+    fn settled<R: Wait>(&self, rt: &R, wanted: (u64, u64)) -> (u64, u64) {
+        let alarm = Parker::new();
+        for _ in 0..10_000u32 {
+            if self.counts() == wanted {
+                break;
+            }
+            alarm.park_timeout(rt, Duration::from_millis(1));
+        }
+        alarm.park_timeout(rt, Duration::from_millis(50));
+        self.counts()
+    }
+}
+
+impl<B: Naming + Send + Sync> Refill for Watched<B> {
+    fn refill<R: Wait>(&self, rt: &R, lane: u64) {
+        self.board.refill(rt, lane);
+    }
+
+    fn wait<R: Wait>(&self, rt: &R, lane: u64, taken: u64) {
+        self.asleep.fetch_add(1, Ordering::SeqCst);
+        self.board.wait(rt, lane, taken);
+        self.awake.fetch_add(1, Ordering::SeqCst);
+    }
+}
+
+/// The board, once it was not finished since a seat is missing.
+fn without_a_seat<B: Naming, H: PostHook + Drop, R: Abort>(
+    rt: &R,
+    alloc: Global,
+    board: Board<B>,
+    ends: Vec<LaneEnd<H>>,
+) -> Result<Board<B>, Fail>
+    requires own { All (λ e. e.take_end.queue ≡ B.queue e.lane) ends.items }
+{
+    let Err(Unfinished { fault, board, .. }) = board.finish(alloc, Vec::new(alloc), ends) else {
+        return Err("a seat is out".into());
+    };
+    assert_eq!(rt; fault, FinishFault::SeatsOut);
+    Ok(board)
+}
+
+/// Puts a byte into the upload 1 once both lanes sleep, and waits until its lane was woken and sleeps again.
+fn wakes<B: Naming, R: Wait + Abort>(
+    rt: &R,
+    alloc: Global,
+    watched: &Watched<B>,
+    mut seat: Seat<B>,
+) -> Result<Seat<B>, Fail> {
+    assert_eq!(rt; watched.settled(rt, (2, 0)), (2, 0));
+    let request = append(alloc, Id::new(1), 0, b"a")?;
+    let mut keeper = Seated::new(rt, &watched.board, &mut seat);
+    assert_eq!(rt; status_of(alloc, &mut keeper, request, Id::new(0)), 204);
+    assert_eq!(rt; watched.settled(rt, (3, 1)), (3, 1));
+    Ok(seat)
+}
+
+/// The report of a board that came back once, after an upload of one byte was made, and whose lanes run since.
+fn came_back<B: Naming + Send + Sync, H: PostHook + Drop, R: Threads + Wait + Abort + Sync>(
+    rt: &R,
+    alloc: Global,
+    parts: BoardParts,
+    hooks: (H, H),
+) -> Result<Report<H>, Fail>
+    requires named { IsNamed B.name B.parts B.queue B.lanes parts }
+    requires lanes { length parts.queues ≡ 2 }
+    requires sized { B.max_size ≡ 1048576 }
+    requires first { H.is_sound hooks.0 × (H.handed hooks.0 ≡ []) }
+    requires second { H.is_sound hooks.1 × (H.handed hooks.1 ≡ []) }
+{
+    let (board, lanes) = open_board::<B, H>(alloc, parts, hooks)?;
+    let Some(mut first) = board.seat(rt) else {
+        return Err("a seat".into());
+    };
+    assert_eq!(rt; makes(rt, alloc, &board, &mut first, 1, 1), None);
+    let board = without_a_seat::<B, H, R>(rt, alloc, board, Vec::new(alloc))?;
+    let Some(second) = board.seat(rt) else {
+        return Err("another seat".into());
+    };
+    let watched = Watched::new(board);
+    let shared = &watched;
+    let (second, ends) = run_beside(
+        rt,
+        &shared.board,
+        shared,
+        lanes,
+        || wakes(rt, alloc, shared, second),
+    );
+    let (second, ends) = (second?, ends?);
+    let Watched { board, .. } = watched;
+    assert_eq!(rt; seats_left(rt, &board), 65_534);
+    let mut seats = Vec::new(alloc);
+    seats.push(first)?;
+    seats.push(second)?;
+    finished(alloc, board, seats, ends)
+}
+
+/// The lane, how it ended, how many events were left, and how many were handed over.
+fn told<F>(lane: &LaneReport<Recorder<F>>) -> (u64, How, u64, usize) {
+    (lane.lane, lane.how, lane.left, lane.hook.list().len())
+}
+
+/// Holds that so many changes were accepted, and that the lanes are drained once they handed over so many events.
+fn hold<F>(
+    rt: &impl Abort,
+    report: &Report<Recorder<F>>,
+    accepted: u64,
+    handed: [usize; 2],
+) -> Result<(), Fail> {
+    let [first, second] = report.lanes.as_slice() else {
+        return Err("two lanes".into());
+    };
+    assert_eq!(rt; report.accepted.len(), accepted);
+    assert_eq!(rt; told(first), (0, How::Drained, 0, handed[0]));
+    assert_eq!(rt; told(second), (1, How::Drained, 0, handed[1]));
+    Ok(())
+}
+
+#[test]
+fn a_board_that_came_back_wakes_its_lanes(rt: HostRuntime) -> Result<(), Fail> {
+    let parts = BoardParts::new(rt.alloc(), 2, 1)?;
+    let done = |_: &Event| Outcome::Done;
+    let hooks = (
+        Recorder::new(rt.alloc(), done),
+        Recorder::new(rt.alloc(), done),
+    );
+    let report = came_back::<Brand, _, _>(&rt, rt.alloc(), parts, hooks)?;
+    hold(&rt, &report, 2, [0, 3])
+}
+
+/// The report of a board that comes back where the second of its two lanes is missing.
+fn two_lanes<B: Naming, H: PostHook + Drop, R: Abort>(
+    rt: &R,
+    alloc: Global,
+    board: Board<B>,
+    seats: Vec<Seat<B>>,
+    mut ends: Vec<LaneEnd<H>>,
+) -> Result<Report<H>, Fail>
+    requires own { All (λ e. e.take_end.queue ≡ B.queue e.lane) ends.items }
+{
+    let Some(missing) = ends.pop() else {
+        return Err("two lanes".into());
+    };
+    let Err(
+        Unfinished {
+            fault,
+            board,
+            seats,
+            mut lanes,
+        },
+    ) = board.finish(alloc, seats, ends)
+    else {
+        return Err("a lane is out".into());
+    };
+    assert_eq!(rt;
+        (fault, seats.len(), lanes.len()),
+        (FinishFault::LanesOut, 2, 1)
+    );
+    lanes.push(missing)?;
+    finished(alloc, board, seats, lanes)
+}
+
+/// The report of a board on which an upload was made from each of two seats, and that comes back where the second is missing.
+fn two_seats<B: Naming, H: PostHook + Drop, R: Abort>(
+    rt: &R,
+    alloc: Global,
+    board: Board<B>,
+    missing: Seat<B>,
+    seats: Vec<Seat<B>>,
+    ends: Vec<LaneEnd<H>>,
+) -> Result<Report<H>, Fail>
+    requires own { All (λ e. e.take_end.queue ≡ B.queue e.lane) ends.items }
+{
+    let Err(
+        Unfinished {
+            fault,
+            board,
+            mut seats,
+            lanes,
+        },
+    ) = board.finish(alloc, seats, ends)
+    else {
+        return Err("a seat is out".into());
+    };
+    assert_eq!(rt;
+        (fault, seats.len(), lanes.len()),
+        (FinishFault::SeatsOut, 1, 2)
+    );
+    seats.push(missing)?;
+    two_lanes(rt, alloc, board, seats, lanes)
+}
+
+/// That report, where the lanes run behind the close.
+fn each_missing<B: Naming + Send + Sync, H: PostHook + Drop, R: Threads + Wait + Abort + Sync>(
+    rt: &R,
+    alloc: Global,
+    parts: BoardParts,
+    hooks: (H, H),
+) -> Result<Report<H>, Fail>
+    requires named { IsNamed B.name B.parts B.queue B.lanes parts }
+    requires lanes { length parts.queues ≡ 2 }
+    requires sized { B.max_size ≡ 1048576 }
+    requires first { H.is_sound hooks.0 × (H.handed hooks.0 ≡ []) }
+    requires second { H.is_sound hooks.1 × (H.handed hooks.1 ≡ []) }
+{
+    let (board, lanes) = open_board::<B, _>(alloc, parts, hooks)?;
+    let (Some(mut first), Some(mut second)) = (board.seat(rt), board.seat(rt)) else {
+        return Err("two seats".into());
+    };
+    assert_eq!(rt; makes(rt, alloc, &board, &mut first, 1, 1), None);
+    assert_eq!(rt; makes(rt, alloc, &board, &mut second, 2, 1), None);
+    board.close(rt);
+    let ends = run_each(rt, &board, &board, lanes)?;
+    let mut seats = Vec::new(alloc);
+    seats.push(first)?;
+    two_seats(rt, alloc, board, second, seats, ends)
+}
+
+#[test]
+fn all_comes_back_where_a_seat_or_a_lane_is_missing(rt: HostRuntime) -> Result<(), Fail> {
+    let parts = BoardParts::new(rt.alloc(), 2, 1)?;
+    let done = |_: &Event| Outcome::Done;
+    let hooks = (
+        Recorder::new(rt.alloc(), done),
+        Recorder::new(rt.alloc(), done),
+    );
+    let report = each_missing::<Brand, _, _>(&rt, rt.alloc(), parts, hooks)?;
+    hold(&rt, &report, 2, [1, 1])
+}
