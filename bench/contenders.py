@@ -1,5 +1,5 @@
-"""What `bench/serve` and `bench/lock` share: the programs that they measure by turns, and nginx; their clients in C; what a
-server takes of the processors; and tables.
+"""What `bench/serve`, `bench/lock` and `bench/soak` share: the programs that they measure by turns, and nginx; their clients
+in C; what a server takes of the processors; and tables.
 """
 import argparse
 import os

@@ -1,5 +1,6 @@
 /* What the clients of bench/ share: a connection to a port of the loopback, what is sent on it, and the heads of
- * replies. Where a reply isn't the wanted one, or the connection breaks off, the program ends with 1.
+ * replies. Where a reply isn't the wanted one, or the connection breaks off, the program ends with 1; `try_to_send` and
+ * `next_head` leave that to the caller.
  */
 #define _GNU_SOURCE
 #include <arpa/inet.h>
@@ -22,8 +23,11 @@ struct talk {
     int socket;
     char path[NAME];
     char read[HEAD + 1];
-    char *body; /* what was read behind the head of the reply */
-    size_t rest; /* how much of the body of the reply is still to be read */
+    size_t have; /* how much stands in `read` */
+    size_t used; /* how much of that is the reply whose head was read last */
+    int status; /* of this reply */
+    char *body; /* what was read behind its head */
+    size_t rest; /* how much of its body is still to be read */
 };
 
 static void stop(const char *format, ...)
@@ -53,17 +57,27 @@ static void open_talk(struct talk *talk)
         stop("cannot connect: %m");
     }
     setsockopt(talk->socket, IPPROTO_TCP, TCP_NODELAY, &on, sizeof on);
+    talk->have = talk->used = talk->rest = 0;
 }
 
-static void send_all(const struct talk *talk, const char *bytes, size_t count)
+/* Sends the bytes; whether all were taken. */
+static int try_to_send(const struct talk *talk, const char *bytes, size_t count)
 {
     while (count > 0) {
         ssize_t sent = send(talk->socket, bytes, count, MSG_NOSIGNAL);
         if (sent <= 0) {
-            stop("cannot send: %m");
+            return 0;
         }
         bytes += sent;
         count -= sent;
+    }
+    return 1;
+}
+
+static inline void send_all(const struct talk *talk, const char *bytes, size_t count)
+{
+    if (!try_to_send(talk, bytes, count)) {
+        stop("cannot send: %m");
     }
 }
 
@@ -80,34 +94,49 @@ static const char *field(const struct talk *talk, const char *name)
     return NULL;
 }
 
-/* Reads the head of a reply, which must have this status, or the other one. */
-static void read_head(struct talk *talk, int status, int other)
+/* Reads the head of the next reply, of several that come behind one another; whether one came. The body before it has
+ * been read.
+ */
+static int next_head(struct talk *talk)
 {
-    size_t have = 0;
-    char *end = NULL;
-    while (end == NULL) {
-        ssize_t came = recv(talk->socket, talk->read + have, HEAD - have, 0);
+    char *end;
+    talk->have -= talk->used;
+    memmove(talk->read, talk->read + talk->used, talk->have);
+    talk->used = 0;
+    talk->read[talk->have] = 0;
+    while ((end = strstr(talk->read, "\r\n\r\n")) == NULL) {
+        ssize_t came = recv(talk->socket, talk->read + talk->have, HEAD - talk->have, 0);
         if (came <= 0) {
-            stop("no whole head: %m");
+            return 0;
         }
-        have += came;
-        talk->read[have] = 0;
-        end = strstr(talk->read, "\r\n\r\n");
+        talk->have += came;
+        talk->read[talk->have] = 0;
     }
     talk->body = end + 4;
     end[2] = 0;
-    int told = atoi(talk->read + strlen("HTTP/1.1 "));
-    if (told != status && told != other) {
-        stop("status %d, not %d", told, status);
-    }
+    talk->status = atoi(talk->read + strlen("HTTP/1.1 "));
     const char *length = field(talk, "Content-Length");
     size_t size = length ? strtoull(length, NULL, 10) : 0;
-    size_t came = talk->read + have - talk->body;
-    talk->rest = size - (came < size ? came : size);
+    size_t came = talk->read + talk->have - talk->body;
+    size_t taken = came < size ? came : size;
+    talk->rest = size - taken;
+    talk->used = talk->body + taken - talk->read;
+    return 1;
+}
+
+/* Reads the head of a reply, which must have this status, or the other one. */
+static inline void read_head(struct talk *talk, int status, int other)
+{
+    if (!next_head(talk)) {
+        stop("no whole head: %m");
+    }
+    if (talk->status != status && talk->status != other) {
+        stop("status %d, not %d", talk->status, status);
+    }
 }
 
 /* Whether the server closes behind the reply that was read. */
-static int closes(const struct talk *talk)
+static inline int closes(const struct talk *talk)
 {
     const char *value = field(talk, "Connection");
     return value != NULL && strncasecmp(value, "close\r\n", 7) == 0;

@@ -1,6 +1,6 @@
-"""What the scripts of `tests/`, `bench/memory`, `bench/serve` and `bench/lock` share: the program `up`, a server of it for
-the time of a `with`, connections that speak HTTP/1.1 byte for byte, work in many threads at once, and the count of cases.
-It needs nothing but Python 3 and prints nothing by itself.
+"""What the scripts of `tests/`, `bench/memory`, `bench/serve`, `bench/lock` and `bench/soak` share: the program `up`, a
+server of it for the time of a `with`, connections that speak HTTP/1.1 byte for byte, work in many threads at once, and the
+count of cases. It needs nothing but Python 3 and prints nothing by itself.
 """
 import argparse
 import os
@@ -57,14 +57,16 @@ def seconds_of(process):
 
 class Server:
     """`up serve` with these words, on a free port of the loopback. It is killed at the end of the `with`. With `unheard` its
-    standard output is a pipe whose reader has gone, and with a `sink` it is that file. It has this environment, where one
-    is given. One that may fail, and doesn't listen, has no port."""
+    standard output is a pipe whose reader has gone, and with a `sink` it is that file. It has this environment, and so many
+    files and KiB of addresses, where these are given. One that may fail, and doesn't listen, has no port."""
 
     def __init__(
-        self, program, *words, size=MAX_SIZE, files=None, unheard=False, sink=None, environment=None, may_fail=False
+        self, program, *words, size=MAX_SIZE, files=None, addresses=None, unheard=False, sink=None, environment=None,
+        may_fail=False,
     ):
         self.words = [program, "serve", "--address", "127.0.0.1:0", "--max-size", str(size), *words]
         self.files = files
+        self.addresses = addresses
         self.unheard = unheard
         self.sink = sink
         self.environment = environment
@@ -74,6 +76,8 @@ class Server:
         signal.signal(signal.SIGPIPE, signal.SIG_DFL)
         if self.files:
             resource.setrlimit(resource.RLIMIT_NOFILE, (self.files, self.files))
+        if self.addresses:
+            resource.setrlimit(resource.RLIMIT_AS, (self.addresses * 1024, self.addresses * 1024))
 
     def __enter__(self):
         self.told = tempfile.TemporaryFile()
