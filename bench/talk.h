@@ -1,6 +1,6 @@
 /* What the clients of bench/ share: a connection to a port of the loopback, what is sent on it, and the heads of
- * replies. Where a reply isn't the wanted one, or the connection breaks off, the program ends with 1; `try_to_send` and
- * `next_head` leave that to the caller.
+ * replies. Where a reply isn't the wanted one, or the connection breaks off, the program ends with 1; `try_to_send`
+ * and `next_head` leave that to the caller.
  */
 #define _GNU_SOURCE
 #include <arpa/inet.h>
