@@ -11,18 +11,14 @@
  * work how long a connection waited at most for its next reply, how many events waited at most, and the seconds.
  *
  * At the end of its input it reads the events to their end, and says how many there were, how many there should be,
- * how many didn't follow those of their upload, and how many uploads have others than were acknowledged. The events of
- * an upload follow one another where their numbers are 1, 2, 3, .., the first alone is `post-create`, `post-receive`
- * is a byte further, `post-finish` is at the length, and nothing is behind `post-terminate`. It needs a C compiler on
- * Linux.
+ * how many didn't follow those before them (bench/told.h), and how many uploads have others than were acknowledged. It
+ * needs a C compiler on Linux.
  */
 #include "talk.h"
-#include <fcntl.h>
+#include "told.h"
 #include <pthread.h>
-#include <stdatomic.h>
-#include <stdint.h>
 
-enum { TOGETHER = 16, REQUEST = 320, MESSAGES = 10000, BLOCK = 1 << 20 };
+enum { TOGETHER = 16, REQUEST = 320, MESSAGES = 10000 };
 
 /* How many events may wait to be read, in any number of lanes, before the connections wait too. */
 enum { MOST_WAITING = 100000 };
@@ -57,15 +53,9 @@ struct worker {
     size_t size;
     struct upload *uploads;
     size_t made, room;
-    size_t changes, events, refused;
+    size_t changes, refused;
     double longest;
     long waiting;
-};
-
-/* What the lines told of an upload. */
-struct told {
-    uint64_t id[2];
-    uint32_t events, offset, is_removed;
 };
 
 static int connections;
@@ -73,110 +63,8 @@ static struct worker *workers;
 static size_t together, bytes; /* of the work that is done */
 static atomic_long to_do; /* changes */
 static atomic_long expected; /* events of what was acknowledged */
-static atomic_int has_refused;
-
-static int lines; /* the file of the events */
-static struct told *table; /* with free places, where the id is 0 */
-static size_t places; /* a power of 2 */
-static atomic_long heard; /* lines */
 static atomic_long lost; /* events that were awaited, and didn't come */
-static size_t told_of, astray; /* uploads that lines tell of, and lines that don't follow */
-
-/* Reads the 32 digits of an id; whether there are so many. */
-static int read_id(const char *text, uint64_t id[2])
-{
-    for (int half = 0; half < 2; half++) {
-        id[half] = 0;
-        for (int place = 0; place < 16; place++, text++) {
-            int is_digit = *text >= '0' && *text <= '9';
-            if (!is_digit && (*text < 'a' || *text > 'f')) {
-                return 0;
-            }
-            id[half] = id[half] << 4 | (is_digit ? *text - '0' : *text - 'a' + 10);
-        }
-    }
-    return 1;
-}
-
-/* What was told of the upload of this id, or the free place for it. */
-static struct told *find(const uint64_t id[2])
-{
-    size_t place = id[1] & (places - 1);
-    while ((table[place].id[0] | table[place].id[1]) != 0 && memcmp(table[place].id, id, sizeof table->id) != 0) {
-        place = (place + 1) & (places - 1);
-    }
-    return &table[place];
-}
-
-/* Whether an event may come behind those that were told of its upload. */
-static int follows(const struct told *told, uint32_t number, const char *hook, uint32_t offset, uint32_t length)
-{
-    if (told->is_removed || number != told->events + 1) {
-        return 0;
-    }
-    if (number == 1 || strcmp(hook, "post-create") == 0) {
-        return number == 1 && strcmp(hook, "post-create") == 0 && offset == 0;
-    }
-    if (strcmp(hook, "post-receive") == 0) {
-        return offset == told->offset + 1 && offset <= length;
-    }
-    return offset == told->offset
-        && (strcmp(hook, "post-terminate") == 0 || (strcmp(hook, "post-finish") == 0 && offset == length));
-}
-
-/* Notes the event of a line; whether it is one, and follows. */
-static int note_line(const char *line)
-{
-    uint64_t id[2];
-    uint32_t number, offset, length;
-    char hook[16], end[6];
-    if (!read_id(line, id) || sscanf(line + 32, " %u %15s %u/%u %5s", &number, hook, &offset, &length, end) != 5) {
-        return 0;
-    }
-    struct told *told = find(id);
-    if ((told->id[0] | told->id[1]) == 0) {
-        if (++told_of >= places) {
-            stop("events of more uploads than there are to be");
-        }
-        memcpy(told->id, id, sizeof id);
-    }
-    int is_right = strcmp(end, "done") == 0 && follows(told, number, hook, offset, length);
-    told->events++;
-    told->offset = offset;
-    told->is_removed = strcmp(hook, "post-terminate") == 0;
-    return is_right;
-}
-
-static void hear(const char *line)
-{
-    if (!note_line(line) && astray++ == 0) {
-        fprintf(stderr, "the first line astray: %s\n", line);
-    }
-    atomic_fetch_add(&heard, 1);
-}
-
-/* Reads the events to their end. It naps where few have come, so that the server needn't wake it for each. */
-static void *hear_all(void *given)
-{
-    static char text[BLOCK];
-    size_t have = 0;
-    for (ssize_t came; (came = read(lines, text + have, BLOCK - have)) > 0;) {
-        char *line = text, *end;
-        have += came;
-        while ((end = memchr(line, '\n', text + have - line)) != NULL) {
-            *end = 0;
-            hear(line);
-            line = end + 1;
-        }
-        have -= line - text;
-        memmove(text, line, have);
-        if (came < BLOCK / 16) {
-            usleep(1000);
-        }
-    }
-    astray += have > 0;
-    return given;
-}
+static atomic_int has_refused;
 
 static void open_anew(struct worker *worker)
 {
@@ -235,10 +123,8 @@ static void note_reply(struct worker *worker, const struct request *request)
         note_refusal(worker, "status", worker->talk.status);
         return;
     }
-    int events = acknowledge(worker, request);
+    atomic_fetch_add(&expected, acknowledge(worker, request));
     worker->changes++;
-    worker->events += events;
-    atomic_fetch_add(&expected, events);
 }
 
 /* How many events wait to be read. */
@@ -411,16 +297,12 @@ int main(int count, char **words)
     if (count != 5) {
         stop("usage: soak PORT EVENTS CONNECTIONS UPLOADS");
     }
-    lines = atoi(words[2]);
     connections = atoi(words[3]);
-    fcntl(lines, F_SETPIPE_SZ, BLOCK);
-    for (places = 1024; places < 2 * strtoull(words[4], NULL, 10); places *= 2) {
-    }
-    table = calloc(places, sizeof *table);
     workers = calloc(connections, sizeof *workers);
     for (int number = 0; number < connections; number++) {
         workers[number].talk.port = atoi(words[1]);
     }
+    make_table(atoi(words[2]), strtoull(words[4], NULL, 10));
     pthread_create(&hearer, NULL, hear_all, NULL);
     while (fgets(line, HEAD, stdin) != NULL) {
         long changes;
