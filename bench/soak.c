@@ -20,8 +20,10 @@
 
 enum { TOGETHER = 16, REQUEST = 320, MESSAGES = 10000 };
 
-/* How many events may wait to be read, in any number of lanes, before the connections wait too. */
-enum { MOST_WAITING = 100000 };
+/* How many events may wait to be read, in any number of lanes, before the connections wait too, and for how many
+ * microseconds they do before they look again.
+ */
+enum { MOST_WAITING = 10000, NAP = 5000 };
 
 /* After so many seconds without a reply a connection is given up, and so are events that don't come. */
 enum { MOST_SECONDS = 60 };
@@ -141,7 +143,7 @@ static void await_events(long most)
         if (now() > end) {
             atomic_fetch_add(&lost, count_waiting());
         }
-        usleep(1000);
+        usleep(NAP);
         if (count_waiting() < before) {
             before = count_waiting();
             end = now() + MOST_SECONDS;
