@@ -7,9 +7,10 @@
  * names count too (pthread_create makes one by calloc); what it takes from the system by mmap doesn't. Those whose
  * number is from `first` to `last` are refused: the answer is the one for want of memory, and nothing else is done.
  * `whose` says whose requests are counted: those of all threads (0), of the first one (1), or of all others (2). The
- * requests of the first one alone come in the same order in each run. What isn't counted isn't refused.
+ * requests of the first one alone come in the same order in each run. Those for fewer than `least` bytes aren't counted
+ * either; a thread counts as no bytes. What isn't counted isn't refused.
  *
- * The five numbers stand in the file that MEMORY_CONTROL names, in this order. The test reads and writes them while
+ * The six numbers stand in the file that MEMORY_CONTROL names, in this order. The test reads and writes them while
  * the program runs. Without that name nothing is counted and nothing refused.
  */
 #define _GNU_SOURCE
@@ -29,6 +30,7 @@ struct control {
     atomic_ulong first;
     atomic_ulong last;
     atomic_ulong whose;
+    atomic_ulong least;
 };
 
 enum { OF_ALL, OF_FIRST, OF_OTHERS };
@@ -65,10 +67,10 @@ __attribute__((constructor)) static void begin(void)
     control = found;
 }
 
-/* Counts a request, and says whether it is refused. */
-static int is_refused(void)
+/* Counts a request for so many bytes, and says whether it is refused. */
+static int is_refused(size_t size)
 {
-    if (control == NULL)
+    if (control == NULL || size < atomic_load(&control->least))
         return 0;
     unsigned long whose = atomic_load(&control->whose);
     if (whose != OF_ALL && (whose == OF_FIRST) != is_first)
@@ -83,32 +85,32 @@ static int is_refused(void)
 
 void *malloc(size_t size)
 {
-    return is_refused() ? NULL : __libc_malloc(size);
+    return is_refused(size) ? NULL : __libc_malloc(size);
 }
 
 void *calloc(size_t count, size_t size)
 {
-    return is_refused() ? NULL : __libc_calloc(count, size);
+    return is_refused(count * size) ? NULL : __libc_calloc(count, size);
 }
 
 void *realloc(void *old, size_t size)
 {
-    return is_refused() ? NULL : __libc_realloc(old, size);
+    return is_refused(size) ? NULL : __libc_realloc(old, size);
 }
 
 void *aligned_alloc(size_t alignment, size_t size)
 {
-    return is_refused() ? NULL : __libc_memalign(alignment, size);
+    return is_refused(size) ? NULL : __libc_memalign(alignment, size);
 }
 
 void *memalign(size_t alignment, size_t size)
 {
-    return is_refused() ? NULL : __libc_memalign(alignment, size);
+    return is_refused(size) ? NULL : __libc_memalign(alignment, size);
 }
 
 int posix_memalign(void **place, size_t alignment, size_t size)
 {
-    void *found = is_refused() ? NULL : __libc_memalign(alignment, size);
+    void *found = is_refused(size) ? NULL : __libc_memalign(alignment, size);
     if (found == NULL)
         return ENOMEM;
     *place = found;
@@ -117,5 +119,5 @@ int posix_memalign(void **place, size_t alignment, size_t size)
 
 int pthread_create(pthread_t *thread, const pthread_attr_t *attributes, void *(*work)(void *), void *given)
 {
-    return is_refused() ? EAGAIN : start_thread(thread, attributes, work, given);
+    return is_refused(0) ? EAGAIN : start_thread(thread, attributes, work, given);
 }

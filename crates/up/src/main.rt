@@ -4,12 +4,15 @@
 
 mod fault;
 mod listener;
+mod notice_lines;
 mod rules;
 mod running;
 
 use crate::fault::Fault;
 use crate::listener::listen;
 use crate::rules::run_by_rules;
+use clap::error::ErrorKind;
+use std::alloc::Global;
 use std::io::{self, BufWriter};
 use std::marker::Sync;
 use std::net::{Net, TcpListener, TcpStream};
@@ -17,11 +20,12 @@ use std::process::ExitCode;
 use std::random::RandomSource;
 use std::sync::Wait;
 use std::thread::Threads;
-use up_server::{EventLines, ServerFault, Words, words};
+use std::time::Clock;
+use up_server::{EventLines, ServerFault, Words, WordsFault, words};
 use up_wire::Output;
 
 /// Serves as the words ask for it. An error is a standard stream that can't be had, or want of memory for it or for the closures.
-fn obey<R: Input + Print + AllocGlobal + RandomSource + Threads + Wait + Sync>(
+fn obey<R: Input + Print + Eprint + AllocGlobal + Clock + RandomSource + Threads + Wait + Sync>(
     rt: &R,
     words: &Words,
     listener: Option<TcpListener>,
@@ -46,19 +50,36 @@ fn given(rt: &HostRuntime) -> Result<Vec<String>, Fault> {
         .map_err(|_| Fault::Server(ServerFault::Memory))
 }
 
+/// What the words ask for. None where it was the version alone, which is then on standard output.
+fn asked<R: Print>(rt: &R, alloc: Global, given: Vec<String>) -> Result<Option<Words>, Fault> {
+    match words(alloc, given) {
+        Ok(words) => Ok(Some(words)),
+        Err(WordsFault::Refused(text)) if text.kind() == ErrorKind::DisplayVersion => {
+            match rt.print(text) {
+                Ok(()) => Ok(None),
+                Err(_) => Err(Fault::Server(ServerFault::Write)),
+            }
+        }
+        Err(fault) => Err(Fault::from(fault)),
+    }
+}
+
 /// Reads the words, and serves as they ask for it.
 fn run<
     R: Input
         + Print
         + Eprint
         + AllocGlobal
+        + Clock
         + Net<Listener = TcpListener, Stream = TcpStream>
         + RandomSource
         + Threads
         + Wait
         + Sync,
 >(rt: &R, given: Vec<String>) -> Result<(), Fault> {
-    let words = words(rt.alloc(), given)?;
+    let Some(words) = asked(rt, rt.alloc(), given)? else {
+        return Ok(());
+    };
     let listener = match &words.serve {
         Some(serving) => Some(listen(rt, serving)?),
         None => None,

@@ -10,6 +10,7 @@ use std::net::TcpListener;
 use std::random::RandomSource;
 use std::sync::Wait;
 use std::thread::Threads;
+use std::time::Clock;
 use up_hooks::{PreHook, PreHooks};
 use up_machine::{Ask, Point, Verdict};
 use up_server::{EventLines, ServerFault, Words, at_most, finishes_at_most, keeps, needs_key};
@@ -19,7 +20,7 @@ use up_wire::Sink;
 /// want of memory for the closures, or one of the run.
 pub fn run_by_rules<
     'a,
-    R: Input + Print + AllocGlobal + RandomSource + Threads + Wait + Sync + 'a,
+    R: Input + Print + Eprint + AllocGlobal + Clock + RandomSource + Threads + Wait + Sync + 'a,
     W: Sink + Send + 'a,
 >(
     rt: &'a R,

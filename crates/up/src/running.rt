@@ -2,24 +2,27 @@
 ghost use Rattle.std.specs.Prelude.{◌≡◌, [], All, IsTrue, length};
 ghost use Rattle.up_hooks.specs.Told.{has_code};
 
+use crate::notice_lines::NoticeLines;
 use std::io::{self, BufReader, BufWriter};
 use std::marker::{Send, Sync};
 use std::net::TcpListener;
 use std::random::RandomSource;
 use std::sync::Wait;
 use std::thread::Threads;
-use up_connections::{Drawn, Visits};
+use std::time::Clock;
+use up_connections::{Drawn, Notices, Visits};
 use up_events::Event;
 use up_hooks::{Outcome, PostHook, PreHooks, Recorder, Teller, new_recorders, new_tellers};
 use up_server::{EventLines, ServerFault, Words, keep_serving, replay, serve};
 use up_wire::{Output, Sink};
 
 /// How a server that is to run without an end is visited, if these words ask for one.
-fn endless(words: &Words) -> Option<Visits> {
+fn endless<'a, N>(words: &Words, notices: &'a N) -> Option<Visits<'a, N>> {
     match &words.serve {
         Some(serving) if serving.connections.is_none() => Some(Visits {
             connections: None,
             open: serving.open,
+            notices,
         }),
         _ => None,
     }
@@ -29,7 +32,7 @@ fn endless(words: &Words) -> Option<Visits> {
 /// answer that they are done. An error is a standard stream that can't be had, or want of memory for it.
 pub fn run_with<
     'a,
-    R: Input + Print + AllocGlobal + RandomSource + Threads + Wait + Sync + 'a,
+    R: Input + Print + Eprint + AllocGlobal + Clock + RandomSource + Threads + Wait + Sync + 'a,
     W: Sink + Send + 'a,
 >(
     rt: &'a R,
@@ -47,13 +50,14 @@ pub fn run_with<
         }
     };
     let lanes = words.settings.lanes;
-    match (endless(words), listener) {
+    let notices = NoticeLines::new(rt);
+    match (endless(words, &notices), listener) {
         (Some(visits), Some(listener)) => match new_tellers(rt.alloc(), lanes, answer) {
             Ok(tellers) => run_on(rt, words, &visits, listener, hooks, tellers),
             Err(_) => Ok(Err(ServerFault::Memory)),
         },
         (_, listener) => match new_recorders(rt.alloc(), lanes, answer) {
-            Ok(recorders) => run_over(rt, words, listener, hooks, recorders),
+            Ok(recorders) => run_over(rt, words, &notices, listener, hooks, recorders),
             Err(_) => Ok(Err(ServerFault::Memory)),
         },
     }
@@ -62,11 +66,12 @@ pub fn run_with<
 /// Serves what the listener accepts, with these closures and post-hooks, and keeps nothing of what went by.
 fn run_on<
     F: Fn(&Event) -> Outcome + Send + Drop,
-    R: AllocGlobal + RandomSource + Threads + Wait + Sync,
+    N: Notices,
+    R: Eprint + AllocGlobal + RandomSource + Threads + Wait + Sync,
 >(
     rt: &R,
     words: &Words,
-    visits: &Visits,
+    visits: &Visits<'_, N>,
     listener: TcpListener,
     hooks: PreHooks,
     tellers: Vec<Teller<F>>,
@@ -90,10 +95,12 @@ fn run_on<
 /// Serves what the listener accepts, or else standard input, with these closures and post-hooks.
 fn run_over<
     F: Fn(&Event) -> Outcome + Send + Drop,
-    R: Input + Print + AllocGlobal + RandomSource + Threads + Wait + Sync,
+    N: Notices,
+    R: Input + Print + Eprint + AllocGlobal + RandomSource + Threads + Wait + Sync,
 >(
     rt: &R,
     words: &Words,
+    notices: &N,
     listener: Option<TcpListener>,
     hooks: PreHooks,
     recorders: Vec<Recorder<F>>,
@@ -119,6 +126,7 @@ fn run_over<
     let visits = Visits {
         connections: serving.connections,
         open: serving.open,
+        notices,
     };
     let ids = Drawn::new(rt)?;
     Ok(serve(

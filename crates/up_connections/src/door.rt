@@ -1,13 +1,20 @@
 //! How many connections are open.
 ghost use Rattle.std.specs.Prelude.{◌≤◌};
 
+use std::sync::atomic::{AtomicU64, Ordering};
 use std::sync::{Condvar, Mutex, Wait};
+use std::time::Duration;
+
+/// How many milliseconds pass before what failed is tried again, unless a connection has ended before.
+const PAUSE: u64 = 100;
 
 /// How many connections are open, and what wakes the one that waits until one of them has ended.
 #[derive(Drop)]
 pub struct Door {
     open: Mutex<u64>,
     ended: Condvar,
+    /// How many have ended. Whoever pauses sleeps on it.
+    ends: AtomicU64,
 }
 
 impl Door {
@@ -16,6 +23,7 @@ impl Door {
         Door {
             open: Mutex::new(0),
             ended: Condvar::new(),
+            ends: AtomicU64::new(0),
         }
     }
 
@@ -35,16 +43,30 @@ impl Door {
     pub fn leave<R: Wait>(&self, rt: &R) {
         let mut open = self.open.lock(rt);
         *open = open.saturating_sub(1);
+        self.ends.fetch_add(1, Ordering::SeqCst);
         self.ended.notify_one();
+        drop(open);
+        self.ends.wake_one();
     }
 
     /// Ends one that could not be opened for want of descriptors, memory or threads, where `enter` told that so many were open. Waits
-    /// until one of the others has ended too, unless one has ended since, or there is none.
+    /// until one of the others has ended too, unless one has ended since, and for 100 ms at most: what is wanting may come from elsewhere.
     pub fn leave_in_want<R: Wait>(&self, rt: &R, told: u64)
         requires { 1 ≤ told }
     {
         self.leave(rt);
-        let others = told - 1;
-        drop(self.ended.wait_while(rt, self.open.lock(rt), |open| *open > 0 && *open >= others));
+        self.pause(rt, told - 1);
+    }
+
+    /// Waits until one more has ended, where at least so many are open still, and for 100 ms at most.
+    pub fn pause<R: Wait>(&self, rt: &R, others: u64) {
+        let open = self.open.lock(rt);
+        let is_early = *open >= others;
+        let seen = (self.ends.load(Ordering::SeqCst) & 0xffff_ffff) as u32;
+        drop(open);
+        if is_early {
+            self.ends
+                .park_timeout(rt, seen, Duration::from_millis(PAUSE));
+        }
     }
 }

@@ -1,16 +1,22 @@
-//! Connections over sockets to one board: how many are open at a time, the seats that they take and leave, and a thread for each.
+//! Connections over sockets to one board: how many are open at a time, the seats that they take and leave, a thread for each, and what is
+//! told where none can be let in.
 #![tactic(auto)]
 
 mod accept;
 mod door;
 mod drawn;
+mod gate;
 mod hall;
+mod notices;
 mod pool;
+mod said;
 mod seats;
 mod visit;
 
 pub use accept::{Visits, serve_connections};
 pub use door::Door;
 pub use drawn::Drawn;
+pub use notices::{Entrance, Notices, Silent, Want};
+pub use said::{Due, Said};
 pub use seats::Seats;
 pub use visit::converse_at;

@@ -9,10 +9,13 @@ use clap::{Arg, ArgAction, ArgMatches, Command, Error};
 use std::alloc::{AllocError, Global};
 use up_events::{MOST_BYTES, MOST_LANES};
 
+/// What `--version` tells: the version of the program, and the logic of the toolchain by which it is proved, as `rt version` has it.
+pub const VERSION: &str = "1.0.0\nproved by Rattle's logic dac8208d650f15bf";
+
 /// Why the command line asks for nothing.
 #[derive(Debug, Drop, thiserror::Error)]
 pub enum WordsFault {
-    /// `clap` refuses the words, or was asked for help. Its error has the text for the user.
+    /// `clap` refuses the words, or was asked for help or the version. Its error has the text for the user.
     #[error(transparent)]
     Refused(Error),
     #[error("out of memory")]
@@ -177,6 +180,7 @@ fn serve<'a>(alloc: Global) -> Result<Command<'a>, AllocError> {
 fn command<'a>(alloc: Global) -> Result<Command<'a>, AllocError> {
     let up = Command::new(alloc, "up")
         .about("An upload server for the tus resumable upload protocol 1.0.0")
+        .version(VERSION)
         .no_binary_name(true)
         .subcommand_required(true)
         .bin_name("up")?;
@@ -233,7 +237,7 @@ fn words_of(
 }
 
 /// Reads the words behind the program's name. Refused comes for words that are not known, for a word that lacks its value or
-/// stands twice, for a number outside its limits and for `--help`; Memory where memory is wanting.
+/// stands twice, for a number outside its limits, for `--help` and for `--version`; Memory where memory is wanting.
 pub fn words(alloc: Global, words: Vec<String>) -> Result<Words, WordsFault> {
     let matches = command(alloc)?.try_get_matches_from(words.as_slice())?;
     match matches.subcommand() {

@@ -3,13 +3,14 @@ ghost use Rattle.std.specs.Prelude.{◌≡◌, All, IfOk, vec_len, [], false, sl
 ghost use Rattle.up_lanes.specs.LaneSides.{lane_side};
 ghost use Rattle.up_dispatch.specs.Lists.{EachAt};
 
+use crate::runner::{LaneNotices, Runner};
 use std::alloc::{AllocError, Global};
 use std::marker::{Send, Sync};
 use std::snapshot::Snapshot;
 use std::sync::Wait;
 use std::thread;
 use std::thread::{Promise, PromisedHandle, Scope, Threads};
-use up_dispatch::{Board, Naming};
+use up_dispatch::Naming;
 use up_events::NoMemory;
 use up_hooks::PostHook;
 use up_lanes::{Lane, LaneEnd};
@@ -43,11 +44,18 @@ impl<H: PostHook> Promise<LaneEnd<H>> for OfLane<H> {
 }
 
 /// Starts a thread for each lane. Where one can't be started, those that were go on until the board is closed.
-fn start_each<'s, E, B: Naming + Send + Sync, H: PostHook + Drop + 's, T: Threads + Wait + Sync>(
+fn start_each<
+    's,
+    E,
+    B: Naming + Send + Sync,
+    N: LaneNotices,
+    H: PostHook + Drop + 's,
+    T: Threads + Wait + Sync,
+>(
     scope: &Scope<'s, E>,
     rt: &'s T,
     alloc: Global,
-    board: &'s Board<B>,
+    runner: &'s Runner<'s, B, N>,
     lanes: Vec<Lane<H>>,
 ) -> Result<Vec<PromisedHandle<LaneEnd<H>, OfLane<H>>>, AllocError>
     requires { EachAt (λ k l. (l.lane ≡ k) × (l.queue ≡ B.queue k)) lanes.items }
@@ -57,40 +65,47 @@ fn start_each<'s, E, B: Naming + Send + Sync, H: PostHook + Drop + 's, T: Thread
     let mut running = Vec::with_capacity(alloc, lanes.len())?;
     for lane in lanes {
         let promise = OfLane(Snapshot::of(&lane));
-        running.push(scope.spawn_with(promise, move || lane.run(rt, board))?)?;
+        running.push(scope.spawn_with(promise, move || runner.run(rt, lane))?)?;
     }
     Ok(running)
 }
 
 /// Starts a thread for each lane. Where one can't be started the board is closed, so that those that were end.
-pub fn start_all<'s, E, B: Naming + Send + Sync, H: PostHook + Drop + 's, T: Threads + Wait + Sync>(
+pub fn start_all<
+    's,
+    E,
+    B: Naming + Send + Sync,
+    N: LaneNotices,
+    H: PostHook + Drop + 's,
+    T: Threads + Wait + Sync,
+>(
     scope: &Scope<'s, E>,
     rt: &'s T,
     alloc: Global,
-    board: &'s Board<B>,
+    runner: &'s Runner<'s, B, N>,
     lanes: Vec<Lane<H>>,
 ) -> Result<Vec<PromisedHandle<LaneEnd<H>, OfLane<H>>>, AllocError>
     requires { EachAt (λ k l. (l.lane ≡ k) × (l.queue ≡ B.queue k)) lanes.items }
     ensures count { IfOk result (λ v. vec_len v ≡ vec_len lanes) }
     ensures lanes { IfOk result (λ v. EachAt (λ k h. (h.promise.0.value.lane ≡ k) × (h.promise.0.value.queue ≡ B.queue k)) v.items) }
 {
-    let running = start_each(scope, rt, alloc, board, lanes);
+    let running = start_each(scope, rt, alloc, runner, lanes);
     if running.is_err() {
-        board.close(rt);
+        runner.close(rt);
     }
     running
 }
 
 /// Closes the board, and waits until each lane has ended.
-pub fn end_all<B: Naming, H: PostHook + Drop, T: Threads + Wait>(
+pub fn end_all<B: Naming + Send + Sync, N: LaneNotices, H: PostHook + Drop, T: Threads + Wait>(
     rt: &T,
-    board: &Board<B>,
+    runner: &Runner<'_, B, N>,
     running: Vec<PromisedHandle<LaneEnd<H>, OfLane<H>>>,
 ) -> Result<Vec<LaneEnd<H>>, AllocError>
     requires { EachAt (λ k h. (h.promise.0.value.lane ≡ k) × (h.promise.0.value.queue ≡ B.queue k)) running.items }
     ensures count { IfOk result (λ v. vec_len v ≡ vec_len running) }
     ensures ends { IfOk result (λ v. EachAt (λ k e. H.is_sound e.hook × (e.lane ≡ k) × (e.take_end.queue ≡ B.queue k)) v.items) }
 {
-    board.close(rt);
+    runner.close(rt);
     Ok(thread::join_promised(rt, running)?)
 }

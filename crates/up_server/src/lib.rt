@@ -10,15 +10,16 @@ mod lanes;
 mod listening;
 mod report;
 mod rules;
+mod runner;
 mod running;
 mod server_fault;
 mod serving;
 mod settings;
 mod telling;
 
-pub use command_line::{WordsFault, words};
+pub use command_line::{VERSION, WordsFault, words};
 pub use event_lines::EventLines;
-pub use listening::{keep_serving, serve};
+pub use listening::{keep_serving, serve, serve_with};
 pub use rules::{at_most, finishes_at_most, keeps, needs_key, refuse};
 pub use server_fault::ServerFault;
 pub use serving::replay;

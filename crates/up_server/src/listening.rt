@@ -9,6 +9,7 @@ ghost use Rattle.up_server.specs.Reported.{HasEnded, IsReportOf, IsTold};
 
 use crate::boards;
 use crate::lanes::{end_all, start_all};
+use crate::runner::{OnStderr, Runner};
 use crate::server_fault::ServerFault;
 use crate::settings::Settings;
 use crate::telling::{tell_end, tell_report};
@@ -18,7 +19,7 @@ use std::net::TcpListener;
 use std::sync::Wait;
 use std::thread;
 use std::thread::{Scope, Threads};
-use up_connections::{Visits, serve_connections};
+use up_connections::{Notices, Visits, serve_connections};
 use up_dispatch::{Board, BoardParts, Ids, Naming, Report, Seat};
 use up_events::{Event, NoMemory};
 use up_hooks::{Outcome, PostHook, PreHooks, Recorder, Teller};
@@ -32,35 +33,37 @@ fn attend_in<
     B: Naming + Send + Sync,
     H: PostHook + Drop + 's,
     I: Ids + Send + Drop,
-    T: Threads + Wait + Sync,
+    N: Notices,
+    T: Threads + Wait + Eprint + Sync,
 >(
     scope: &Scope<'s, E>,
     rt: &'s T,
     alloc: Global,
-    board: &'s Board<B>,
+    runner: &'s Runner<'s, B, OnStderr<'s, T>>,
     lanes: Vec<Lane<H>>,
     hooks: &PreHooks,
     listener: &TcpListener,
-    visits: &Visits,
+    visits: &Visits<'_, N>,
     ids: I,
 ) -> Result<(Vec<Seat<B>>, Vec<LaneEnd<H>>), AllocError>
     requires lanes { EachAt (λ k l. (l.lane ≡ k) × (l.queue ≡ B.queue k)) lanes.items }
     ensures count { IfOk result (λ r. vec_len r.1 ≡ vec_len lanes) }
     ensures ends { IfOk result (λ r. EachAt (λ k e. H.is_sound e.hook × (e.lane ≡ k) × (e.take_end.queue ≡ B.queue k)) r.1.items) }
 {
-    let running = start_all(scope, rt, alloc, board, lanes)?;
-    let seats = serve_connections(rt, alloc, board, hooks, ids, listener, visits);
-    let ends = end_all(rt, board, running)?;
+    let running = start_all(scope, rt, alloc, runner, lanes)?;
+    let seats = serve_connections(rt, alloc, runner.board, hooks, ids, listener, visits);
+    let ends = end_all(rt, runner, running)?;
     Ok((seats?, ends))
 }
 
-/// Runs the lanes in threads of their own while connections are served, and then closes the board. Gives back the seats, and the ends of
-/// the lanes.
+/// Runs the lanes in threads of their own while connections are served, and then closes the board. A lane whose post-hook is refused memory
+/// waits for it. Gives back the seats, and the ends of the lanes.
 fn attend<
     B: Naming + Send + Sync,
     H: PostHook + Drop,
     I: Ids + Send + Drop,
-    T: Threads + Wait + Sync,
+    N: Notices,
+    T: Threads + Wait + Eprint + Sync,
 >(
     rt: &T,
     alloc: Global,
@@ -68,13 +71,15 @@ fn attend<
     lanes: Vec<Lane<H>>,
     hooks: &PreHooks,
     listener: &TcpListener,
-    visits: &Visits,
+    visits: &Visits<'_, N>,
     ids: I,
 ) -> Result<(Vec<Seat<B>>, Vec<LaneEnd<H>>), AllocError>
     requires lanes { EachAt (λ k l. (l.lane ≡ k) × (l.queue ≡ B.queue k)) lanes.items }
     ensures count { IfOk result (λ r. vec_len r.1 ≡ vec_len lanes) }
     ensures ends { IfOk result (λ r. EachAt (λ k e. H.is_sound e.hook × (e.lane ≡ k) × (e.take_end.queue ≡ B.queue k)) r.1.items) }
 {
+    let notices = &OnStderr { rt };
+    let runner = &Runner::lasting(board, notices);
     thread::scope(
         thread::scope_env(),
         rt,
@@ -82,12 +87,22 @@ fn attend<
             requires lanes { EachAt (λ k l. (l.lane ≡ k) × (l.queue ≡ B.queue k)) lanes.items }
             ensures count { IfOk result (λ r. vec_len r.1 ≡ vec_len lanes) }
             ensures ends { IfOk result (λ r. EachAt (λ k e. H.is_sound e.hook × (e.lane ≡ k) × (e.take_end.queue ≡ B.queue k)) r.1.items) }
-        { attend_in(scope, rt, alloc, board, lanes, hooks, listener, visits, ids) },
+        {
+            attend_in(
+                scope, rt, alloc, runner, lanes, hooks, listener, visits, ids,
+            )
+        },
     )
 }
 
 /// Serves connections on a new board of these parts, ends its lanes and reports.
-fn run<B: Naming + Send + Sync, H: PostHook + Drop, I: Ids + Send + Drop, T: Threads + Wait + Sync>(
+fn run<
+    B: Naming + Send + Sync,
+    H: PostHook + Drop,
+    I: Ids + Send + Drop,
+    N: Notices,
+    T: Threads + Wait + Eprint + Sync,
+>(
     rt: &T,
     alloc: Global,
     parts: BoardParts,
@@ -95,7 +110,7 @@ fn run<B: Naming + Send + Sync, H: PostHook + Drop, I: Ids + Send + Drop, T: Thr
     post_hooks: Vec<H>,
     settings: &Settings,
     listener: &TcpListener,
-    visits: &Visits,
+    visits: &Visits<'_, N>,
     ids: I,
 ) -> Result<Report<H>, NoMemory>
     requires named { IsNamed B.name B.parts B.queue B.lanes parts }
@@ -112,6 +127,40 @@ fn run<B: Naming + Send + Sync, H: PostHook + Drop, I: Ids + Send + Drop, T: Thr
 }
 
 /// Serves connections that the listener accepts, each as a conversation of its own in a thread of its own, on a new board with ids of this
+/// source, while each lane hands its events to the post-hook at its place in a thread of its own. Once the last connection has ended, the
+/// lanes end, and what they handed over is reported. The closures of `hooks` are asked before an upload is made, completed or removed. What
+/// goes wrong on a connection ends that one alone. An error is want of memory for what all connections share.
+///
+/// A lane whose post-hook is refused memory is tried again after 100 ms, and then after a pause that doubles up to 10 s, until the post-hook
+/// has room for an event; the lane then goes on where it stood. Once the last connection has ended it is tried three times more, and then it
+/// is reported as stopped. Standard error is told when a lane begins to wait, and when it goes on.
+pub fn serve_with<
+    H: PostHook + Drop,
+    I: Ids + Send + Drop,
+    N: Notices,
+    T: Threads + Wait + Eprint + Sync,
+>(
+    rt: &T,
+    alloc: Global,
+    hooks: PreHooks,
+    post_hooks: Vec<H>,
+    settings: &Settings,
+    listener: TcpListener,
+    visits: &Visits<'_, N>,
+    ids: I,
+) -> Result<Report<H>, NoMemory>
+    requires one_for_each { vec_len post_hooks ≡ settings.now.lanes }
+    requires new { All (λ h. H.is_sound h × (H.handed h ≡ [])) post_hooks.items }
+    ensures report { IfOk result (λ r. IsReportOf H.handed settings.now.lanes r) }
+    ensures sound { IfOk result (λ r. All (λ x. H.is_sound x.hook) r.lanes.items) }
+{
+    let parts = BoardParts::new(alloc, settings.lanes, settings.capacity)?;
+    run::<Brand, _, _, _, _>(
+        rt, alloc, parts, &hooks, post_hooks, settings, &listener, visits, ids,
+    )
+}
+
+/// Serves connections that the listener accepts, each as a conversation of its own in a thread of its own, on a new board with ids of this
 /// source, while each lane hands its events to the recorder at its place in a thread of its own. Once the last connection has ended, the
 /// lanes end, and the report is written to `sink`. The closures of `hooks` are asked before an upload is made, completed or removed. What
 /// goes wrong on a connection ends that one alone. Of what else went wrong the first in the order of `ServerFault` is answered; after
@@ -119,8 +168,9 @@ fn run<B: Naming + Send + Sync, H: PostHook + Drop, I: Ids + Send + Drop, T: Thr
 pub fn serve<
     F: Fn(&Event) -> Outcome + Send + Drop,
     I: Ids + Send + Drop,
+    N: Notices,
     W: Sink,
-    T: Threads + Wait + Sync,
+    T: Threads + Wait + Eprint + Sync,
 >(
     rt: &T,
     alloc: Global,
@@ -128,7 +178,7 @@ pub fn serve<
     recorders: Vec<Recorder<F>>,
     settings: &Settings,
     listener: TcpListener,
-    visits: &Visits,
+    visits: &Visits<'_, N>,
     ids: I,
     sink: &mut W,
 ) -> Result<(), ServerFault>
@@ -139,15 +189,10 @@ pub fn serve<
         × All (λ lane. ⟦<Recorder<F> as PostHook>⟧.is_sound lane.hook) report.lanes.items
         × IsTold report (W.device sink.old) (W.device sink.new) result) }
 {
-    let Ok(parts) = BoardParts::new(alloc, settings.lanes, settings.capacity) else {
-        return Err(ServerFault::Memory);
-    };
-    let Ok(report) = run::<Brand, _, _, _>(
-        rt, alloc, parts, &hooks, recorders, settings, &listener, visits, ids,
-    ) else {
-        return Err(ServerFault::Memory);
-    };
-    tell_report(sink, &report)
+    match serve_with(rt, alloc, hooks, recorders, settings, listener, visits, ids) {
+        Ok(report) => tell_report(sink, &report),
+        Err(_) => Err(ServerFault::Memory),
+    }
 }
 
 /// The same, with tellers and with no report: nothing is kept of the changes and events that went by, so it may run without an end. What it
@@ -155,7 +200,8 @@ pub fn serve<
 pub fn keep_serving<
     F: Fn(&Event) -> Outcome + Send + Drop,
     I: Ids + Send + Drop,
-    T: Threads + Wait + Sync,
+    N: Notices,
+    T: Threads + Wait + Eprint + Sync,
 >(
     rt: &T,
     alloc: Global,
@@ -163,7 +209,7 @@ pub fn keep_serving<
     tellers: Vec<Teller<F>>,
     settings: &Settings,
     listener: TcpListener,
-    visits: &Visits,
+    visits: &Visits<'_, N>,
     ids: I,
 ) -> Result<(), ServerFault>
     requires one_for_each { length tellers.items ≡ settings.now.lanes }
@@ -173,13 +219,8 @@ pub fn keep_serving<
         × All (λ lane. ⟦<Teller<F> as PostHook>⟧.is_sound lane.hook) report.lanes.items
         × HasEnded report result) }
 {
-    let Ok(parts) = BoardParts::new(alloc, settings.lanes, settings.capacity) else {
-        return Err(ServerFault::Memory);
-    };
-    let Ok(report) = run::<Brand, _, _, _>(
-        rt, alloc, parts, &hooks, tellers, settings, &listener, visits, ids,
-    ) else {
-        return Err(ServerFault::Memory);
-    };
-    tell_end(&report)
+    match serve_with(rt, alloc, hooks, tellers, settings, listener, visits, ids) {
+        Ok(report) => tell_end(&report),
+        Err(_) => Err(ServerFault::Memory),
+    }
 }

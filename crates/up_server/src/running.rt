@@ -8,6 +8,7 @@ ghost use Rattle.up_server.specs.Run.{IsRun};
 
 use crate::boards;
 use crate::lanes::{end_all, start_all};
+use crate::runner::{Nobody, Runner};
 use crate::settings::Settings;
 use std::alloc::{AllocError, Global};
 use std::marker::{Send, Sync};
@@ -65,7 +66,7 @@ fn drive_in<
     scope: &Scope<'s, E>,
     rt: &'s T,
     alloc: Global,
-    board: &'s Board<B>,
+    runner: &'s Runner<'s, B, Nobody>,
     seat: &mut Seat<B>,
     lanes: Vec<Lane<H>>,
     hooks: &PreHooks,
@@ -78,9 +79,9 @@ fn drive_in<
     ensures served { IfOk result (λ d. IsServedFrom B.queue B.lanes (ClosuresGive hooks.now) B.max_size seat.old seat.new
         (R.device source.old) (R.device source.new) (W.device sink.old) (W.device sink.new) d.ended) }
 {
-    let running = start_all(scope, rt, alloc, board, lanes)?;
-    let ended = converse_from(rt, alloc, board, seat, hooks, source, sink);
-    let lanes = end_all(rt, board, running)?;
+    let running = start_all(scope, rt, alloc, runner, lanes)?;
+    let ended = converse_from(rt, alloc, runner.board, seat, hooks, source, sink);
+    let lanes = end_all(rt, runner, running)?;
     Ok(Driven { ended, lanes })
 }
 
@@ -106,6 +107,7 @@ fn drive<B: Naming + Send + Sync, H: PostHook + Drop, R: Source, W: Sink, T: Thr
     ensures served { IfOk result (λ d. IsServedFrom B.queue B.lanes (ClosuresGive hooks.now) B.max_size seat.old seat.new
         (R.device source.old) (R.device source.new) (W.device sink.old) (W.device sink.new) d.ended) }
 {
+    let runner = &Runner::<B, Nobody>::new(board);
     let (driven, seat, source, sink) = thread::scope(
         thread::scope_env(),
         rt,
@@ -119,7 +121,7 @@ fn drive<B: Naming + Send + Sync, H: PostHook + Drop, R: Source, W: Sink, T: Thr
             ensures served { IfOk result.0 (λ d. IsServedFrom B.queue B.lanes (ClosuresGive hooks.entry.now) B.max_size seat.entry.now result.1.now
                 (R.device source.entry.now) (R.device result.2.now) (W.device sink.entry.now) (W.device result.3.now) d.ended) }
         {
-            let driven = drive_in(scope, rt, alloc, board, seat, lanes, hooks, source, sink);
+            let driven = drive_in(scope, rt, alloc, runner, seat, lanes, hooks, source, sink);
             (driven, seat, source, sink)
         },
     );

@@ -2,4 +2,5 @@
 mod accept;
 mod door;
 mod drawn;
+mod said;
 mod seats;

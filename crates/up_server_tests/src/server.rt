@@ -6,6 +6,7 @@ mod failing;
 mod full_writer;
 mod listening;
 mod refusing;
+mod scarce;
 
 use std::alloc::{AllocError, Global};
 use std::marker::Sync;

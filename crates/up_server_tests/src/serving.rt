@@ -11,7 +11,7 @@ use std::marker::Sync;
 use std::net::TcpListener;
 use std::sync::Wait;
 use std::thread::Threads;
-use up_connections::Visits;
+use up_connections::{Notices, Visits};
 use up_dispatch::Counting;
 use up_events::Event;
 use up_hooks::{Outcome, PostHook, PreHooks, Recorder, new_recorders};
@@ -19,14 +19,18 @@ use up_server::{ServerFault, Settings, serve};
 use up_wire::Output;
 
 /// What a server with these closures, whose post-hooks answer so and whose ids are counted, reports once its last connection has ended.
-pub fn reported<F: Fn(&Event) -> Outcome + Send + Copy + Drop, T: Threads + Wait + Sync>(
+pub fn reported<
+    F: Fn(&Event) -> Outcome + Send + Copy + Drop,
+    N: Notices,
+    T: Threads + Wait + Eprint + Sync,
+>(
     rt: &T,
     alloc: Global,
     hooks: PreHooks,
     answer: F,
     settings: &Settings,
     listener: TcpListener,
-    visits: &Visits,
+    visits: &Visits<'_, N>,
 ) -> Result<Vec<u8>, ServerFault>
     requires callable { F.IsAlwaysCallable answer }
     requires codes { GivesCodes F.Fn answer }

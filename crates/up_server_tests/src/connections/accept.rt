@@ -4,25 +4,38 @@ ghost use Rattle.up_dispatch.specs.Parts.{IsNamed};
 
 use crate::clients::{ask_each, hold_answer};
 use std::alloc::Global;
+use std::cell::Cell;
 use std::marker::{Brand, Send, Sync};
 use std::net::TcpListener;
+use std::os::fd::AsRawFd;
 use std::sync::Wait;
 use std::test::Fail;
 use std::thread::Threads;
-use up_connections::{Visits, serve_connections};
+use up_connections::{Entrance, Notices, Silent, Visits, serve_connections};
 use up_dispatch::{Board, BoardParts, Counting, Naming};
 use up_hooks::PreHooks;
 
 const ASKED: &[u8] = b"POST /files/ HTTP/1.1\r\nHost: a\r\nTus-Resumable: 1.0.0\r\n\
     Upload-Length: 5\r\nConnection: close\r\n\r\n";
 
+/// How it stood with letting connections in when it was last told.
+#[derive(Drop)]
+struct Last(Cell<Option<Entrance>>);
+
+impl Notices for Last {
+    fn tell(&self, entrance: Entrance) -> bool {
+        self.0.set(Some(entrance));
+        true
+    }
+}
+
 /// Serves so many connections on a new board, and tells of each seat how many changes were made from it.
-fn counts<B: Naming + Send + Sync, T: Threads + Wait + Sync>(
+fn counts<B: Naming + Send + Sync, N: Notices, T: Threads + Wait + Sync>(
     rt: &T,
     alloc: Global,
     parts: BoardParts,
     listener: &TcpListener,
-    visits: &Visits,
+    visits: &Visits<'_, N>,
 ) -> Result<Vec<u64>, Fail>
     requires named { IsNamed B.name B.parts B.queue B.lanes parts }
     requires lanes { length parts.queues ≡ 1 }
@@ -47,9 +60,10 @@ fn serves_three_from_one_seat(rt: HostRuntime) -> Result<(), Fail> {
     let visits = Visits {
         connections: Some(3),
         open: 1,
+        notices: &Silent,
     };
     let parts = BoardParts::new(rt.alloc(), 1, 8)?;
-    let made = counts::<Brand, _>(&rt, rt.alloc(), parts, &listener, &visits)?;
+    let made = counts::<Brand, _, _>(&rt, rt.alloc(), parts, &listener, &visits)?;
     assert_eq!(rt; made.as_slice(), [3u64].as_slice());
     for client in &mut clients {
         hold_answer(
@@ -60,5 +74,23 @@ fn serves_three_from_one_seat(rt: HostRuntime) -> Result<(), Fail> {
             b"\r\nConnection: close\r\n\r\n",
         )?;
     }
+    Ok(())
+}
+
+#[test]
+fn ends_where_the_listener_is_gone(rt: HostRuntime) -> Result<(), Fail> {
+    let listener = TcpListener::bind(&rt, "127.0.0.1:0")?;
+    let status = libc::net::shutdown(listener.as_raw_fd(), libc::net::SHUT_RDWR);
+    assert_eq!(rt; status, 0);
+    let last = Last(Cell::new(None));
+    let visits = Visits {
+        connections: None,
+        open: 2,
+        notices: &last,
+    };
+    let parts = BoardParts::new(rt.alloc(), 1, 8)?;
+    let made = counts::<Brand, _, _>(&rt, rt.alloc(), parts, &listener, &visits)?;
+    assert!(rt; made.is_empty());
+    assert_eq!(rt; last.0.get(), Some(Entrance::Gone(libc::EINVAL)));
     Ok(())
 }

@@ -1,6 +1,7 @@
 //! How many are open, told from threads.
 use std::test::Fail;
 use std::thread;
+use std::time::{Duration, Instant};
 use up_connections::Door;
 
 #[test]
@@ -36,5 +37,18 @@ fn waits_in_want_until_another_has_left(rt: HostRuntime) -> Result<(), Fail> {
         Ok(())
     })?;
     assert_eq!(rt; door.enter(&rt, 1), 1);
+    Ok(())
+}
+
+/// Two stay while a third is in want.
+#[test]
+fn waits_in_want_for_a_while(rt: HostRuntime) -> Result<(), Fail> {
+    let door = Door::new();
+    assert_eq!(rt; (door.enter(&rt, 9), door.enter(&rt, 9)), (1, 2));
+    let third = door.enter(&rt, 9);
+    let start = Instant::now(&rt)?;
+    door.leave_in_want(&rt, third);
+    assert!(rt; start.elapsed(&rt)? < Duration::from_secs(10));
+    assert_eq!(rt; door.enter(&rt, 9), 3);
     Ok(())
 }

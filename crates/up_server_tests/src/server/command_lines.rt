@@ -237,3 +237,15 @@ fn refuses_other_words(rt: HostRuntime) -> Result<(), Fail> {
     }
     Ok(())
 }
+
+#[test]
+fn tells_its_version(rt: HostRuntime) -> Result<(), Fail> {
+    let Err(WordsFault::Refused(text)) = read(rt.alloc(), &["--version"]) else {
+        return Err("a text".into());
+    };
+    assert_eq!(rt;
+        text.to_string(rt.alloc())?.as_str(),
+        "up 1.0.0\nproved by Rattle's logic dac8208d650f15bf\n"
+    );
+    Ok(())
+}

@@ -1,0 +1,44 @@
+//! What is said while connections are let in.
+use std::sync::{Mutex, Wait};
+use std::time::Clock;
+use up_connections::{Due, Entrance, Notices, Said};
+
+/// Lines on standard error that say how it stands with letting connections in, no two of them within a second.
+#[derive(Drop)]
+pub struct NoticeLines<'a, R> {
+    rt: &'a R,
+    said: Mutex<Said>,
+}
+
+impl<'a, R> NoticeLines<'a, R> {
+    /// No line was said.
+    pub fn new(rt: &'a R) -> NoticeLines<'a, R> {
+        NoticeLines {
+            rt,
+            said: Mutex::new(Said::new()),
+        }
+    }
+}
+
+/// The milliseconds of the system's clock that never goes back, or 0 where there is none.
+fn milliseconds<R: Clock>(rt: &R) -> u64 {
+    match rt.monotonic() {
+        Ok(time) => u64::try_from(time.as_millis()).unwrap_or(u64::MAX),
+        Err(_) => 0,
+    }
+}
+
+impl<R: Eprint + Clock + Wait> Notices for NoticeLines<'_, R> {
+    fn tell(&self, entrance: Entrance) -> bool {
+        let now = milliseconds(self.rt);
+        let due = self.said.lock(self.rt).note(entrance, now);
+        match due {
+            Due::Say => {
+                let _ = eprintln!(self.rt; "up_server: {entrance}");
+                !matches!(entrance, Entrance::Wanting(_))
+            }
+            Due::Later => false,
+            Due::Nothing => true,
+        }
+    }
+}

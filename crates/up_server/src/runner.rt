@@ -1,0 +1,190 @@
+//! What runs the lanes of a board: also lanes that go on after their post-hook was refused memory.
+ghost use Rattle.std.specs.Prelude.{◌≡◌};
+
+use std::marker::{Send, Sync};
+use std::sync::Wait;
+use std::sync::atomic::{AtomicU64, Ordering};
+use std::time::Duration;
+use up_dispatch::{Board, Naming};
+use up_hooks::PostHook;
+use up_lanes::{Lane, LaneEnd, StepEnd};
+
+/// How many milliseconds a lane whose post-hook was refused memory waits before it is tried again. Each further wait is twice as long.
+const FIRST_PAUSE: u64 = 100;
+
+/// How many milliseconds it waits at most.
+const MOST_PAUSE: u64 = 10_000;
+
+/// How many times it is tried once the board is closed, with the first pause between two tries.
+const LAST_TRIES: u32 = 3;
+
+/// Who is told of lanes that wait for memory.
+pub trait LaneNotices: Sync {
+    /// The post-hook of this lane was refused memory. The lane waits until there is some.
+    fn waits(&self, lane: u64);
+
+    /// The lane goes on.
+    fn goes_on(&self, lane: u64);
+}
+
+/// Standard error, which is told in a line. Where it is closed nobody is told.
+#[derive(Drop)]
+pub struct OnStderr<'a, R> {
+    pub rt: &'a R,
+}
+
+impl<R: Eprint + Sync> LaneNotices for OnStderr<'_, R> {
+    fn waits(&self, lane: u64) {
+        let _ = eprintln!(self.rt; "up_server: lane {lane} waits for memory");
+    }
+
+    fn goes_on(&self, lane: u64) {
+        let _ = eprintln!(self.rt; "up_server: lane {lane} goes on");
+    }
+}
+
+/// Nobody.
+pub struct Nobody;
+
+impl LaneNotices for Nobody {
+    fn waits(&self, _lane: u64) {}
+
+    fn goes_on(&self, _lane: u64) {}
+}
+
+/// What runs the lanes of a board, each in the thread that it is given.
+#[derive(Drop)]
+pub struct Runner<'a, B: Naming, N> {
+    pub board: &'a Board<B>,
+    /// Who is told of lanes that stopped, and go on. Where there is none, a lane that stopped has ended.
+    notices: Option<&'a N>,
+    /// 0 while the board is open, and 1 once it was closed. Lanes that wait for memory sleep on it.
+    closed: AtomicU64,
+}
+
+/// Takes a step. Tells whether the post-hook had room for an event.
+fn has_room<H: PostHook, T: Wait>(rt: &T, lane: &mut Lane<H>) -> bool
+    ensures same { (lane.new.lane ≡ lane.old.lane) × (lane.new.queue ≡ lane.old.queue) }
+{
+    match lane.step(rt) {
+        StepEnd::NoMemory => false,
+        StepEnd::Handed | StepEnd::Nothing | StepEnd::Ended => true,
+    }
+}
+
+/// How many milliseconds a lane waits that has waited for so many.
+fn next_pause(pause: u64, is_closed: bool) -> u64 {
+    if is_closed {
+        FIRST_PAUSE
+    } else {
+        pause.saturating_mul(2).min(MOST_PAUSE)
+    }
+}
+
+impl<'a, B: Naming + Send + Sync, N: LaneNotices> Runner<'a, B, N> {
+    /// Over an open board: a lane whose post-hook is refused memory has ended.
+    pub fn new(board: &'a Board<B>) -> Self {
+        Runner {
+            board,
+            notices: None,
+            closed: AtomicU64::new(0),
+        }
+    }
+
+    /// Over an open board: a lane whose post-hook is refused memory waits for it, and goes on.
+    pub fn lasting(board: &'a Board<B>, notices: &'a N) -> Self {
+        Runner {
+            board,
+            notices: Some(notices),
+            closed: AtomicU64::new(0),
+        }
+    }
+
+    /// Closes the board, so that the lanes end.
+    pub fn close<T: Wait>(&self, rt: &T) {
+        self.board.close(rt);
+        self.closed.store(1, Ordering::SeqCst);
+        self.closed.wake_all();
+    }
+
+    /// Whether the board was closed.
+    fn is_closed(&self) -> bool {
+        self.closed.load(Ordering::SeqCst) != 0
+    }
+
+    /// Sleeps so many milliseconds, or, of a board that isn't closed, until it is. Tells whether it is closed.
+    fn rest<T: Wait>(&self, rt: &T, pause: u64) -> bool {
+        let seen = u32::from(self.is_closed());
+        self.closed
+            .park_timeout(rt, seen, Duration::from_millis(pause));
+        self.is_closed()
+    }
+
+    /// Tries a lane that stopped until its post-hook has room for an event, or until a last try is left. Tells whether it has room. A try while
+    /// the board is closed is one of those that are left.
+    fn try_again<H: PostHook, T: Wait>(&self, rt: &T, lane: &mut Lane<H>, tries: &mut u32) -> bool
+        ensures same { (lane.new.lane ≡ lane.old.lane) × (lane.new.queue ≡ lane.old.queue) }
+    {
+        let mut pause = FIRST_PAUSE;
+        for _ in rt.forever() {
+            let is_closed = self.rest(rt, pause);
+            if is_closed {
+                *tries = tries.saturating_sub(1);
+                if *tries == 0 {
+                    break;
+                }
+            }
+            if has_room(rt, lane) {
+                return true;
+            }
+            pause = next_pause(pause, is_closed);
+        }
+        false
+    }
+
+    /// Waits until the post-hook of a lane that stopped has room, and runs the lane on. Where that run is the last try, it doesn't wait.
+    fn run_again<H: PostHook + Drop, T: Wait>(
+        &self,
+        rt: &T,
+        notices: &N,
+        end: LaneEnd<H>,
+        tries: &mut u32,
+    ) -> LaneEnd<H>
+        requires sound { H.is_sound end.hook }
+        ensures sound { H.is_sound result.hook }
+        ensures same { (result.lane ≡ end.lane) × (result.take_end.queue ≡ end.take_end.queue) }
+    {
+        let number = end.lane;
+        notices.waits(number);
+        let mut lane = Lane::resume(end);
+        let has_room = self.try_again(rt, &mut lane, tries);
+        if has_room {
+            notices.goes_on(number);
+        }
+        let end = lane.run(rt, self.board);
+        if !has_room && end.how.is_drained() {
+            notices.goes_on(number);
+        }
+        end
+    }
+
+    /// Runs a lane to its end, drained or stopped. Where somebody is told of it, a lane that stops is tried again after a pause, which doubles,
+    /// and goes on once its post-hook has room for an event. Once the board is closed it is tried three times more.
+    pub fn run<H: PostHook + Drop, T: Wait>(&self, rt: &T, lane: Lane<H>) -> LaneEnd<H>
+        ensures sound { H.is_sound result.hook }
+        ensures same { (result.lane ≡ lane.lane) × (result.take_end.queue ≡ lane.queue) }
+    {
+        let mut end = lane.run(rt, self.board);
+        let Some(notices) = self.notices else {
+            return end;
+        };
+        let mut tries = LAST_TRIES;
+        for _ in rt.forever() {
+            if tries == 0 || end.how.is_drained() {
+                break;
+            }
+            end = self.run_again(rt, notices, end, &mut tries);
+        }
+        end
+    }
+}

@@ -1,0 +1,200 @@
+//! Post-hooks that are refused memory while connections are served.
+ghost use Rattle.std.specs.Prelude.{◌≡◌, ◌++◌, ◌∷◌, [], OnOk, true};
+
+use crate::clients::{ask_each, hold_answer};
+use std::alloc::Global;
+use std::marker::Sync;
+use std::net::{Shutdown, TcpListener, TcpStream};
+use std::process::Abort;
+use std::sync::Wait;
+use std::sync::atomic::{AtomicU64, Ordering};
+use std::test::Fail;
+use std::thread;
+use std::thread::Threads;
+use std::time::Duration;
+use up_connections::{Silent, Visits};
+use up_dispatch::{Counting, Report};
+use up_events::{Event, Hook, Id, NoMemory};
+use up_hooks::{Outcome, PostHook, PreHooks};
+use up_lanes::How;
+use up_server::{Settings, serve_with};
+
+/// A creation and an append, each of which closes its connection.
+const ASKED: [&[u8]; 2] = [
+    b"POST /files/ HTTP/1.1\r\nHost: a\r\nTus-Resumable: 1.0.0\r\n\
+        Upload-Length: 3\r\nConnection: close\r\n\r\n",
+    b"PATCH /files/00000000000000000000000000000001 HTTP/1.0\r\nTus-Resumable: 1.0.0\r\n\
+        Content-Type: application/offset+octet-stream\r\nUpload-Offset: 0\r\n\
+        Content-Length: 3\r\n\r\nabc",
+];
+
+/// Their events: each hook with its offset.
+const EVENTS: [(Hook, u64); 3] = [(Hook::Create, 0), (Hook::Receive, 3), (Hook::Finish, 3)];
+
+/// A post-hook that lists its events, and tells how many there are in all. Its first calls for memory are refused, so many.
+#[derive(Drop)]
+struct Scarce<'a> {
+    events: Vec<Event>,
+    refusals: u64,
+    told: &'a AtomicU64,
+}
+
+impl<'a> PostHook for Scarce<'a> {
+    ghost use Rattle.std.specs.Prelude.{◌≡◌, ⊤, nat_lt, vec_len, vec_capacity};
+    ghost use Rattle.up_hooks.specs.declared.post_hook.Outcome.TheVariants.{Done};
+
+    ghost is_sound = { λ _. ⊤ };
+
+    ghost handed = { λ k. k.events.items };
+
+    ghost has_room = { λ k. nat_lt (vec_len k.events) (vec_capacity k.events) };
+
+    ghost may_answer = { λ _ _ outcome. outcome ≡ Done };
+
+    fn ready(&mut self) -> Result<(), NoMemory>
+        ensures same { self.new.events.items ≡ self.old.events.items }
+        ensures room { OnOk result (⟦<Scarce<'a> as PostHook>⟧.has_room self.new ≡ true) }
+    {
+        if self.refusals > 0 {
+            self.refusals -= 1;
+            return Err(NoMemory);
+        }
+        Ok(self.events.reserve(1)?)
+    }
+
+    fn hand(&mut self, event: &Event) -> Outcome
+        requires room { ⟦<Scarce<'a> as PostHook>⟧.has_room self.old ≡ true }
+        ensures added { self.new.events.items ≡ self.old.events.items ++ event.now ∷ [] }
+        ensures answer { ⟦<Scarce<'a> as PostHook>⟧.may_answer self.old event.now result }
+    {
+        self.events.push_reserved(*event);
+        self.told.fetch_add(1, Ordering::SeqCst);
+        self.told.wake_all();
+        Outcome::Done
+    }
+}
+
+impl<'a> Scarce<'a> {
+    /// A post-hook that was handed nothing.
+    fn new(alloc: Global, refusals: u64, told: &'a AtomicU64) -> Self
+        ensures { result.events.items ≡ [] }
+    {
+        Scarce {
+            events: Vec::new(alloc),
+            refusals,
+            told,
+        }
+    }
+}
+
+/// Serves so many connections over one lane with this post-hook.
+fn served<'a, T: Threads + Wait + Eprint + Sync>(
+    rt: &T,
+    alloc: Global,
+    listener: TcpListener,
+    connections: u64,
+    post_hook: Scarce<'a>,
+) -> Result<Report<Scarce<'a>>, NoMemory>
+    requires { post_hook.events.items ≡ [] }
+{
+    let settings = Settings {
+        lanes: 1,
+        capacity: 4,
+        max_size: 1024,
+    };
+    let visits = Visits {
+        connections: Some(connections),
+        open: 1,
+        notices: &Silent,
+    };
+    let mut post_hooks = Vec::new(alloc);
+    post_hooks.push(post_hook)?;
+    let hooks = PreHooks::new(Vec::new(alloc));
+    let ids = Counting::new();
+    serve_with(
+        rt, alloc, hooks, post_hooks, &settings, listener, &visits, ids,
+    )
+}
+
+/// Waits until so many events were told, a minute at most.
+fn wait_for(rt: &impl Wait, told: &AtomicU64, count: u64) {
+    for _ in 0..600u32 {
+        let before = told.load(Ordering::SeqCst);
+        if before >= count {
+            break;
+        }
+        told.park_timeout(
+            rt,
+            (before & 0xffff_ffff) as u32,
+            Duration::from_millis(100),
+        );
+    }
+}
+
+/// Holds that the lane ended so, once it was handed so many of its events, each once and in order.
+fn hold(
+    rt: &impl Abort,
+    report: &Report<Scarce<'_>>,
+    how: How,
+    count: usize,
+    left: u64,
+) -> Result<(), Fail> {
+    let [lane] = report.lanes.as_slice() else {
+        return Err("one lane".into());
+    };
+    assert_eq!(rt;
+        (report.accepted.len(), lane.how, lane.left),
+        (2, how, left)
+    );
+    assert_eq!(rt; lane.hook.events.len(), count);
+    for (place, event) in lane.hook.events.iter().enumerate() {
+        let (hook, offset) = EVENTS[place.min(2)];
+        let wanted = Event {
+            id: Id::new(1),
+            number: place as u64 + 1,
+            hook,
+            offset,
+            length: Some(3),
+        };
+        assert_eq!(rt; *event, wanted);
+    }
+    Ok(())
+}
+
+#[test]
+fn a_lane_goes_on_while_the_server_runs(rt: HostRuntime) -> Result<(), Fail> {
+    let listener = TcpListener::bind(&rt, "127.0.0.1:0")?;
+    let address = listener.local_addr()?;
+    let mut clients = ask_each(&rt, address, &ASKED)?;
+    let silent = TcpStream::connect(&rt, address)?;
+    let told = AtomicU64::new(0);
+    let hook = Scarce::new(rt.alloc(), 3, &told);
+    let (report, _) = thread::join(
+        &rt,
+        ||
+            requires { hook.events.items ≡ [] }
+        { served(&rt, rt.alloc(), listener, 3, hook) },
+        || {
+            wait_for(&rt, &told, 3);
+            silent.shutdown(Shutdown::Both)
+        },
+    );
+    hold(&rt, &report?, How::Drained, 3, 0)?;
+    for client in &mut clients {
+        hold_answer(&rt, rt.alloc(), client, b"HTTP/1.1 20", b"\r\n\r\n")?;
+    }
+    Ok(())
+}
+
+#[test]
+fn a_lane_is_tried_three_times_more_at_the_end(rt: HostRuntime) -> Result<(), Fail> {
+    for (refusals, how, count, left) in [(3, How::Drained, 3, 0), (u64::MAX, How::Stopped, 0, 3)] {
+        let listener = TcpListener::bind(&rt, "127.0.0.1:0")?;
+        let _clients = ask_each(&rt, listener.local_addr()?, &ASKED)?;
+        let told = AtomicU64::new(0);
+        let hook = Scarce::new(rt.alloc(), refusals, &told);
+        let report = served(&rt, rt.alloc(), listener, 2, hook)?;
+        hold(&rt, &report, how, count, left)?;
+    }
+    Ok(())
+}
