@@ -1,6 +1,10 @@
 //! Room for bytes that come.
 ghost use Rattle.std.specs.Prelude.{◌≡◌, ◌*◌, ◌<◌, ◌≤◌, true, max, min, vec_len, vec_capacity};
 
+/// A buffer of at most so many bytes grows into memory of its own, to which its bytes are copied. A larger one grows where it
+/// lies, or its pages are moved. The C library would copy a small one too, but with the lock held that all threads share.
+const MOST_COPIED: usize = 1 << 19;
+
 /// Makes room for a byte at least, where the buffer may come to have `most` bytes: a buffer that is nearly full doubles, or
 /// has `first` bytes of room at first, but not past `most`. Answers whether there is room.
 pub(crate) fn make_room(buffer: &mut Vec<u8>, most: u64, first: usize) -> bool
@@ -17,5 +21,28 @@ pub(crate) fn make_room(buffer: &mut Vec<u8>, most: u64, first: usize) -> bool
     }
     let growth = first.saturating_sub(len).max(len);
     let growth = (growth as u64).min(most - len as u64) as usize;
-    buffer.reserve_exact(growth).is_ok()
+    if len > MOST_COPIED {
+        return buffer.reserve_exact(growth).is_ok();
+    }
+    move_to_room(buffer, len + growth)
+}
+
+/// Moves the bytes to a buffer of their own with room for so many. Answers whether there was memory for it.
+fn move_to_room(buffer: &mut Vec<u8>, room: usize) -> bool
+    requires within { vec_len buffer.old < room }
+    ensures items { buffer.new.items ≡ buffer.old.items }
+    ensures room { result ≡ true → vec_len buffer.new < vec_capacity buffer.new }
+    ensures bounded { vec_capacity buffer.new ≤ max (vec_capacity buffer.old) room }
+{
+    let mut larger = Vec::new(*buffer.allocator());
+    if larger.reserve_exact(room).is_err() {
+        return false;
+    }
+    let given = larger.capacity();
+    // std promises of no call that fills a buffer that it takes no more room than there is.
+    if larger.extend_from_slice(buffer).is_err() || larger.capacity() > given {
+        return false;
+    }
+    *buffer = larger;
+    true
 }
