@@ -22,6 +22,7 @@ fn endless<'a, N>(words: &Words, notices: &'a N) -> Option<Visits<'a, N>> {
         Some(serving) if serving.connections.is_none() => Some(Visits {
             connections: None,
             open: serving.open,
+            patience: serving.patience,
             notices,
         }),
         _ => None,
@@ -126,6 +127,7 @@ fn run_over<
     let visits = Visits {
         connections: serving.connections,
         open: serving.open,
+        patience: serving.patience,
         notices,
     };
     let ids = Drawn::new(rt)?;

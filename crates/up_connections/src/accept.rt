@@ -3,6 +3,7 @@ use crate::door::Door;
 use crate::gate::{Failed, Gate};
 use crate::hall::Hall;
 use crate::notices::{Entrance, Notices, Want};
+use crate::patience::Patience;
 use crate::pool::Pool;
 use crate::seats::Seats;
 use crate::visit::attend;
@@ -25,6 +26,8 @@ pub struct Visits<'a, N> {
     pub connections: Option<u64>,
     /// How many may be open at a time, at least 1.
     pub open: u64,
+    /// How long a connection waits for its client.
+    pub patience: Patience,
     /// Who is told where none can be let in.
     pub notices: &'a N,
 }
@@ -149,6 +152,7 @@ pub fn serve_connections<
         board,
         door: Door::new(),
         pool: Pool::new(alloc)?,
+        patience: visits.patience,
         ids: Mutex::new(ids),
         seats: Seats::new(alloc, visits.open)?,
     };

@@ -1,5 +1,6 @@
 //! What connections share.
 use crate::door::Door;
+use crate::patience::Patience;
 use crate::pool::Pool;
 use crate::seats::Seats;
 use std::sync::Mutex;
@@ -11,6 +12,7 @@ pub struct Hall<'a, B: Naming, I> {
     pub board: &'a Board<B>,
     pub door: Door,
     pub pool: Pool,
+    pub patience: Patience,
     pub ids: Mutex<I>,
     pub seats: Seats<B>,
 }

@@ -1,5 +1,8 @@
 //! When a line is said on letting connections in.
-ghost use Rattle.std.specs.Prelude.{◌≡◌, ◌≢◌, ◌+◌, ◌≤◌, IsTrue, Some, IfSome};
+ghost use Rattle.std.specs.Prelude.{◌≡◌, ◌≢◌, ◌↔◌, ℤ, IsTrue, true, false, Some};
+ghost use Rattle.up_connections.specs.Said.{has, IsApart};
+ghost use Rattle.up_connections.specs.declared.notices.Entrance.TheVariants.{Gone, Wanting};
+ghost use Rattle.up_connections.specs.declared.notices.Want.{Want};
 ghost use Rattle.up_connections.specs.declared.said.Due.TheVariants.{Say};
 
 use crate::notices::{Entrance, Want};
@@ -35,7 +38,9 @@ const NO_WANTS: Wants = Wants {
 
 impl Wants {
     /// Whether this want is among them.
-    fn has(self, want: Want) -> bool {
+    fn has(self, want: Want) -> bool
+        ensures { result ≡ has self want }
+    {
         match want {
             Want::Descriptors(_) => self.descriptors,
             Want::Memory(_) => self.memory,
@@ -44,7 +49,9 @@ impl Wants {
     }
 
     /// These and this one.
-    fn with(self, want: Want) -> Wants {
+    fn with(self, want: Want) -> Wants
+        ensures { has result want ≡ true }
+    {
         match want {
             Want::Descriptors(_) => Wants {
                 descriptors: true,
@@ -86,7 +93,7 @@ impl Said {
 
     /// Whether the last line was said long enough ago.
     fn may_say(&self, now: u64) -> bool
-        ensures { IsTrue result → IfSome self.now.at (λ last. last + 1000 ≤ now) }
+        ensures { IsTrue result ↔ IsApart self.now now }
     {
         match self.at {
             Some(last) => now.saturating_sub(last) >= APART,
@@ -96,17 +103,23 @@ impl Said {
 
     /// Whether nothing has failed for long enough, where nothing fails now.
     fn is_over(&mut self, now: u64) -> bool
-        ensures { self.new.at ≡ self.old.at }
+        ensures { (self.new.at ≡ self.old.at) × (self.new.wants ≡ self.old.wants) }
     {
         let since = self.well_since.unwrap_or(now);
         self.well_since = Some(since);
         now.saturating_sub(since) >= APART
     }
 
-    /// What is to be done where it stands so. Where a line is to be said now it counts as said. That no two of them are less than a second
-    /// apart is proved.
+    /// What is to be done where it stands so. Where a line is to be said now it counts as said. No two of them are less than a second apart.
+    /// A want of which none was said since all were over, and a listener that is gone, is said as soon as that allows, and no want is said
+    /// twice meanwhile.
     pub fn note(&mut self, entrance: Entrance, now: u64) -> Due
-        ensures apart { result ≡ Say → IfSome self.old.at (λ last. last + 1000 ≤ now) }
+        ensures apart { result ≡ Say → IsApart self.old now }
+        ensures news { (want : Want) → entrance ≡ Wanting want → has self.old.wants want ≡ false
+            → IsApart self.old now → (result ≡ Say) × (has self.new.wants want ≡ true) }
+        ensures once { (want : Want) → entrance ≡ Wanting want → has self.old.wants want ≡ true
+            → (result ≢ Say) × (self.new.wants ≡ self.old.wants) }
+        ensures gone { (code : ℤ) → entrance ≡ Gone code → IsApart self.old now → result ≡ Say }
         ensures said { result ≡ Say → self.new.at ≡ Some now }
         ensures unsaid { result ≢ Say → self.new.at ≡ self.old.at }
     {

@@ -5,6 +5,7 @@ ghost use Rattle.up_dispatch.specs.Keepers.{by_seat};
 ghost use Rattle.up_dispatch.specs.Turn.{Converses, stand};
 
 use crate::hall::Hall;
+use crate::patience::{Pace, Reading, Writing, milliseconds};
 use std::alloc::Global;
 use std::io::{self, BufReader, BufWriter, Read};
 use std::net::{Shutdown, TcpStream};
@@ -25,8 +26,8 @@ const WRITE_BUFFER: usize = 1024;
 /// How many bytes are read and dropped at a time.
 const DROPPED: usize = 8192;
 
-/// How many seconds a connection that is being closed waits for the client's next bytes, or for its close.
-const LINGERING: u64 = 2;
+/// How many milliseconds a connection that is being closed waits for the client's last bytes and its close, in all.
+const LINGERING: u64 = 2000;
 
 /// How many times bytes are read and dropped of a connection that is being closed.
 const MOST_DROPPED: usize = MOST_BYTES as usize / DROPPED;
@@ -63,8 +64,12 @@ fn talk<B: Naming, I: Ids, T: Wait>(
     stream: &TcpStream,
 ) -> io::Result<Ended> {
     stream.set_nodelay(true)?;
-    let mut source = Input::new(BufReader::with_capacity(alloc, READ_BUFFER, stream)?);
-    let mut sink = Output::new(BufWriter::with_capacity(alloc, WRITE_BUFFER, stream)?);
+    hall.patience.set_on(stream)?;
+    let pace = &Pace::new(hall.patience);
+    let reading = Reading { stream, pace };
+    let writing = Writing { stream, pace };
+    let mut source = Input::new(BufReader::with_capacity(alloc, READ_BUFFER, reading)?);
+    let mut sink = Output::new(BufWriter::with_capacity(alloc, WRITE_BUFFER, writing)?);
     let mut ids = SharedIds { rt, ids: &hall.ids };
     Ok(converse_at(
         rt,
@@ -84,10 +89,15 @@ fn talk<B: Naming, I: Ids, T: Wait>(
 #[inline(never)]
 fn close(stream: &TcpStream) -> io::Result<()> {
     stream.shutdown(Shutdown::Write)?;
-    stream.set_read_timeout(Some(Duration::from_secs(LINGERING)))?;
     let mut dropped = [0; DROPPED];
     let mut unheard = stream;
+    let begun = milliseconds();
     for _ in 0..MOST_DROPPED {
+        let left = LINGERING.saturating_sub(milliseconds().saturating_sub(begun));
+        if left == 0 {
+            break;
+        }
+        stream.set_read_timeout(Some(Duration::from_millis(left)))?;
         if unheard.read(&mut dropped)? == 0 {
             break;
         }

@@ -1,12 +1,15 @@
 //! The words of the command line.
-ghost use Rattle.std.specs.Prelude.{◌≡◌, ◌≤◌, IfOk, option_map, string_bytes};
+ghost use Rattle.std.specs.Prelude.{◌≡◌, ◌≤◌, IfOk, IfSome, option_map, string_bytes};
 ghost use Rattle.clap.specs.Words.{first_value, found_of};
 
-use crate::settings::{MOST_CAPACITY, MOST_CONNECTIONS, MOST_OPEN, Serving, Settings, Words};
+use crate::settings::{
+    MOST_CAPACITY, MOST_CONNECTIONS, MOST_OPEN, MOST_PATIENCE, Serving, Settings, Words,
+};
 use clap::builder::ValueParser;
 use clap::error::ErrorKind;
 use clap::{Arg, ArgAction, ArgMatches, Command, Error};
 use std::alloc::{AllocError, Global};
+use up_connections::Patience;
 use up_events::{MOST_BYTES, MOST_LANES};
 
 /// What `--version` tells: the version of the program, and the logic of the toolchain by which it is proved, as `rt version` has it.
@@ -105,7 +108,7 @@ const COMMON: [Word<'static>; 7] = [
 ];
 
 /// The words that say which connections are served, and what is told meanwhile.
-const CONNECTIONS: [Word<'static>; 4] = [
+const CONNECTIONS: [Word<'static>; 6] = [
     Word {
         name: "address",
         kind: Kind::Text("HOST:PORT"),
@@ -123,6 +126,18 @@ const CONNECTIONS: [Word<'static>; 4] = [
         kind: Kind::Number(1, MOST_OPEN),
         default: Some("1024"),
         help: "How many connections are open at a time, from 1 to 4096; others wait",
+    },
+    Word {
+        name: "patience",
+        kind: Kind::Number(1, MOST_PATIENCE),
+        default: None,
+        help: "End a connection on which no byte moves for N seconds, from 1 to 86400",
+    },
+    Word {
+        name: "least-rate",
+        kind: Kind::Number(1, MOST_BYTES),
+        default: None,
+        help: "End a connection whose request comes at fewer than N bytes a second for more than 10 seconds",
     },
     Word {
         name: "events",
@@ -195,6 +210,15 @@ fn value_of(matches: &ArgMatches<'_>, id: &str, most: u64) -> u64
     matches.get_one::<u64>(id).unwrap_or(1).clamp(1, most)
 }
 
+/// A number of the command line, where it is given. `clap` has seen to its limits.
+fn number_of(matches: &ArgMatches<'_>, id: &str, most: u64) -> Option<u64>
+    requires { 1 ≤ most }
+    ensures { IfSome result (λ number. (1 ≤ number) × (number ≤ most)) }
+{
+    let number = matches.get_one::<u64>(id)?;
+    Some(number.clamp(1, most))
+}
+
 /// A text of the command line, where it is given.
 fn text_of(alloc: Global, matches: &ArgMatches<'_>, id: &str) -> Result<Option<String>, AllocError>
     ensures { IfOk result (λ text. option_map string_bytes text ≡ first_value (found_of matches.now) id.now) }
@@ -207,11 +231,14 @@ fn text_of(alloc: Global, matches: &ArgMatches<'_>, id: &str) -> Result<Option<S
 
 /// Which connections the words behind `serve` ask for.
 fn serving_of(alloc: Global, serve: &ArgMatches<'_>) -> Result<Serving, AllocError> {
-    let connections = serve.get_one::<u64>("connections");
     Ok(Serving {
         address: text_of(alloc, serve, "address")?.unwrap_or(String::new(alloc)),
-        connections: connections.map(|count| count.clamp(1, MOST_CONNECTIONS)),
+        connections: number_of(serve, "connections", MOST_CONNECTIONS),
         open: value_of(serve, "open", MOST_OPEN),
+        patience: Patience {
+            seconds: number_of(serve, "patience", MOST_PATIENCE),
+            least_rate: number_of(serve, "least-rate", MOST_BYTES),
+        },
         events: serve.get_flag("events"),
     })
 }

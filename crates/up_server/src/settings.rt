@@ -4,6 +4,8 @@ ghost use Rattle.up_events.specs.declared.limits.TheConstants.{MOST_BYTES, MOST_
 ghost use Rattle.up_server.specs.Limits.{most_capacity, most_connections, most_open};
 ghost use Rattle.up_server.specs.declared.settings.TheConstants.{MOST_CAPACITY, MOST_CONNECTIONS, MOST_OPEN};
 
+use up_connections::Patience;
+
 /// The most items that the queue of a lane holds.
 pub const MOST_CAPACITY: u64 = 4096;
 
@@ -19,6 +21,9 @@ pub fn limits_are_exact()
     ensures connections { MOST_CONNECTIONS ≡ most_connections }
     ensures at_a_time { MOST_OPEN ≡ most_open }
 {}
+
+/// The most seconds for which a connection may be silent: a day.
+pub const MOST_PATIENCE: u64 = 86_400;
 
 /// The size of a server.
 #[derive(Clone, Copy, Debug, PartialEq, Eq)]
@@ -54,6 +59,8 @@ pub struct Serving {
     pub connections: Option<u64>,
     /// How many connections are open at a time, from 1 to 4,096.
     pub open: u64,
+    /// How long a connection waits for its client.
+    pub patience: Patience,
     /// Whether each event is written as a line as it is handed over.
     pub events: bool,
     ghost connections_within: { (count : ℕ) → connections ≡ Some count → (1 ≤ count) × (count ≤ MOST_CONNECTIONS) },

@@ -11,7 +11,7 @@ use std::os::fd::AsRawFd;
 use std::sync::Wait;
 use std::test::Fail;
 use std::thread::Threads;
-use up_connections::{Entrance, Notices, Silent, Visits, serve_connections};
+use up_connections::{Entrance, Notices, Patience, Silent, Visits, serve_connections};
 use up_dispatch::{Board, BoardParts, Counting, Naming};
 use up_hooks::PreHooks;
 
@@ -60,6 +60,7 @@ fn serves_three_from_one_seat(rt: HostRuntime) -> Result<(), Fail> {
     let visits = Visits {
         connections: Some(3),
         open: 1,
+        patience: Patience::default(),
         notices: &Silent,
     };
     let parts = BoardParts::new(rt.alloc(), 1, 8)?;
@@ -86,6 +87,7 @@ fn ends_where_the_listener_is_gone(rt: HostRuntime) -> Result<(), Fail> {
     let visits = Visits {
         connections: None,
         open: 2,
+        patience: Patience::default(),
         notices: &last,
     };
     let parts = BoardParts::new(rt.alloc(), 1, 8)?;

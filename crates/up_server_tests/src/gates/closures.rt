@@ -11,7 +11,7 @@ use std::sync::Arc;
 use std::test::Fail;
 use std::thread;
 use up_board_tests::{Gate, HEAD, POST};
-use up_connections::{Silent, Visits};
+use up_connections::{Patience, Silent, Visits};
 use up_events::Event;
 use up_hooks::{Outcome, PreHook, PreHooks};
 use up_machine::{Ask, Point, Verdict};
@@ -51,6 +51,7 @@ fn a_closure_waits_for_another_connection(rt: HostRuntime) -> Result<(), Fail> {
     let visits = Visits {
         connections: Some(2),
         open: 2,
+        patience: Patience::default(),
         notices: &Silent,
     };
     let done = |_: &Event| Outcome::Done;

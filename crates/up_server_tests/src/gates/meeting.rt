@@ -9,7 +9,7 @@ use std::net::TcpListener;
 use std::sync::atomic::{AtomicBool, Ordering};
 use std::test::Fail;
 use up_board_tests::{POST, is_set_in_time};
-use up_connections::{Silent, Visits};
+use up_connections::{Patience, Silent, Visits};
 use up_events::Event;
 use up_hooks::{Outcome, PreHooks};
 use up_server::Settings;
@@ -99,6 +99,7 @@ fn post_hooks_meet_by_two_connections(rt: HostRuntime) -> Result<(), Fail> {
     let visits = Visits {
         connections: Some(2),
         open: 1,
+        patience: Patience::default(),
         notices: &Silent,
     };
     let report = reported(&rt, rt.alloc(), hooks, answer, &settings, listener, &visits)?;

@@ -166,6 +166,32 @@ fn reads_which_connections_are_served(rt: HostRuntime) -> Result<(), Fail> {
     Ok(())
 }
 
+/// Words, and for how many seconds a connection may be silent and how many bytes a second are the least.
+const PATIENCE: [(&[&str], Option<(Option<u64>, Option<u64>)>); 4] = [
+    (&["serve"], Some((None, None))),
+    (&["serve", "--patience", "1"], Some((Some(1), None))),
+    (
+        &["serve", "--least-rate", "1", "--patience", "86400"],
+        Some((Some(86_400), Some(1))),
+    ),
+    (
+        &["serve", "--least-rate=1073741824"],
+        Some((None, Some(1_073_741_824))),
+    ),
+];
+
+#[test]
+fn reads_how_long_it_waits_for_clients(rt: HostRuntime) -> Result<(), Fail> {
+    for (i, (line, wanted)) in PATIENCE.iter().enumerate() {
+        let found = read(rt.alloc(), line)?;
+        let patience = found
+            .serve
+            .map(|it| (it.patience.seconds, it.patience.least_rate));
+        assert_eq!(rt; patience, *wanted, "at {i}");
+    }
+    Ok(())
+}
+
 #[test]
 fn reads_sizes_and_rules_of_connections(rt: HostRuntime) -> Result<(), Fail> {
     let given = [
@@ -197,7 +223,7 @@ fn reads_sizes_and_rules_of_connections(rt: HostRuntime) -> Result<(), Fail> {
 
 #[test]
 fn refuses_other_words(rt: HostRuntime) -> Result<(), Fail> {
-    let lines: [&[&str]; 32] = [
+    let lines: [&[&str]; 37] = [
         &["replay", "--lanes", "0"],
         &["replay", "--lanes", "17"],
         &["replay", "--capacity", "0"],
@@ -226,6 +252,11 @@ fn refuses_other_words(rt: HostRuntime) -> Result<(), Fail> {
         &["serve", "--connections"],
         &["serve", "--open", "0"],
         &["serve", "--open", "4097"],
+        &["serve", "--patience", "0"],
+        &["serve", "--patience", "86401"],
+        &["serve", "--least-rate", "0"],
+        &["serve", "--least-rate", "1073741825"],
+        &["replay", "--patience", "1"],
         &["serve", "--address"],
         &["serve", "replay"],
         &[],

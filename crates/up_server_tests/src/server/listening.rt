@@ -3,7 +3,7 @@ use crate::clients::{ask_each, hold_answer};
 use crate::serving::reported;
 use std::net::TcpListener;
 use std::test::Fail;
-use up_connections::{Silent, Visits};
+use up_connections::{Patience, Silent, Visits};
 use up_events::Event;
 use up_hooks::{Outcome, PreHooks};
 use up_server::Settings;
@@ -32,6 +32,7 @@ fn reports_what_each_connection_did(rt: HostRuntime) -> Result<(), Fail> {
     let visits = Visits {
         connections: Some(3),
         open: 1,
+        patience: Patience::default(),
         notices: &Silent,
     };
     let hooks = PreHooks::new(Vec::new(rt.alloc()));

@@ -12,7 +12,7 @@ use std::test::Fail;
 use std::thread;
 use std::thread::Threads;
 use std::time::Duration;
-use up_connections::{Silent, Visits};
+use up_connections::{Patience, Silent, Visits};
 use up_dispatch::{Counting, Report};
 use up_events::{Event, Hook, Id, NoMemory};
 use up_hooks::{Outcome, PostHook, PreHooks};
@@ -105,6 +105,7 @@ fn served<'a, T: Threads + Wait + Eprint + Sync>(
     let visits = Visits {
         connections: Some(connections),
         open: 1,
+        patience: Patience::default(),
         notices: &Silent,
     };
     let mut post_hooks = Vec::new(alloc);
