@@ -1,12 +1,14 @@
 -- What keeps a lane's queue in step with its log.
-use Rattle.std.proofs.Common.{◌≡◌, ℕ, ◌+◌, ◌-◌, ◌≤◌, ◌<◌, List, [], ◌∷◌, ◌++◌, length, take, drop, get_or, Bool, true, false, true≢false, refl, sym, ap, ◌∙◌, subst, arith, length-append, append-nil, take-append-drop}
-use Rattle.std.proofs.lemmas.List.{get_or-drop, take_more, take-append-le, map-append}
+use Rattle.std.proofs.Common.{◌≡◌, ℕ, ◌+◌, ◌-◌, ◌≤◌, ◌<◌, List, [], ◌∷◌, ◌++◌, Some, Result, Ok, Err, OnOk, length, take, drop, slice_get, get_or, Bool, true, false, true≢false, refl, sym, ap, ◌∙◌, subst, arith, length-append, append-nil, take-append-drop}
+use Rattle.std.specs.Result.{is_err}
+use Rattle.std.proofs.lemmas.Option.{get_or_from_slice_get, slice_get_within}
+use Rattle.std.proofs.lemmas.List.{take_more, take-append-le, map-append}
 use Rattle.up_events.specs.Log.{IsLawful}
 use Rattle.up_events.specs.declared.event.Event.{Event}
 use Rattle.up_queue.specs.declared.item.Item.{Item}
 use Rattle.up_queue.specs.declared.item.Item.TheVariants as item
 use Rattle.up_queue.specs.Line.{items_of, items_if, IsOrderly}
-use Rattle.up_queue.specs.Sides.{QueueId}
+use Rattle.up_queue.specs.Sides.{PutSide, QueueId, with_put}
 use Rattle.up_events.proofs.FrontLemmas.{fronts_lawful}
 use Rattle.up_queue.proofs.Orders.{orderly_events, orderly_ended}
 use Rattle.up_dispatch.specs.declared.feed.Feed.{Feed}
@@ -20,10 +22,6 @@ items_next log n d less = sym (ap items_of (take_more log n d less) ∙ map-appe
 
 going_is : (put : List Item) (xs : List Event) (ended : Bool) → put ≡ items_if xs ended → ended ≡ false → put ≡ items_of xs
 going_is put xs ended is going = is ∙ ap (items_if xs) going ∙ append-nil (items_of xs)
-
--- what stands at a place of the log stands in what is left from an earlier place on
-pub read_on : (log : List Event) (first place : ℕ) (d : Event) → first ≤ place → get_or (drop first log) (place - first) d ≡ get_or log place d
-read_on log first place d there = get_or-drop first log (place - first) d ∙ ap (λ n. get_or log n d) (omega arith)
 
 -- the end was not put where events are left
 pub still_going : (log : List Event) (closed ended : Bool) (cursor : ℕ) → (ended ≡ true → (closed ≡ true) × (cursor ≡ length log)) → cursor < length log → ended ≡ false
@@ -54,3 +52,23 @@ fed_grown queue log more feed fed = record {
 
 pub fed_closed : (queue : QueueId) (log : List Event) (closed : Bool) (feed : Feed) → IsFed queue log closed feed → IsFed queue log true feed
 fed_closed queue log closed feed fed = record { queue_is = fed.queue_is; put_is = fed.put_is; within = fed.within; whole = λ e. (refl, (fed.whole e).1) }
+
+-- ---- one more event
+
+pub where_ok : {T E : Type 0} {P : Type 0} (r : Result T E) → false ≡ is_err r → OnOk r P → P
+where_ok (Ok x) e p = p
+where_ok (Err x) e p = absurd (true≢false (sym e))
+
+pub fed_event : (queue : QueueId) (log : List Event) (closed : Bool) (feed : Feed) (event : Event) (new : PutSide) → IsFed queue log closed feed → slice_get log feed.cursor ≡ Some event → new ≡ with_put feed.put_end (item.Event event) → IsFed queue log closed (record { put_end = new; cursor = feed.cursor + 1; ended = feed.ended })
+fed_event queue log closed feed event new fed at is =
+    let less = slice_get_within log feed.cursor event at in
+    let going = still_going log closed feed.ended feed.cursor fed.whole less in
+    let was = going_is feed.put_end.put (take feed.cursor log) feed.ended fed.put_is going in
+    let read : event ≡ get_or log feed.cursor event = sym (get_or_from_slice_get log feed.cursor event event at) in
+    rw is (record {
+      queue_is = fed.queue_is;
+      put_is = ap (λ l. l ++ item.Event event ∷ []) was ∙ ap (λ e. items_of (take feed.cursor log) ++ item.Event e ∷ []) read ∙ items_next log feed.cursor event less
+          ∙ sym (ap (items_if (take (feed.cursor + 1) log)) going ∙ append-nil (items_of (take (feed.cursor + 1) log)));
+      within = omega (arith, less);
+      whole = λ e. absurd (true≢false (sym e ∙ going));
+    })

@@ -1,34 +1,33 @@
 -- The journal's fields after one more change.
-use Rattle.std.proofs.Common.{◌≡◌, ◌≢◌, ℕ, ◌+◌, ◌^◌, ◌≤◌, ◌<◌, ◌%◌, Bool, true, false, cond, eqb, ltb, Option, Some, None, is_some, unwrap_or, List, [], ◌∷◌, ◌++◌, length, zero, suc, refl, sym, ap, ◌∙◌, subst, arith, ◌-◌, Vec, drop, get_or, replicate, slice_get, slice_set, length-append, mod-lt}
+use Rattle.std.proofs.Common.{◌≡◌, ◌≢◌, ℕ, ◌+◌, ◌^◌, ◌≤◌, ◌<◌, ◌%◌, Bool, true, false, cond, eqb, ltb, Some, None, is_some, List, [], ◌∷◌, ◌++◌, length, zero, suc, refl, sym, ap, ◌∙◌, subst, arith, ◌-◌, Vec, drop, get_or, replicate, slice_get, slice_set, length-append, mod-lt}
 use Rattle.std.proofs.Math.ListN.{length-set}
 use Rattle.std.specs.Vec.{with_item}
 use Rattle.std.specs.Map.{lookup}
-use Rattle.std.proofs.lemmas.Bool.{eqb-true, eq-eqb, false≢true, ltb-true, ltb-false}
-use Rattle.std.proofs.lemmas.Option.{slice_get_read}
-use Rattle.std.proofs.lemmas.Map.Lookups.{exact_unsigned}
-use Rattle.std.specs.Ordering.{nat_cmp, is_eq}
-use Rattle.std.specs.Cmp.{nat_cmp_total}
-use Rattle.std.specs.BTreeMap.{BTreeMap, get, is_at, Updates, IsUnchanged}
-use Rattle.std.specs.declared.cmp.Ordering.{Ordering}
-use Rattle.std.specs.declared.cmp.Ordering.TheVariants.{Less, Equal, Greater}
-use Rattle.std.proofs.lemmas.List.{drop-append-le, length-drop, drop-drop}
+use Rattle.std.proofs.lemmas.Bool.{eq-eqb, ltb-true, ltb-false}
+use Rattle.std.proofs.lemmas.Option.{get_or_from_slice_get, slice_get_read}
+use Rattle.std.specs.Ordering.{nat_cmp}
+use Rattle.std.specs.BTreeMap.{BTreeMap, is_at, Updates, IsUnchanged}
+use Rattle.std.proofs.lemmas.List.{drop-append-le, get_or-drop, length-drop, drop-drop}
 use Rattle.std.specs.declared.alloc.Global.{Global}
 use Rattle.up_events.specs.declared.event.Accepted.{Accepted}
 use Rattle.up_events.specs.declared.event.Accepted.TheVariants.{Created, Appended, Declared, Terminated}
 use Rattle.up_events.specs.declared.event.Event.{Event}
 use Rattle.up_events.specs.declared.track.Track.{Track}
 use Rattle.up_events.specs.declared.journal.Journal.TheInside.{Inside}
+use Rattle.up_events.specs.Ended.{has}
 use Rattle.up_events.specs.Lists.{gather, EachFollows, first_given}
-use Rattle.up_events.specs.History.{id_of, kind_of, length_of, is_final, offset_of, is_known, is_terminated, CanFollow, IsLegal, Step, steps_at, steps_of, events_of}
+use Rattle.up_events.specs.History.{id_of, kind_of, length_of, is_final, offset_of, is_terminated, is_alive, CanFollow, IsLegal, Step, steps_at, steps_of, events_of}
 use Rattle.up_events.specs.Log.{numbered, log_of}
 use Rattle.up_events.specs.Left.{Left, log_length}
 use Rattle.up_events.specs.Listing.{Listing}
 use Rattle.up_events.specs.Records.{Records, empty_records, first_of, firsts_of, forgot, kept_log, lane_log, noted, ArePlaces, AreEmpty}
 use Rattle.up_events.specs.contracts.journal.Journal.{the_view}
-use Rattle.up_events.specs.Reached.{reached, bytes_added}
+use Rattle.up_events.specs.Reached.{reached, bytes_added, track_left, ended_by}
 use Rattle.up_events.specs.Kept.{IsKept, IsTailOf, track_of}
-use Rattle.up_events.proofs.HistoryLemmas.{append_nil, EachFollows-snoc, log_of-snoc, kind_of-other, length_of-other, offset_of-other, events_of-other}
-use Rattle.up_events.proofs.Sound.{IsSound, sound, alive_known, kind_of-created, kind_of-appended, kind_of-declared, kind_of-terminated, offset_of-plain, track_of-unknown, steps_of-reached, track_of-reached}
+use Rattle.up_events.proofs.HistoryLemmas.{append_nil, EachFollows-snoc, log_of-snoc}
+use Rattle.up_events.proofs.ListLemmas.{each_set, not_same}
+use Rattle.up_events.proofs.TrackLemmas.{tracks_after, ended_after}
+use Rattle.up_events.proofs.Sound.{IsSound, sound, offset_of-plain, steps_of-reached, track_of-reached}
 
 -- ---- numbers fit
 
@@ -61,56 +60,7 @@ events-reached t (Appended u n) = refl
 events-reached t (Declared u n k) = refl
 events-reached t (Terminated u) = refl
 
--- ---- the table of tracks
-
-at_known : (b : Bool) (t : Track) (o : Option Track) → o ≡ cond b (Some t) None → (b ≡ false → t ≡ record { events = 0; offset = 0; length = None }) → unwrap_or o (record { events = 0; offset = 0; length = None }) ≡ t
-at_known true t o e h = ap (λ o. unwrap_or o (record { events = 0; offset = 0; length = None })) e
-at_known false t o e h = ap (λ o. unwrap_or o (record { events = 0; offset = 0; length = None })) e ∙ sym (h refl)
-
-pub track_found : (a : Inside) → IsKept a → (u : ℕ) (o : Option Track) → o ≡ get nat_cmp a.tracks u → unwrap_or o (record { events = 0; offset = 0; length = None }) ≡ track_of a.accepted.items u
-track_found a k u o e = at_known (is_known a.accepted.items u) _ o (e ∙ k.tracks u) (track_of-unknown a.accepted.items u (sound a.accepted.items k.legal u))
-
-equal_from : (r : Ordering) → is_eq r ≡ true → r ≡ Equal
-equal_from Less e = absurd (false≢true e)
-equal_from Equal e = refl
-equal_from Greater e = absurd (false≢true e)
-
-pub same_id : (k u : ℕ) → is_at (nat_cmp k) u ≡ true → k ≡ u
-same_id k u e = exact_unsigned k u (equal_from (nat_cmp k u) e)
-
-pub other_id : (k u : ℕ) → is_at (nat_cmp k) u ≡ false → eqb k u ≡ false
-other_id k u e = elim (eqb k u) as (λ b. eqb k u ≡ b → b ≡ false) [ true ↦ λ h. absurd (false≢true (sym e ∙ grind (arith, eqb-true k u h, nat_cmp_total))) | false ↦ λ h. refl ] refl
-
-pub known_after : (changes : List Accepted) (c : Accepted) → CanFollow changes c → is_known (changes ++ c ∷ []) (id_of c) ≡ true
-known_after changes (Created u n kind) can = ap is_some (kind_of-created changes u n kind can.0)
-known_after changes (Appended u n) can = ap is_some (kind_of-appended changes u n u) ∙ (alive_known (is_known changes u) (is_terminated changes u) can.0.0).0
-known_after changes (Declared u n k) can = ap is_some (kind_of-declared changes u n k u) ∙ (alive_known (is_known changes u) (is_terminated changes u) can.0.0).0
-known_after changes (Terminated u) can = ap is_some (kind_of-terminated changes u u) ∙ (alive_known (is_known changes u) (is_terminated changes u) can).0
-
-unmoved : (changes : List Accepted) (c : Accepted) (u : ℕ) → eqb (id_of c) u ≡ false → cond (is_known changes u) (Some (track_of changes u)) None ≡ cond (is_known (changes ++ c ∷ []) u) (Some (track_of (changes ++ c ∷ []) u)) None
-unmoved changes c u e = rw (kind_of-other changes c u e, length_of-other changes c u e, events_of-other changes c u e, offset_of-other changes c u e) refl
-
-pub tracks_after : (changes : List Accepted) (c : Accepted) (t : Track) (m n : BTreeMap ℕ Track) → CanFollow changes c → ((u : ℕ) → get nat_cmp m u ≡ cond (is_known changes u) (Some (track_of changes u)) None) → Updates nat_cmp m n (id_of c) (Some t) → t ≡ track_of (changes ++ c ∷ []) (id_of c) → (u : ℕ) → get nat_cmp n u ≡ cond (is_known (changes ++ c ∷ []) u) (Some (track_of (changes ++ c ∷ []) u)) None
-tracks_after changes c t m n can before updates e u =
-    updates.0 u ∙ elim (is_at (nat_cmp (id_of c)) u) as (λ b. is_at (nat_cmp (id_of c)) u ≡ b → cond b (Some t) (get nat_cmp m u) ≡ cond (is_known (changes ++ c ∷ []) u) (Some (track_of (changes ++ c ∷ []) u)) None) [
-      | true ↦ λ h. subst (λ v. Some t ≡ cond (is_known (changes ++ c ∷ []) v) (Some (track_of (changes ++ c ∷ []) v)) None) (same_id _ _ h)
-          (ap Some e ∙ ap (λ b. cond b (Some (track_of (changes ++ c ∷ []) (id_of c))) None) (sym (known_after changes c can)))
-      | false ↦ λ h. before u ∙ unmoved changes c u (other_id _ _ h)
-    ] refl
-
 -- ---- the logs
-
--- what holds of each member and its place holds of each after one write, where it does of the new one
-pub each_set : {X : Type 0} (P Q : ℕ → X → Type 0) (xs : List X) (i : ℕ) (new : X) → ((k : ℕ) (x : X) → slice_get xs k ≡ Some x → P k x) → Q i new → ((k : ℕ) (x : X) → k ≢ i → P k x → Q k x) → (k : ℕ) (x : X) → slice_get (slice_set xs i new) k ≡ Some x → Q k x
-each_set P Q [] i new old here there k x e = absurd (cc)
-each_set P Q (y ∷ ys) zero new old here there zero x e = subst (Q zero) (let h : new ≡ x = cc in h) here
-each_set P Q (y ∷ ys) zero new old here there (suc k) x e = there (suc k) x (λ h. absurd (omega arith)) (old (suc k) x e)
-each_set P Q (y ∷ ys) (suc i) new old here there zero x e = there zero x (λ h. absurd (omega arith)) (old zero x e)
-each_set P Q (y ∷ ys) (suc i) new old here there (suc k) x e =
-    each_set (λ k. P (suc k)) (λ k. Q (suc k)) ys i new (λ k x e. old (suc k) x e) here (λ k x h. there (suc k) x (λ e. h (omega arith))) k x e
-
-not_same : (k u : ℕ) → u ≢ k → eqb k u ≡ false
-not_same k u h = elim (eqb k u) as (λ b. eqb k u ≡ b → b ≡ false) [ true ↦ λ e. absurd (h (sym (eqb-true k u e))) | false ↦ λ e. refl ] refl
 
 not_added : {X : Type 0} (b : Bool) (xs ys : List X) → b ≡ false → xs ++ cond b ys [] ≡ xs
 not_added b xs ys e = ap (λ b. xs ++ cond b ys []) e ∙ append_nil xs
@@ -190,19 +140,20 @@ logs_same f logs i new old here = each_set (λ k log. IsTailOf (f k) log) (λ k 
 
 -- ---- the whole of it
 
-pub kept_same : (a : Inside) (accepted : Listing) (i : ℕ) (log0 log : Left) (tracks : BTreeMap ℕ Track) → IsKept a → accepted.items ≡ a.accepted.items → slice_get a.logs.items i ≡ Some log0 → IsTailOf (log_of a.lanes a.accepted.items i) log → IsUnchanged a.tracks tracks → IsKept (record { lanes = a.lanes; accepted = accepted; logs = with_item a.logs i log; tracks = tracks })
-kept_same a accepted i log0 log tracks k e was here unchanged = record {
+pub kept_same : (a : Inside) (accepted : Listing) (i : ℕ) (log0 log : Left) (tracks : BTreeMap ℕ Track) (ended : List ℕ) (bytes : ℕ) → IsKept a → accepted.items ≡ a.accepted.items → slice_get a.logs.items i ≡ Some log0 → IsTailOf (log_of a.lanes a.accepted.items i) log → IsUnchanged a.tracks tracks → ended ≡ a.ended → IsKept (record { lanes = a.lanes; accepted = accepted; logs = with_item a.logs i log; tracks = tracks; ended = ended; bytes = bytes })
+kept_same a accepted i log0 log tracks ended bytes k e was here unchanged same = record {
   some_lane = k.some_lane;
   few_lanes = k.few_lanes;
   legal = subst IsLegal (sym e) k.legal;
   rows = length-set a.logs.items i log ∙ k.rows;
   logs = subst (λ l. (j : ℕ) (v : Left) → slice_get (slice_set a.logs.items i log) j ≡ Some v → IsTailOf (log_of a.lanes l j) v) (sym e)
       (logs_same (log_of a.lanes a.accepted.items) a.logs.items i log k.logs here);
-  tracks = λ u. ap (lookup (is_at (nat_cmp u))) unchanged ∙ k.tracks u ∙ ap (λ l. cond (is_known l u) (Some (track_of l u)) None) (sym e);
+  tracks = λ u. ap (lookup (is_at (nat_cmp u))) unchanged ∙ k.tracks u ∙ ap (λ l. cond (is_alive l u) (Some (track_of l u)) None) (sym e);
+  ended = λ u. ap (λ ids. has ids u) same ∙ k.ended u ∙ ap (λ l. is_terminated l u) (sym e);
 }
 
-pub kept_after : (a : Inside) (c : Accepted) (accepted : Listing) (log0 log : Left) (tracks : BTreeMap ℕ Track) (t : Track) → IsKept a → CanFollow a.accepted.items c → accepted.items ≡ a.accepted.items ++ c ∷ [] → slice_get a.logs.items (id_of c % a.lanes) ≡ Some log0 → log.first ≡ log0.first → log.events ≡ log0.events ++ numbered (id_of c) (length (events_of a.accepted.items (id_of c))) (steps_of a.accepted.items c) → Updates nat_cmp a.tracks tracks (id_of c) (Some t) → t ≡ track_of (a.accepted.items ++ c ∷ []) (id_of c) → IsKept (record { lanes = a.lanes; accepted = accepted; logs = with_item a.logs (id_of c % a.lanes) log; tracks = tracks })
-kept_after a c accepted log0 log tracks t k can e was first grown updates is =
+pub kept_after : (a : Inside) (c : Accepted) (accepted : Listing) (log0 log : Left) (tracks : BTreeMap ℕ Track) (ended : List ℕ) (bytes : ℕ) (t : Track) → IsKept a → CanFollow a.accepted.items c → accepted.items ≡ a.accepted.items ++ c ∷ [] → slice_get a.logs.items (id_of c % a.lanes) ≡ Some log0 → log.first ≡ log0.first → log.events ≡ log0.events ++ numbered (id_of c) (length (events_of a.accepted.items (id_of c))) (steps_of a.accepted.items c) → Updates nat_cmp a.tracks tracks (id_of c) (track_left c t) → t ≡ track_of (a.accepted.items ++ c ∷ []) (id_of c) → ended ≡ a.ended ++ ended_by c → IsKept (record { lanes = a.lanes; accepted = accepted; logs = with_item a.logs (id_of c % a.lanes) log; tracks = tracks; ended = ended; bytes = bytes })
+kept_after a c accepted log0 log tracks ended bytes t k can e was first grown updates is more =
     let old = a.accepted.items in
     let here : IsTailOf (log_of a.lanes (old ++ c ∷ []) (id_of c % a.lanes)) log =
     subst (λ l. IsTailOf l log) (sym (log_of-here a.lanes old c)) (tail_more (log_of a.lanes old (id_of c % a.lanes)) _ log0 log (k.logs (id_of c % a.lanes) log0 was) first grown) in
@@ -213,10 +164,11 @@ kept_after a c accepted log0 log tracks t k can e was first grown updates is =
       rows = length-set a.logs.items (id_of c % a.lanes) log ∙ k.rows;
       logs = subst (λ l. (j : ℕ) (v : Left) → slice_get (slice_set a.logs.items (id_of c % a.lanes) log) j ≡ Some v → IsTailOf (log_of a.lanes l j) v) (sym e)
           (logs_after a.lanes old c a.logs.items log k.logs here);
-      tracks = λ u. tracks_after old c t a.tracks tracks can k.tracks updates is u ∙ ap (λ l. cond (is_known l u) (Some (track_of l u)) None) (sym e);
+      tracks = λ u. tracks_after old c t a.tracks tracks (sound old k.legal (id_of c)) can k.tracks updates is u ∙ ap (λ l. cond (is_alive l u) (Some (track_of l u)) None) (sym e);
+      ended = λ u. ended_after old c a.ended ended k.ended more u ∙ ap (λ l. is_terminated l u) (sym e);
     }
 
-pub kept_later : (a : Inside) (k : ℕ) (log0 log : Left) (place : ℕ) → IsKept a → slice_get a.logs.items k ≡ Some log0 → log0.first ≤ place → place ≤ length (log_of a.lanes a.accepted.items k) → log.first ≡ place → log.events ≡ drop (place - log0.first) log0.events → IsKept (record { lanes = a.lanes; accepted = a.accepted; logs = with_item a.logs k log; tracks = a.tracks })
+pub kept_later : (a : Inside) (k : ℕ) (log0 log : Left) (place : ℕ) → IsKept a → slice_get a.logs.items k ≡ Some log0 → log0.first ≤ place → place ≤ length (log_of a.lanes a.accepted.items k) → log.first ≡ place → log.events ≡ drop (place - log0.first) log0.events → IsKept (record { lanes = a.lanes; accepted = a.accepted; logs = with_item a.logs k log; tracks = a.tracks; ended = a.ended; bytes = a.bytes })
 kept_later a k log0 log place kept was there within first events =
     let full = log_of a.lanes a.accepted.items k in record {
       some_lane = kept.some_lane;
@@ -225,19 +177,20 @@ kept_later a k log0 log place kept was there within first events =
       rows = length-set a.logs.items k log ∙ kept.rows;
       logs = logs_same (log_of a.lanes a.accepted.items) a.logs.items k log kept.logs (tail_later full log0 log place (kept.logs k log0 was) there within first events);
       tracks = kept.tracks;
+      ended = kept.ended;
     }
 
 -- what a journal stands for, once a log's first events were forgotten
-pub records_later : (a : Inside) (r : Records) (k : ℕ) (log : Left) (place : ℕ) → the_view a ≡ r → log.first ≡ place → the_view (record { lanes = a.lanes; accepted = a.accepted; logs = with_item a.logs k log; tracks = a.tracks }) ≡ forgot r k place
+pub records_later : (a : Inside) (r : Records) (k : ℕ) (log : Left) (place : ℕ) → the_view a ≡ r → log.first ≡ place → the_view (record { lanes = a.lanes; accepted = a.accepted; logs = with_item a.logs k log; tracks = a.tracks; ended = a.ended; bytes = a.bytes }) ≡ forgot r k place
 records_later a r k log place view first =
     ap (λ f. record (the_view a) { firsts = f }) (firsts_set a.logs.items k log ∙ ap (slice_set (firsts_of a.logs.items) k) first) ∙ ap (λ r. forgot r k place) view
 
 -- the same, once a change was noted, or was not
-pub records_same : (a : Inside) (accepted : Listing) (i : ℕ) (log0 log : Left) (tracks : BTreeMap ℕ Track) → accepted.items ≡ a.accepted.items → accepted.keeps ≡ a.accepted.keeps → slice_get a.logs.items i ≡ Some log0 → log.first ≡ log0.first → the_view (record { lanes = a.lanes; accepted = accepted; logs = with_item a.logs i log; tracks = tracks }) ≡ the_view a
-records_same a accepted i log0 log tracks items keeps was first = rw (items, keeps, firsts_same a.logs.items i log0 log was first) refl
+pub records_same : (a : Inside) (accepted : Listing) (i : ℕ) (log0 log : Left) (tracks : BTreeMap ℕ Track) (ended : List ℕ) (bytes : ℕ) → accepted.items ≡ a.accepted.items → accepted.keeps ≡ a.accepted.keeps → slice_get a.logs.items i ≡ Some log0 → log.first ≡ log0.first → the_view (record { lanes = a.lanes; accepted = accepted; logs = with_item a.logs i log; tracks = tracks; ended = ended; bytes = bytes }) ≡ the_view a
+records_same a accepted i log0 log tracks ended bytes items keeps was first = rw (items, keeps, firsts_same a.logs.items i log0 log was first) refl
 
-pub records_after : (a : Inside) (c : Accepted) (accepted : Listing) (i : ℕ) (log0 log : Left) (tracks : BTreeMap ℕ Track) → accepted.items ≡ a.accepted.items ++ c ∷ [] → accepted.keeps ≡ a.accepted.keeps → slice_get a.logs.items i ≡ Some log0 → log.first ≡ log0.first → the_view (record { lanes = a.lanes; accepted = accepted; logs = with_item a.logs i log; tracks = tracks }) ≡ noted (the_view a) c
-records_after a c accepted i log0 log tracks items keeps was first = rw (items, keeps, firsts_same a.logs.items i log0 log was first) refl
+pub records_after : (a : Inside) (c : Accepted) (accepted : Listing) (i : ℕ) (log0 log : Left) (tracks : BTreeMap ℕ Track) (ended : List ℕ) (bytes : ℕ) → accepted.items ≡ a.accepted.items ++ c ∷ [] → accepted.keeps ≡ a.accepted.keeps → slice_get a.logs.items i ≡ Some log0 → log.first ≡ log0.first → the_view (record { lanes = a.lanes; accepted = accepted; logs = with_item a.logs i log; tracks = tracks; ended = ended; bytes = bytes }) ≡ noted (the_view a) c
+records_after a c accepted i log0 log tracks ended bytes items keeps was first = rw (items, keeps, firsts_same a.logs.items i log0 log was first) refl
 
 -- ---- an absent lane
 
@@ -300,6 +253,25 @@ no_tail_read a r logs k kept view is past =
     subst (λ (r : Records). (first_of r k ≡ 0) × (lane_log r k ≡ [])) view
     (first_past a.logs.items k (omega arith), log_of-absent a.lanes a.accepted.items k kept.some_lane (omega (arith, kept.rows)))
 
+-- a lane whose log has an event is there
+pub lane_there : (a : Inside) (r : Records) (k place : ℕ) → IsKept a → the_view a ≡ r → place < length (lane_log r k) → k < length a.logs.items
+lane_there a r k place kept view within =
+    elim (ltb k (length a.logs.items)) as (λ b. ltb k (length a.logs.items) ≡ b → k < length a.logs.items) [
+      | true ↦ λ e. ltb-true k (length a.logs.items) e
+      | false ↦ λ e. let t = no_tail_read a r a.logs.items k kept view refl (sym e) in absurd (omega (arith, ap length t.1))
+    ] refl
+
+pub tail_at : (a : Inside) (r : Records) (k : ℕ) (log : Left) → IsKept a → the_view a ≡ r → k < length a.logs.items → log ≡ get_or a.logs.items k log → (first_of r k ≡ log.first) × IsTailOf (lane_log r k) log
+tail_at a r k log kept view within read =
+    let was = slice_get_read a.logs.items (length a.logs.items) k log refl within read in
+    subst (λ (r : Records). (first_of r k ≡ log.first) × IsTailOf (lane_log r k) log) view (first_at a.logs.items k log was, kept.logs k log was)
+
+pub event_left : (log : List Event) (t : Left) (place : ℕ) (event : Event) → IsTailOf log t → t.first ≤ place → place < length log → slice_get t.events (place - t.first) ≡ Some event → slice_get log place ≡ Some event
+event_left log t place event is there within at =
+    let on : t.first + (place - t.first) ≡ place = omega arith in
+    slice_get_read log (length log) place event refl within
+    (sym (get_or_from_slice_get t.events (place - t.first) event event at) ∙ ap (λ l. get_or l (place - t.first) event) is.events_are ∙ get_or-drop t.first log (place - t.first) event ∙ ap (λ i. get_or log i event) on)
+
 -- the first event that is left, and those from there on
 pub kept_read : (r : Records) (k : ℕ) (log : Left) → (first_of r k ≡ log.first) × IsTailOf (lane_log r k) log → log.events ≡ kept_log r k
 kept_read r k log t = t.1.events_are ∙ ap (λ i. drop i (lane_log r k)) (sym t.0)
@@ -313,9 +285,16 @@ get-push P [] new old here (suc k) x e = absurd (cc)
 get-push P (y ∷ ys) new old here zero x e = old zero x e
 get-push P (y ∷ ys) new old here (suc k) x e = get-push P ys new (λ k x e. old (suc k) x e) here k x e
 
-pub kept_new : (lanes : ℕ) (accepted : Listing) (logs : Vec Left Global) (tracks : BTreeMap ℕ Track) → 0 < lanes → lanes ≤ 16 → accepted.items ≡ [] → AreEmpty lanes logs.items → tracks.entries ≡ [] → IsKept (record { lanes = lanes; accepted = accepted; logs = logs; tracks = tracks })
-unfolding log_of gather kind_of first_given EachFollows
-kept_new lanes accepted logs tracks some few none are empty = record {
+pub empty_more : (n : ℕ) (logs new : List Left) (log : Left) → AreEmpty n logs → log.first ≡ 0 → log.events ≡ [] → new ≡ logs ++ log ∷ [] → AreEmpty (n + 1) new
+empty_more n logs new log are first events is = subst (AreEmpty (n + 1)) (sym is) (record {
+  rows = omega (arith, length-append logs (log ∷ []), are.rows);
+  first = get-push (λ (l : Left). l.first ≡ 0) logs log are.first first;
+  empty = get-push (λ (l : Left). l.events ≡ []) logs log are.empty events;
+})
+
+pub kept_new : (lanes : ℕ) (accepted : Listing) (logs : Vec Left Global) (tracks : BTreeMap ℕ Track) (ended : List ℕ) → 0 < lanes → lanes ≤ 16 → accepted.items ≡ [] → AreEmpty lanes logs.items → tracks.entries ≡ [] → ended ≡ [] → IsKept (record { lanes = lanes; accepted = accepted; logs = logs; tracks = tracks; ended = ended; bytes = 0 })
+unfolding log_of gather kind_of first_given is_terminated EachFollows
+kept_new lanes accepted logs tracks ended some few none are empty no_ids = record {
   some_lane = some;
   few_lanes = few;
   legal = subst IsLegal (sym none) tt;
@@ -324,7 +303,8 @@ kept_new lanes accepted logs tracks some few none are empty = record {
     within = omega (arith, are.first k log e);
     events_are = are.empty k log e ∙ rw (are.first k log e) (ap (λ l. log_of lanes l k) (sym none));
   };
-  tracks = λ u. ap (lookup (is_at (nat_cmp u))) empty ∙ ap (λ l. cond (is_known l u) (Some (track_of l u)) None) (sym none);
+  tracks = λ u. ap (lookup (is_at (nat_cmp u))) empty ∙ ap (λ l. cond (is_alive l u) (Some (track_of l u)) None) (sym none);
+  ended = λ u. ap (λ ids. has ids u) no_ids ∙ ap (λ l. is_terminated l u) (sym none);
 }
 
 pub records_new : (lanes : ℕ) (accepted : Listing) (logs : List Left) (keeps : Bool) → accepted.items ≡ [] → accepted.keeps ≡ keeps → AreEmpty lanes logs → record { lanes = lanes; accepted = accepted.items; keeps = accepted.keeps; firsts = firsts_of logs } ≡ record (empty_records lanes) { keeps = keeps }

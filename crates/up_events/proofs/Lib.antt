@@ -1,5 +1,9 @@
+pub mod ListLemmas
+pub mod EndedLemmas
 pub mod HistoryLemmas
 pub mod IdLemmas
+pub mod TrackLemmas
+pub mod TailLemmas
 pub mod JournalLemmas
 pub mod LogLemmas
 pub mod LawLemmas

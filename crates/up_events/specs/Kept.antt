@@ -2,7 +2,8 @@
 use Rattle.std.specs.Prelude.{◌≡◌, ℕ, ◌<◌, ◌≤◌, Some, None, if◌then◌else◌, List, length, drop, slice_get}
 use Rattle.std.specs.Ordering.{nat_cmp}
 use Rattle.std.specs.BTreeMap.{get}
-use Rattle.up_events.specs.History.{is_known, offset_of, length_of, events_of, IsLegal}
+use Rattle.up_events.specs.Ended.{has}
+use Rattle.up_events.specs.History.{is_alive, is_terminated, offset_of, length_of, events_of, IsLegal}
 use Rattle.up_events.specs.Left.{Left}
 use Rattle.up_events.specs.Log.{log_of}
 use Rattle.up_events.specs.declared.limits.TheConstants.{MOST_LANES}
@@ -20,12 +21,13 @@ pub record IsTailOf (log : List Event) (tail : Left) : Type 0 where
   pub within : tail.first ≤ length log
   pub events_are : tail.events ≡ drop tail.first log
 
--- there are 1 to 16 lanes, the changes are legal, and the tails are those of the logs, and the tracks
--- those, that the changes define
+-- there are 1 to 16 lanes, the changes are legal, the tails are those of the logs that the changes
+-- define, the tracks those of the uploads that are there, and the ids those of the uploads that were ended
 pub record IsKept (a : Inside) : Type 0 where
   pub some_lane : 0 < a.lanes
   pub few_lanes : a.lanes ≤ MOST_LANES
   pub legal : IsLegal a.accepted.items
   pub rows : length a.logs.items ≡ a.lanes
   pub logs : (k : ℕ) (log : Left) → slice_get a.logs.items k ≡ Some log → IsTailOf (log_of a.lanes a.accepted.items k) log
-  pub tracks : (u : ℕ) → get nat_cmp a.tracks u ≡ (if is_known a.accepted.items u then Some (track_of a.accepted.items u) else None)
+  pub tracks : (u : ℕ) → get nat_cmp a.tracks u ≡ (if is_alive a.accepted.items u then Some (track_of a.accepted.items u) else None)
+  pub ended : (u : ℕ) → has a.ended u ≡ is_terminated a.accepted.items u

@@ -1,7 +1,8 @@
 -- What is left of a log of which the first events may have been forgotten.
-use Rattle.std.specs.Prelude.{ℕ, ◌+◌, ◌-◌, ◌^◌, ◌≤◌, ◌<◌, min, List, length, drop, Vec, vec_len, vec_capacity}
+use Rattle.std.specs.Prelude.{◌≡◌, ℕ, ◌+◌, ◌-◌, ◌*◌, ◌^◌, ◌≤◌, ◌<◌, min, Some, List, [], length, take, drop, slice_get, Vec, vec_capacity}
 use Rattle.std.specs.declared.alloc.Global.{Global}
 use Rattle.up_events.specs.declared.event.Event.{Event}
+use Rattle.up_events.specs.declared.tail.TheConstants.{BLOCK}
 
 -- how many events were forgotten, those that were not, and for how many more there is room
 pub record Left : Type 0 where
@@ -13,12 +14,26 @@ pub record Left : Type 0 where
 abbrev pub log_length : Left → ℕ
 log_length l = l.first + length l.events
 
--- stale events that are still there stand in front of the others
-abbrev pub left : ℕ → ℕ → Vec Event Global → Left
-left first stale events =
-    record { first = first; events = drop stale events.items; room = min (vec_capacity events - vec_len events) (2 ^ 64 - 1 - (first + (vec_len events - stale))) }
+-- the blocks begin at the place `base` of the log
+abbrev pub left : List Event → ℕ → ℕ → List (Vec Event Global) → Left
+left all first base blocks =
+    record { first = first; events = drop first all; room = min (base + length blocks * BLOCK - length all) (2 ^ 64 - 1 - length all) }
 
--- all stale events are there, and the length of the log is a number of the program
-pub record IsLeft (first stale : ℕ) (events : Vec Event Global) : Type 0 where
-  pub there : stale ≤ vec_len events
-  pub countable : first + (vec_len events - stale) < 2 ^ 64
+-- a block without an event
+pub record IsNewBlock (block : Vec Event Global) : Type 0 where
+  pub empty : block.items ≡ []
+  pub room : BLOCK ≤ vec_capacity block
+
+-- a block has the events of the log from this place on, as many as there are places in it
+pub record IsBlock (all : List Event) (place : ℕ) (block : Vec Event Global) : Type 0 where
+  pub events_are : block.items ≡ take BLOCK (drop place all)
+  pub room : BLOCK ≤ vec_capacity block
+
+-- the blocks have all events of the log from the place `base` on, and of these `first - base` were forgotten
+pub record IsLeft (all : List Event) (len first base : ℕ) (blocks : List (Vec Event Global)) : Type 0 where
+  pub counted : len ≡ length all
+  pub countable : len < 2 ^ 64
+  pub forgotten : first ≤ len
+  pub given_back : base ≤ first
+  pub room : len ≤ base + length blocks * BLOCK
+  pub each : (k : ℕ) (block : Vec Event Global) → slice_get blocks k ≡ Some block → IsBlock all (base + k * BLOCK) block

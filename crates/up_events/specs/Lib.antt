@@ -10,3 +10,4 @@ pub mod Reached
 pub mod Kept
 pub mod Listing
 pub mod Left
+pub mod Ended

@@ -1,5 +1,5 @@
 -- How far an upload has come with one more change.
-use Rattle.std.specs.Prelude.{ℕ, ◌+◌, Bool, false, Option, Some, None, unwrap_or, if◌then◌else◌, ◌==◌}
+use Rattle.std.specs.Prelude.{ℕ, ◌+◌, Bool, false, Option, Some, None, unwrap_or, List, [], ◌∷◌, if◌then◌else◌, ◌==◌}
 use Rattle.up_events.specs.History.{is_final_kind, is_whole}
 use Rattle.up_events.specs.declared.event.Accepted.{Accepted}
 use Rattle.up_events.specs.declared.event.Accepted.TheVariants.{Created, Appended, Declared, Terminated}
@@ -34,3 +34,17 @@ completes (Created id _ kind) offset length = is_whole offset length
 completes (Appended id count) offset length = is_whole offset length
 completes (Declared id _ count) offset length = is_whole offset length
 completes (Terminated id) offset length = false
+
+-- what is left to know of how far the upload has come: nothing once it was ended
+abbrev pub track_left : Accepted → Track → Option Track
+track_left (Created id length kind) t = Some t
+track_left (Appended id count) t = Some t
+track_left (Declared id length count) t = Some t
+track_left (Terminated id) t = None
+
+-- the ids that the change ends
+abbrev pub ended_by : Accepted → List ℕ
+ended_by (Created id length kind) = []
+ended_by (Appended id count) = []
+ended_by (Declared id length count) = []
+ended_by (Terminated id) = id ∷ []

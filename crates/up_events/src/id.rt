@@ -66,12 +66,20 @@ impl Id {
         Some(Id(number))
     }
 
+    /// The remainder of the id's number.
+    pub(crate) fn modulo(&self, divisor: u64) -> u64
+        requires { 0 < divisor }
+        ensures { result ≡ self.now % divisor }
+    {
+        (self.0 % u128::from(divisor)) as u64
+    }
+
     /// The lane, from 0 on, that the events of this upload go to where there are so many lanes.
     pub fn lane(&self, lanes: u64) -> u64
         requires { 0 < lanes }
         ensures { result ≡ self.now % lanes }
     {
-        (self.0 % u128::from(lanes)) as u64
+        self.modulo(lanes)
     }
 
     /// The id in 32 hexadecimal digits, the highest first and letters in lower case.

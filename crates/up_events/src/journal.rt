@@ -1,8 +1,9 @@
 //! The journal: the accepted changes, and a log of events for each lane.
-ghost use Rattle.std.specs.Prelude.{◌≡◌, ◌<◌, ◌≤◌, OnOk, OnErr, IfOk, drop, length, false};
+ghost use Rattle.std.specs.Prelude.{◌≡◌, ◌<◌, ◌≤◌, OnOk, OnErr, IfOk, length, slice_get, Some, false};
 ghost use Rattle.up_events.specs.Records.{AreEmpty};
 
 use crate::changes::Changes;
+use crate::ended::Ended;
 use crate::event::{Accepted, Event};
 use crate::fault::NoMemory;
 use crate::id::Id;
@@ -34,13 +35,18 @@ pub struct Added {
 /// its id, whose log has them in the order of the changes.
 ///
 /// A journal that is made by `new` keeps the changes. One that is made by `forgetting` counts them, and
-/// proofs still speak of all of them. In both the first events of a log can be forgotten.
+/// proofs still speak of all of them. In both the first events of a log can be forgotten. Of an upload
+/// that was ended only the id is kept.
 #[derive(Drop)]
 pub struct Journal {
     lanes: u64,
     accepted: Changes,
     logs: Vec<Tail>,
+    /// Those of the uploads that are there.
     tracks: BTreeMap<Id, Track>,
+    ended: Ended,
+    /// How many bytes the uploads that are there have in all.
+    bytes: u64,
 }
 
 impl Model for Journal {
@@ -80,11 +86,14 @@ impl Journal {
         requires few_lanes { lanes ≤ MOST_LANES }
         ensures { IfOk result (λ journal. journal ≡ empty_records lanes) }
     {
+        let ended = Ended::empty(alloc)?;
         Ok(Journal {
             lanes,
             accepted: Changes::kept(alloc),
             logs: empty_logs(alloc, lanes)?,
             tracks: BTreeMap::new(alloc),
+            ended,
+            bytes: 0,
         })
     }
 
@@ -94,11 +103,14 @@ impl Journal {
         requires few_lanes { lanes ≤ MOST_LANES }
         ensures { IfOk result (λ journal. journal ≡ record (empty_records lanes) { keeps = false }) }
     {
+        let ended = Ended::empty(alloc)?;
         Ok(Journal {
             lanes,
             accepted: Changes::counted(),
             logs: empty_logs(alloc, lanes)?,
             tracks: BTreeMap::new(alloc),
+            ended,
+            bytes: 0,
         })
     }
 
@@ -129,21 +141,31 @@ impl Journal {
         self.accepted
     }
 
+    /// How many uploads are there.
+    pub fn uploads(&self) -> u64 {
+        self.tracks.len() as u64
+    }
+
+    /// How many bytes these have in all, where a final upload has as many as its parts. Counted modulo 2^64.
+    pub fn bytes(&self) -> u64 {
+        self.bytes
+    }
+
     /// Whether an upload with this id was ever created.
     pub fn knows(&self, id: Id) -> bool
         ensures { result ≡ is_known self.now.accepted id }
     {
-        self.tracks.contains_key(&id)
+        self.tracks.contains_key(&id) || self.ended.contains(id)
     }
 
-    /// The log of a lane: its events in order, without those that were forgotten. Empty if there is no
-    /// such lane.
-    pub fn lane_log(&self, k: u64) -> &[Event]
-        ensures { result.now ≡ kept_log self.now k }
+    /// A copy of the log of a lane: its events in order, without those that were forgotten. Empty if there
+    /// is no such lane. `NoMemory` where memory was refused.
+    pub fn lane_log(&self, alloc: Global, k: u64) -> Result<Vec<Event>, NoMemory>
+        ensures { IfOk result (λ events. events.items ≡ kept_log self.now k) }
     {
         match self.logs.get(k as usize) {
-            Some(log) => log.events(),
-            None => &[],
+            Some(log) => log.events(alloc),
+            None => Ok(Vec::new(alloc)),
         }
     }
 
@@ -157,16 +179,13 @@ impl Journal {
         }
     }
 
-    /// The log of a lane from this place on. No event from there on may have been forgotten.
-    pub fn log_from(&self, k: u64, place: u64) -> &[Event]
+    /// The event at this place of a lane's log. It may not have been forgotten.
+    pub fn event_at(&self, k: u64, place: u64) -> Event
         requires there { first_of self.now k ≤ place }
-        requires within { place ≤ length (lane_log self.now k) }
-        ensures { result.now ≡ drop place (lane_log self.now k) }
+        requires within { place < length (lane_log self.now k) }
+        ensures { slice_get (lane_log self.now k) place ≡ Some result }
     {
-        match self.logs.get(k as usize) {
-            Some(log) => log.from(place),
-            None => &[],
-        }
+        self.logs[k as usize].event_at(place)
     }
 
     /// Forgets the events of a lane's log before this place.
@@ -198,9 +217,18 @@ impl Journal {
         let lane = id.lane(self.lanes);
         let before = self.tracks.get(&id).copied().unwrap_or(Track::NONE);
         let reached = before.reached(&change);
+        let held = reached.held(&change);
         let log = &mut self.logs[lane as usize];
         let first = log.len();
-        let count = write(&mut self.accepted, log, &mut self.tracks, change, reached)?;
+        let count = write(
+            &mut self.accepted,
+            log,
+            &mut self.tracks,
+            &mut self.ended,
+            change,
+            reached,
+        )?;
+        self.bytes = self.bytes.wrapping_sub(before.offset).wrapping_add(held);
         Ok(Added { lane, first, count })
     }
 }

@@ -3,6 +3,7 @@
 #![tactic(auto)]
 
 mod changes;
+mod ended;
 mod event;
 mod fault;
 mod id;

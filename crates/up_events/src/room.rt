@@ -6,9 +6,13 @@ use std::alloc::AllocError;
 /// The fewest places by which a list grows.
 const LEAST_STEP: usize = 1_024;
 
-/// Makes room for so many more items. A full list grows by an eighth, and by at least 1,024 places.
+/// Makes room for so many more items. A full list grows by an eighth, and by at least so many places.
 /// So a long list never asks for much more than it holds, as one that doubles does.
-pub fn make_room<T>(list: &mut Vec<T>, count: usize) -> Result<(), AllocError>
+pub(crate) fn make_room_by<T>(
+    list: &mut Vec<T>,
+    count: usize,
+    least_step: usize,
+) -> Result<(), AllocError>
     ensures items { list.new.items ≡ list.old.items }
     ensures len { vec_len list.new ≡ vec_len list.old }
     ensures ok { OnOk result (vec_len list.new + count ≤ vec_capacity list.new) }
@@ -17,7 +21,16 @@ pub fn make_room<T>(list: &mut Vec<T>, count: usize) -> Result<(), AllocError>
     let places = if count <= spare {
         count
     } else {
-        count.max(list.len() / 8).max(LEAST_STEP)
+        count.max(list.len() / 8).max(least_step)
     };
     list.reserve_exact(places)
+}
+
+/// Makes room for so many more items. A full list grows by an eighth, and by at least 1,024 places.
+pub fn make_room<T>(list: &mut Vec<T>, count: usize) -> Result<(), AllocError>
+    ensures items { list.new.items ≡ list.old.items }
+    ensures len { vec_len list.new ≡ vec_len list.old }
+    ensures ok { OnOk result (vec_len list.new + count ≤ vec_capacity list.new) }
+{
+    make_room_by(list, count, LEAST_STEP)
 }

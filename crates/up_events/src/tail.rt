@@ -1,21 +1,33 @@
 //! What is left of a lane's log.
-ghost use Rattle.std.specs.Prelude.{◌≡◌, ◌+◌, ◌-◌, ◌≤◌, ◌<◌, length, drop, OnOk, [], ◌∷◌, ◌++◌, vec_len};
+ghost use Rattle.std.specs.Prelude.{◌≡◌, ◌+◌, ◌-◌, ◌*◌, ◌≤◌, ◌<◌, length, drop, slice_get, Some, OnOk, OnErr, IfOk, [], ◌∷◌, ◌++◌, vec_capacity};
+ghost use Rattle.up_events.specs.Left.{IsNewBlock};
 
 use crate::event::Event;
 use crate::fault::NoMemory;
-use crate::room::make_room;
+use crate::room::make_room_by;
+use crate::trace::Trace;
 use std::alloc::Global;
 use std::marker::Model;
 
-/// A log of events, of which the first may have been forgotten. Those that are left move up only
-/// when they are fewer than those that go, so forgetting an event takes no more time than adding it.
-#[derive(Debug, Drop)]
+/// How many events a block has places for.
+const BLOCK: u64 = 1_024;
+
+/// The fewest places by which the list of blocks grows.
+const LEAST_STEP: usize = 16;
+
+/// A log of events, of which the first may have been forgotten. Those that are left stand in blocks, all
+/// of one size. Adding an event begins at most one block, and forgetting events moves none: it gives back
+/// the blocks in which no other stands.
+#[derive(Drop)]
 pub struct Tail {
+    all: Trace<Event>,
+    /// How many events the log has, with those that were forgotten.
+    len: u64,
     /// How many events of the log were forgotten.
     first: u64,
-    /// How many of these are still in front of the others.
-    stale: usize,
-    events: Vec<Event>,
+    /// How many of these stood in blocks that were given back.
+    base: u64,
+    blocks: Vec<Vec<Event>>,
 }
 
 impl Model for Tail {
@@ -23,17 +35,24 @@ impl Model for Tail {
 
     ghost Value = { Left };
 
-    ghost view = { λ t. left t.first t.stale t.events };
+    ghost view = { λ t. left t.all.items t.first t.base t.blocks.items };
 
-    ghost invariant = { λ t. IsLeft t.first t.stale t.events };
+    ghost invariant = { λ t. IsLeft t.all.items t.len t.first t.base t.blocks.items };
 }
 
-/// Removes so many events at the front.
-fn drop_front(events: &mut Vec<Event>, count: usize)
-    requires { count ≤ vec_len events.old }
-    ensures { events.new.items ≡ drop count events.old.items }
+/// A block without an event. `NoMemory` where memory was refused.
+fn new_block(alloc: Global) -> Result<Vec<Event>, NoMemory>
+    ensures { IfOk result IsNewBlock }
 {
-    drop(events.drain(..count));
+    Ok(Vec::with_capacity(alloc, BLOCK as usize)?)
+}
+
+/// Removes so many blocks at the front.
+fn drop_front(blocks: &mut Vec<Vec<Event>>, count: usize)
+    requires { count ≤ length blocks.old.items }
+    ensures { blocks.new.items ≡ drop count blocks.old.items }
+{
+    drop(blocks.drain(..count));
 }
 
 impl Tail {
@@ -45,9 +64,11 @@ impl Tail {
         ensures events { result.events ≡ [] }
     {
         Tail {
+            all: Trace::new(),
+            len: 0,
             first: 0,
-            stale: 0,
-            events: Vec::new(alloc),
+            base: 0,
+            blocks: Vec::new(alloc),
         }
     }
 
@@ -55,23 +76,28 @@ impl Tail {
     pub fn len(&self) -> u64
         ensures { result ≡ log_length self.now }
     {
-        self.first + (self.events.len() - self.stale) as u64
+        self.len
     }
 
-    /// The events that were not forgotten.
-    pub fn events(&self) -> &[Event]
-        ensures { result.now ≡ self.now.events }
-    {
-        &self.events[self.stale..]
-    }
-
-    /// The events from this place of the log on, which were not forgotten.
-    pub fn from(&self, place: u64) -> &[Event]
+    /// The event at this place of the log, which was not forgotten.
+    pub fn event_at(&self, place: u64) -> Event
         requires there { self.now.first ≤ place }
-        requires within { place ≤ log_length self.now }
-        ensures { result.now ≡ drop (place - self.now.first) self.now.events }
+        requires within { place < log_length self.now }
+        ensures { slice_get self.now.events (place - self.now.first) ≡ Some result }
     {
-        &self.events[self.stale + (place - self.first) as usize..]
+        let at = place - self.base;
+        self.blocks[(at / BLOCK) as usize][(at % BLOCK) as usize]
+    }
+
+    /// A copy of the events that were not forgotten. `NoMemory` where memory was refused.
+    pub fn events(&self, alloc: Global) -> Result<Vec<Event>, NoMemory>
+        ensures { IfOk result (λ events. events.items ≡ self.now.events) }
+    {
+        let mut events = Vec::new(alloc);
+        for place in self.first..self.len() {
+            events.push(self.event_at(place))?;
+        }
+        Ok(events)
     }
 
     /// Forgets the events before this place of the log.
@@ -81,12 +107,10 @@ impl Tail {
         ensures first { self.new.first ≡ place }
         ensures events { self.new.events ≡ drop (place - self.old.first) self.old.events }
     {
-        self.stale += (place - self.first) as usize;
+        let count = (place - self.base) / BLOCK;
+        drop_front(&mut self.blocks, count as usize);
+        self.base += count * BLOCK;
         self.first = place;
-        if self.stale > self.events.len() / 2 {
-            drop_front(&mut self.events, self.stale);
-            self.stale = 0;
-        }
     }
 
     /// Makes room for two more. `NoMemory` if memory was refused, or if the log would have more than
@@ -96,10 +120,15 @@ impl Tail {
         ensures events { self.new.events ≡ self.old.events }
         ensures ok { OnOk result (2 ≤ self.new.room) }
     {
-        if self.len() > u64::MAX - 2 {
+        if self.len > u64::MAX - 2 {
             return Err(NoMemory);
         }
-        make_room(&mut self.events, 2)?;
+        let last = (self.len - self.base + 1) / BLOCK;
+        if last >= self.blocks.len() as u64 {
+            make_room_by(&mut self.blocks, 1, LEAST_STEP)?;
+            let block = new_block(*self.blocks.allocator())?;
+            self.blocks.push_reserved(block);
+        }
         Ok(())
     }
 
@@ -110,6 +139,9 @@ impl Tail {
         ensures events { self.new.events ≡ self.old.events ++ event ∷ [] }
         ensures room { self.old.room ≤ self.new.room + 1 }
     {
-        self.events.push_reserved(event);
+        let at = self.len - self.base;
+        self.blocks[(at / BLOCK) as usize].push_reserved(event);
+        self.all.push(&event);
+        self.len += 1;
     }
 }

@@ -1,12 +1,13 @@
 //! How far an upload has come, and the step that writes a change down.
-ghost use Rattle.std.specs.Prelude.{◌≡◌, ◌<◌, ◌≤◌, OnOk, OnErr, IfOk, ◌+◌, ◌^◌, ◌++◌, ◌∷◌, [], Some, length};
+ghost use Rattle.std.specs.Prelude.{◌≡◌, ◌<◌, ◌≤◌, OnOk, OnErr, IfOk, ◌+◌, ◌^◌, ◌++◌, ◌∷◌, [], length};
 ghost use Rattle.std.specs.Ordering.{nat_cmp};
 ghost use Rattle.std.specs.BTreeMap.{Updates, IsUnchanged};
 ghost use Rattle.up_events.specs.History.{id_of, steps_at};
 ghost use Rattle.up_events.specs.Log.{numbered};
-ghost use Rattle.up_events.specs.Reached.{reached, hook_of, bytes_added, completes};
+ghost use Rattle.up_events.specs.Reached.{reached, hook_of, bytes_added, completes, track_left, ended_by};
 
 use crate::changes::Changes;
+use crate::ended::Ended;
 use crate::event::{Accepted, Event, Hook, Kind};
 use crate::fault::NoMemory;
 use crate::id::Id;
@@ -60,6 +61,14 @@ impl Track {
             Accepted::Terminated { .. } => self,
         }
     }
+
+    /// How many bytes of the upload are there after the change, which brought it this far.
+    pub fn held(self, change: &Accepted) -> u64 {
+        if let Accepted::Terminated { .. } = change {
+            return 0;
+        }
+        self.offset
+    }
 }
 
 /// The hook of the event that tells of the change itself, if one does.
@@ -86,14 +95,39 @@ fn is_completing(change: &Accepted, track: Track) -> bool
     }
 }
 
+/// Puts into the table how far the upload of the change has come. Where the change ends it, its id goes
+/// to the ended ones instead. `NoMemory` where memory was refused; table and ids are then as they were.
+fn keep(
+    tracks: &mut BTreeMap<Id, Track>,
+    ended: &mut Ended,
+    change: &Accepted,
+    track: Track,
+) -> Result<(), NoMemory>
+    ensures tracks { OnOk result
+        (Updates nat_cmp tracks.old tracks.new (id_of change.now) (track_left change.now track)) }
+    ensures ended { OnOk result (ended.new ≡ ended.old ++ ended_by change.now) }
+    ensures same_tracks { OnErr result (IsUnchanged tracks.old tracks.new) }
+    ensures same_ended { OnErr result (ended.new ≡ ended.old) }
+{
+    let id = change.id();
+    if let Accepted::Terminated { .. } = change {
+        ended.insert(id)?;
+        tracks.remove(&id);
+        return Ok(());
+    }
+    tracks.insert(id, track)?;
+    Ok(())
+}
+
 /// Writes a change into the list, its events into the log of its lane, and into the table how far
-/// its upload has come. `track` has the offset and the length with the change, and the events
-/// before it. Gives the number of its events. `NoMemory` where memory was refused; the list, the
-/// log and the table then say what they said.
+/// its upload has come, or among the ended ids that it was ended. `track` has the offset and the
+/// length with the change, and the events before it. Gives the number of its events. `NoMemory` where
+/// memory was refused; the list, the log, the table and the ids then say what they said.
 pub fn write(
     accepted: &mut Changes,
     log: &mut Tail,
     tracks: &mut BTreeMap<Id, Track>,
+    ended: &mut Ended,
     change: Accepted,
     track: Track,
 ) -> Result<u64, NoMemory>
@@ -104,12 +138,14 @@ pub fn write(
         ++ numbered (id_of change) track.events (steps_at change track.offset track.length)) }
     ensures first { log.new.first ≡ log.old.first }
     ensures tracks { IfOk result (λ count. Updates nat_cmp tracks.old tracks.new (id_of change)
-        (Some (record track { events = track.events + count }))) }
+        (track_left change (record track { events = track.events + count }))) }
+    ensures ended { OnOk result (ended.new ≡ ended.old ++ ended_by change) }
     ensures count { IfOk result (λ count.
         count ≡ length (steps_at change track.offset track.length)) }
     ensures same_list { OnErr result (accepted.new.items ≡ accepted.old.items) }
     ensures same_log { OnErr result (log.new.events ≡ log.old.events) }
     ensures same_tracks { OnErr result (IsUnchanged tracks.old tracks.new) }
+    ensures same_ended { OnErr result (ended.new ≡ ended.old) }
 {
     let id = change.id();
     let Track {
@@ -120,16 +156,13 @@ pub fn write(
     let own = own_hook(&change);
     let completing = is_completing(&change, track);
     let count = u64::from(own.is_some()) + u64::from(completing);
+    let after = Track {
+        events: events + count,
+        ..track
+    };
     accepted.reserve()?;
     log.reserve()?;
-    tracks.insert(
-        id,
-        Track {
-            events: events + count,
-            offset,
-            length,
-        },
-    )?;
+    keep(tracks, ended, &change, after)?;
     // From here on nothing grows.
     accepted.push_reserved(change);
     if let Some(hook) = own {

@@ -9,7 +9,7 @@ use Rattle.up_events.specs.History.{id_of, length_of, kind_of, is_final, is_fina
 use Rattle.up_events.specs.Lists.{EachFollows, first_given}
 use Rattle.up_events.specs.declared.event.Accepted.{Accepted}
 use Rattle.up_events.specs.declared.event.Accepted.TheVariants.{Created, Appended, Declared, Terminated}
-use Rattle.up_events.proofs.JournalLemmas.{same_id}
+use Rattle.up_events.proofs.TrackLemmas.{same_id}
 use Rattle.up_events.proofs.HistoryLemmas.{or_none, EachFollows-snoc, kind_of-other, length_of-other, offset_of-other, is_terminated-other}
 use Rattle.up_events.proofs.Sound.{sound, kind_of-created, length_of-created, kind_of-appended, length_of-appended, kind_of-declared, length_of-declared, is_terminated-created, is_terminated-appended, is_terminated-declared, is_terminated-terminated, offset_of-created, offset_of-appended, offset_of-declared}
 use Rattle.up_machine.specs.Content.{Content, CanTake, declared, size_after, with_more}

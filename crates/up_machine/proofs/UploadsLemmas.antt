@@ -7,7 +7,7 @@ use Rattle.std.specs.Cmp.{nat_cmp_total, eq_by_cmp_equiv}
 use Rattle.std.specs.BTreeMap.{BTreeMap, is_at, WritesThrough}
 use Rattle.std.specs.Prelude.{IsSome}
 use Rattle.std.specs.Map.{lookup}
-use Rattle.up_events.proofs.JournalLemmas.{same_id}
+use Rattle.up_events.proofs.TrackLemmas.{same_id}
 use Rattle.up_machine.specs.Content.{Content}
 
 find_is : (es : List (ℕ × Content)) (q : ℕ) → find nat_cmp q es ≡ lookup (is_at (nat_cmp q)) es

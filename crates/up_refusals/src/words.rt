@@ -22,7 +22,7 @@ pub fn push_journal(words: &mut String, journal: &Journal) -> Result<(), AllocEr
         }
     }
     let changes = journal.accepted().len();
-    let (even, odd) = (journal.lane_log(0).len(), journal.lane_log(1).len());
+    let (even, odd) = (journal.log_len(0), journal.log_len(1));
     write!(words, "; changes {changes}; events {even} {odd}")
 }
 

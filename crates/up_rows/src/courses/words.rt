@@ -121,7 +121,7 @@ pub fn of_changes(alloc: Global, book: &Book) -> Result<String, RowFault> {
 /// The events of a lane, each as "ID NUMBER HOOK OFFSET/LENGTH; ".
 pub fn of_events(alloc: Global, book: &Book, lane: u64) -> Result<String, RowFault> {
     let mut words = String::new(alloc);
-    for event in book.journal().lane_log(lane) {
+    for event in book.journal().lane_log(alloc, lane)? {
         let (id, number, hook) = (event.id, event.number, event.hook.name());
         let (offset, length) = (event.offset, event.length);
         write!(words, "{id:?} {number} {hook} {offset}/{length:?}; ")?;

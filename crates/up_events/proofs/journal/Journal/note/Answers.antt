@@ -9,7 +9,8 @@ use Rattle.up_events.specs.Records.{Records, firsts_of, noted, ArePlaces}
 use Rattle.up_events.specs.Reached.{reached}
 use Rattle.up_events.specs.Kept.{track_of}
 use Rattle.up_events.proofs.Sound.{sound, steps_of-reached}
-use Rattle.up_events.proofs.JournalLemmas.{few_events, bytes_fit, events-reached, track_found, kept_same, kept_after, step_track, step_events, step_places, tail_length, tail_same, records_same, records_after}
+use Rattle.up_events.proofs.JournalLemmas.{few_events, bytes_fit, events-reached, kept_same, kept_after, step_track, step_events, step_places, tail_length, tail_same, records_same, records_after}
+use Rattle.up_events.proofs.TrackLemmas.{track_found}
 use Rattle.up_events.proofs.journal.Journal.note.Goals as goal
 
 pub reached-reached-requires : goal.reached-reached-requires
@@ -17,16 +18,17 @@ reached-reached-requires c =
     let a = c.self.inside in
     let changes = a.accepted.items in
     let can : CanFollow changes c.args.change = subst (λ (r : Records). CanFollow r.accepted c.args.change) (sym c.self.view_is) c.requires in
-    let found = track_found a c.self.invariant c.id-id.result c.copied.result (c.copied.ensures ∙ c.get.ensures.value) in
-    let is = c.unwrap_or-before.ensures ∙ found ∙ ap (track_of changes) c.id-id.ensures in
+    let found = track_found a c.args.change c.id-id.result c.copied.result c.self.invariant can c.id-id.ensures (c.copied.ensures ∙ c.get.ensures.value) in
+    let is = c.unwrap_or-before.ensures ∙ found in
     rw is (bytes_fit changes c.args.change (sound changes c.self.invariant.legal _) can)
 
 pub write-requires : goal.write-requires
 write-requires c =
     let a = c.self.inside in
     let changes = a.accepted.items in
-    let found = track_found a c.self.invariant c.id-id.result c.copied.result (c.copied.ensures ∙ c.get.ensures.value) in
-    let is = c.unwrap_or-before.ensures ∙ found ∙ ap (track_of changes) c.id-id.ensures in
+    let can : CanFollow changes c.args.change = subst (λ (r : Records). CanFollow r.accepted c.args.change) (sym c.self.view_is) c.requires in
+    let found = track_found a c.args.change c.id-id.result c.copied.result c.self.invariant can c.id-id.ensures (c.copied.ensures ∙ c.get.ensures.value) in
+    let is = c.unwrap_or-before.ensures ∙ found in
     rw (c.reached-reached.ensures, is, events-reached) (few_events changes (id_of c.args.change) (sound changes c.self.invariant.legal _))
 
 pub invariant_of-self : goal.invariant_of-self
@@ -37,7 +39,7 @@ invariant_of-self c =
     let was = slice_get_read a.logs.items a.lanes c.lane-lane.result _ (sym c.self.invariant.rows) within c.index_mut-log.ensures.value in
     let log = log_of a.lanes a.accepted.items c.lane-lane.result in
     let tail = tail_same log c.index_mut-log.result.now c.write.new.log (c.self.invariant.logs c.lane-lane.result _ was) c.write.ensures.first e.same_log in
-    kept_same a c.write.new.accepted c.lane-lane.result c.index_mut-log.result.now c.write.new.log c.write.new.tracks c.self.invariant e.same_list was tail e.same_tracks
+    kept_same a c.write.new.accepted c.lane-lane.result c.index_mut-log.result.now c.write.new.log c.write.new.tracks c.write.new.ended a.bytes c.self.invariant e.same_list was tail e.same_tracks e.same_ended
 
 pub invariant_of-self-2 : goal.invariant_of-self-2
 invariant_of-self-2 c =
@@ -47,18 +49,19 @@ invariant_of-self-2 c =
     let e = c.in_ok-count.ensures in
     let s = sound changes c.self.invariant.legal (id_of change) in
     let can : CanFollow changes change = subst (λ (r : Records). CanFollow r.accepted change) (sym c.self.view_is) c.requires in
-    let found = track_found a c.self.invariant c.id-id.result c.copied.result (c.copied.ensures ∙ c.get.ensures.value) in
+    let found = track_found a c.args.change c.id-id.result c.copied.result c.self.invariant can c.id-id.ensures (c.copied.ensures ∙ c.get.ensures.value) in
     let is : c.reached-reached.result ≡ reached (track_of changes (id_of change)) change =
-    c.reached-reached.ensures ∙ ap (λ t. reached t change) (c.unwrap_or-before.ensures ∙ found ∙ ap (track_of changes) c.id-id.ensures) in
+    c.reached-reached.ensures ∙ ap (λ t. reached t change) (c.unwrap_or-before.ensures ∙ found) in
     let lane : c.lane-lane.result ≡ id_of change % a.lanes = c.lane-lane.ensures ∙ ap (λ u. u % a.lanes) c.id-id.ensures in
     let within : c.lane-lane.result < a.lanes = rw c.lane-lane.ensures (mod-lt c.id-id.result c.self.invariant.some_lane) in
     let was = slice_get_read a.logs.items a.lanes c.lane-lane.result _ (sym c.self.invariant.rows) within c.index_mut-log.ensures.value in
-    rw lane (kept_after a change c.write.new.accepted c.index_mut-log.result.now c.write.new.log c.write.new.tracks _ c.self.invariant can e.accepted
+    rw lane (kept_after a change c.write.new.accepted c.index_mut-log.result.now c.write.new.log c.write.new.tracks c.write.new.ended _ _ c.self.invariant can e.accepted
     (rw lane at was)
     c.write.ensures.first
     (e.log ∙ ap (λ l. c.index_mut-log.result.now.events ++ l) (step_events changes change c.reached-reached.result s can is))
     e.tracks
-    (step_track changes change c.reached-reached.result c.in_ok-count.count s can is e.count))
+    (step_track changes change c.reached-reached.result c.in_ok-count.count s can is e.count)
+    e.ended)
 
 pub returns-clause-places : goal.returns-clause-places
 returns-clause-places c =
@@ -68,9 +71,9 @@ returns-clause-places c =
     let e = c.in_ok-count.ensures in
     let s = sound changes c.self.invariant.legal (id_of change) in
     let can : CanFollow changes change = subst (λ (r : Records). CanFollow r.accepted change) (sym c.self.view_is) c.requires in
-    let found = track_found a c.self.invariant c.id-id.result c.copied.result (c.copied.ensures ∙ c.get.ensures.value) in
+    let found = track_found a c.args.change c.id-id.result c.copied.result c.self.invariant can c.id-id.ensures (c.copied.ensures ∙ c.get.ensures.value) in
     let is : c.reached-reached.result ≡ reached (track_of changes (id_of change)) change =
-    c.reached-reached.ensures ∙ ap (λ t. reached t change) (c.unwrap_or-before.ensures ∙ found ∙ ap (track_of changes) c.id-id.ensures) in
+    c.reached-reached.ensures ∙ ap (λ t. reached t change) (c.unwrap_or-before.ensures ∙ found) in
     let lane : c.lane-lane.result ≡ id_of change % a.lanes = c.lane-lane.ensures ∙ ap (λ u. u % a.lanes) c.id-id.ensures in
     let within : c.lane-lane.result < a.lanes = rw c.lane-lane.ensures (mod-lt c.id-id.result c.self.invariant.some_lane) in
     let was = slice_get_read a.logs.items a.lanes c.lane-lane.result _ (sym c.self.invariant.rows) within c.index_mut-log.ensures.value in
@@ -85,8 +88,8 @@ returns-in_err-count-clause-err c =
     let a = c.self.inside in
     let within : c.lane-lane.result < a.lanes = rw c.lane-lane.ensures (mod-lt c.id-id.result c.self.invariant.some_lane) in
     let was = slice_get_read a.logs.items a.lanes c.lane-lane.result _ (sym c.self.invariant.rows) within c.index_mut-log.ensures.value in
-    let same : the_view (record { lanes = a.lanes; accepted = c.write.new.accepted; logs = with_item a.logs c.lane-lane.result c.write.new.log; tracks = c.write.new.tracks }) ≡ c.args.self.now =
-    records_same a c.write.new.accepted c.lane-lane.result c.index_mut-log.result.now c.write.new.log c.write.new.tracks c.in_err-count.ensures.same_list c.write.ensures.keeps was c.write.ensures.first ∙ c.self.view_is in
+    let same : the_view (record { lanes = a.lanes; accepted = c.write.new.accepted; logs = with_item a.logs c.lane-lane.result c.write.new.log; tracks = c.write.new.tracks; ended = c.write.new.ended; bytes = a.bytes }) ≡ c.args.self.now =
+    records_same a c.write.new.accepted c.lane-lane.result c.index_mut-log.result.now c.write.new.log c.write.new.tracks c.write.new.ended a.bytes c.in_err-count.ensures.same_list c.write.ensures.keeps was c.write.ensures.first ∙ c.self.view_is in
     search (rules, same)
 
 pub returns-clause-ok : goal.returns-clause-ok
@@ -94,4 +97,4 @@ returns-clause-ok c =
     let a = c.self.inside in
     let within : c.lane-lane.result < a.lanes = rw c.lane-lane.ensures (mod-lt c.id-id.result c.self.invariant.some_lane) in
     let was = slice_get_read a.logs.items a.lanes c.lane-lane.result _ (sym c.self.invariant.rows) within c.index_mut-log.ensures.value in
-    records_after a c.args.change c.write.new.accepted c.lane-lane.result c.index_mut-log.result.now c.write.new.log c.write.new.tracks c.in_ok-count.ensures.accepted c.write.ensures.keeps was c.write.ensures.first ∙ ap (λ r. noted r c.args.change) c.self.view_is
+    records_after a c.args.change c.write.new.accepted c.lane-lane.result c.index_mut-log.result.now c.write.new.log c.write.new.tracks c.write.new.ended a.bytes c.in_ok-count.ensures.accepted c.write.ensures.keeps was c.write.ensures.first ∙ ap (λ r. noted r c.args.change) c.self.view_is
