@@ -10,19 +10,30 @@ use std::random::RandomSource;
 use std::sync::Wait;
 use std::thread::Threads;
 use std::time::Clock;
-use up_connections::{Drawn, Notices, Visits};
+use up_connections::{Drawn, Notices, Visits, Watch};
 use up_events::Event;
 use up_hooks::{Outcome, PostHook, PreHooks, Recorder, Teller, new_recorders, new_tellers};
 use up_server::{EventLines, ServerFault, Words, keep_serving, replay, serve};
 use up_wire::{Output, Sink};
 
+/// Where connections are counted, if the words ask for lines that say how the server stands.
+fn watch_of(words: &Words) -> Option<Watch> {
+    let seconds = words.serve.as_ref()?.status?;
+    Some(Watch::each(seconds))
+}
+
 /// How a server that is to run without an end is visited, if these words ask for one.
-fn endless<'a, N>(words: &Words, notices: &'a N) -> Option<Visits<'a, N>> {
+fn endless<'a, N>(
+    words: &Words,
+    watch: Option<&'a Watch>,
+    notices: &'a N,
+) -> Option<Visits<'a, N>> {
     match &words.serve {
         Some(serving) if serving.connections.is_none() => Some(Visits {
             connections: None,
             open: serving.open,
             patience: serving.patience,
+            watch,
             notices,
         }),
         _ => None,
@@ -52,13 +63,22 @@ pub fn run_with<
     };
     let lanes = words.settings.lanes;
     let notices = NoticeLines::new(rt);
-    match (endless(words, &notices), listener) {
+    let watch = watch_of(words);
+    match (endless(words, watch.as_ref(), &notices), listener) {
         (Some(visits), Some(listener)) => match new_tellers(rt.alloc(), lanes, answer) {
             Ok(tellers) => run_on(rt, words, &visits, listener, hooks, tellers),
             Err(_) => Ok(Err(ServerFault::Memory)),
         },
         (_, listener) => match new_recorders(rt.alloc(), lanes, answer) {
-            Ok(recorders) => run_over(rt, words, &notices, listener, hooks, recorders),
+            Ok(recorders) => run_over(
+                rt,
+                words,
+                watch.as_ref(),
+                &notices,
+                listener,
+                hooks,
+                recorders,
+            ),
             Err(_) => Ok(Err(ServerFault::Memory)),
         },
     }
@@ -101,6 +121,7 @@ fn run_over<
 >(
     rt: &R,
     words: &Words,
+    watch: Option<&Watch>,
     notices: &N,
     listener: Option<TcpListener>,
     hooks: PreHooks,
@@ -128,6 +149,7 @@ fn run_over<
         connections: serving.connections,
         open: serving.open,
         patience: serving.patience,
+        watch,
         notices,
     };
     let ids = Drawn::new(rt)?;

@@ -1,5 +1,6 @@
 //! Lanes over a board's queues that run while something else is done.
 ghost use Rattle.std.specs.Prelude.{◌≡◌, All, [], IfOk, length};
+ghost use Rattle.up_dispatch.specs.Lists.{EachAt};
 ghost use Rattle.up_dispatch.specs.Parts.{IsNamed};
 
 use std::alloc::{AllocError, Global};
@@ -9,14 +10,37 @@ use std::test::Fail;
 use std::thread;
 use std::thread::Threads;
 use up_dispatch::{Board, BoardParts, Naming, Report, Seat};
+use up_events::NoMemory;
 use up_hooks::PostHook;
 use up_lanes::{Lane, LaneEnd, Refill};
+use up_queue::TakeEnd;
 
-/// A new board of these parts, which have two queues, and a lane over each of them, with its post-hook.
+/// A new board of these parts, which have two queues: one that keeps the accepted changes, or one that counts them.
+fn new_board<B: Naming>(
+    alloc: Global,
+    parts: BoardParts,
+    keeps: bool,
+) -> Result<(Board<B>, Vec<TakeEnd>), NoMemory>
+    requires named { IsNamed B.name B.parts B.queue B.lanes parts }
+    requires lanes { length parts.queues ≡ 2 }
+    requires sized { B.max_size ≡ 1048576 }
+    ensures ends { IfOk result (λ r. (length r.1.items ≡ length parts.queues)
+        × EachAt (λ k e. (e.taken ≡ []) × (e.queue ≡ B.queue k)) r.1.items) }
+{
+    if keeps {
+        Board::new(alloc, parts, 1_048_576)
+    } else {
+        Board::forgetting(alloc, parts, 1_048_576)
+    }
+}
+
+/// A new board of these parts, which have two queues, and a lane over each of them, with its post-hook. The board keeps the accepted
+/// changes, or counts them.
 pub fn open_board<B: Naming, H: PostHook + Drop>(
     alloc: Global,
     parts: BoardParts,
     hooks: (H, H),
+    keeps: bool,
 ) -> Result<(Board<B>, Vec<Lane<H>>), Fail>
     requires named { IsNamed B.name B.parts B.queue B.lanes parts }
     requires lanes { length parts.queues ≡ 2 }
@@ -25,7 +49,7 @@ pub fn open_board<B: Naming, H: PostHook + Drop>(
     requires second { H.is_sound hooks.1 × (H.handed hooks.1 ≡ []) }
     ensures own { IfOk result (λ r. All (λ l. l.queue ≡ B.queue l.lane) r.1.items) }
 {
-    let (board, takes) = Board::<B>::new(alloc, parts, 1_048_576)?;
+    let (board, takes) = new_board::<B>(alloc, parts, keeps)?;
     let mut takes = takes.into_iter();
     let (Some(first), Some(second)) = (takes.next(), takes.next()) else {
         return Err("two queues".into());

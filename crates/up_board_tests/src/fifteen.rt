@@ -133,7 +133,7 @@ fn crowded<B: Naming + Send + Sync, H: PostHook + Drop, R: Threads + Wait + Abor
     requires first { H.is_sound hooks.0 × (H.handed hooks.0 ≡ []) }
     requires second { H.is_sound hooks.1 × (H.handed hooks.1 ≡ []) }
 {
-    let (board, lanes) = open_board::<B, _>(alloc, parts, hooks)?;
+    let (board, lanes) = open_board::<B, _>(alloc, parts, hooks, true)?;
     let Some(mut seat) = board.seat(rt) else {
         return Err("a seat".into());
     };

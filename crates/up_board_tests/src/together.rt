@@ -1,4 +1,4 @@
-//! Boards with several seats, brought to their end.
+//! Boards with several seats, of both kinds, brought to their end.
 ghost use Rattle.std.specs.Prelude.{◌≡◌, [], length};
 ghost use Rattle.up_dispatch.specs.Parts.{IsNamed};
 
@@ -124,6 +124,7 @@ fn changed_at_once<B: Naming + Send + Sync, H: PostHook + Drop, R: Threads + Wai
     alloc: Global,
     parts: BoardParts,
     hooks: (H, H),
+    keeps: bool,
 ) -> Result<Report<H>, Fail>
     requires named { IsNamed B.name B.parts B.queue B.lanes parts }
     requires lanes { length parts.queues ≡ 2 }
@@ -131,7 +132,7 @@ fn changed_at_once<B: Naming + Send + Sync, H: PostHook + Drop, R: Threads + Wai
     requires first { H.is_sound hooks.0 × (H.handed hooks.0 ≡ []) }
     requires second { H.is_sound hooks.1 × (H.handed hooks.1 ≡ []) }
 {
-    let (board, lanes) = open_board::<B, _>(alloc, parts, hooks)?;
+    let (board, lanes) = open_board::<B, _>(alloc, parts, hooks, keeps)?;
     let (maker, others) = seats_of(rt, alloc, &board)?;
     let shared = &board;
     let (seats, ends) = run_beside(
@@ -146,14 +147,23 @@ fn changed_at_once<B: Naming + Send + Sync, H: PostHook + Drop, R: Threads + Wai
     finished(alloc, board, seats, ends)
 }
 
+/// Holds that all is told of a board that is changed from two seats at once. A board that counts its changes has no list of them; what is
+/// compared of either kind is their number, and each event that was handed over.
+fn hold<R: Threads + Wait + Abort + Sync>(rt: &R, alloc: Global, keeps: bool) -> Result<(), Fail> {
+    let parts = BoardParts::new(alloc, 2, 4)?;
+    let done = |_: &Event| Outcome::Done;
+    let hooks = (Recorder::new(alloc, done), Recorder::new(alloc, done));
+    let report = changed_at_once::<Brand, _, _>(rt, alloc, parts, hooks, keeps)?;
+    assert_eq!(rt; report.accepted.list().is_some(), keeps);
+    tells_all(rt, &report)
+}
+
 #[test]
 fn two_seats_at_once(rt: HostRuntime) -> Result<(), Fail> {
-    let parts = BoardParts::new(rt.alloc(), 2, 4)?;
-    let done = |_: &Event| Outcome::Done;
-    let hooks = (
-        Recorder::new(rt.alloc(), done),
-        Recorder::new(rt.alloc(), done),
-    );
-    let report = changed_at_once::<Brand, _, _>(&rt, rt.alloc(), parts, hooks)?;
-    tells_all(&rt, &report)
+    hold(&rt, rt.alloc(), true)
+}
+
+#[test]
+fn two_seats_of_a_board_that_counts(rt: HostRuntime) -> Result<(), Fail> {
+    hold(&rt, rt.alloc(), false)
 }

@@ -1,5 +1,5 @@
-//! Conversations that are served twice, by a book alone and from a seat of a board whose lanes run meanwhile: the same is answered, and the
-//! same changes are accepted.
+//! Conversations that are served by a book alone, and from a seat of a board whose lanes run meanwhile, of one that keeps its changes and of
+//! one that counts them: the same is answered, and the same changes are accepted. Of those that are counted the number is compared.
 ghost use Rattle.std.specs.Prelude.{◌≡◌, IsTrue, [], length};
 ghost use Rattle.up_dispatch.specs.Parts.{IsNamed};
 ghost use Rattle.up_hooks.specs.Verdicts.{is_lawful};
@@ -14,7 +14,7 @@ use std::sync::Wait;
 use std::test::Fail;
 use std::thread::Threads;
 use up_dispatch::{Board, BoardParts, Counting, Ended, Lent, Naming, Report, Seat, Seated};
-use up_events::{Accepted, Event};
+use up_events::{Changes, Event};
 use up_hooks::{Outcome, PostHook, PreHook, PreHooks, Recorder};
 use up_machine::{Ask, Book, Point, Reason, Verdict};
 
@@ -31,7 +31,7 @@ enum Asked {
 }
 
 /// What is asked, and how many changes are accepted of it.
-type Talk = (&'static [Asked], usize);
+type Talk = (&'static [Asked], u64);
 
 /// The conversations of servers without closures.
 const TALKS: [Talk; 16] = [
@@ -267,6 +267,7 @@ fn on_board<B: Naming + Send + Sync, H: PostHook + Drop, R: Threads + Wait + Abo
     recorders: (H, H),
     hooks: &PreHooks,
     asked: &[u8],
+    keeps: bool,
 ) -> Result<(Report<H>, Told), Fail>
     requires named { IsNamed B.name B.parts B.queue B.lanes parts }
     requires lanes { length parts.queues ≡ 2 }
@@ -274,7 +275,7 @@ fn on_board<B: Naming + Send + Sync, H: PostHook + Drop, R: Threads + Wait + Abo
     requires first { H.is_sound recorders.0 × (H.handed recorders.0 ≡ []) }
     requires second { H.is_sound recorders.1 × (H.handed recorders.1 ≡ []) }
 {
-    let (board, lanes) = open_board::<B, _>(alloc, parts, recorders)?;
+    let (board, lanes) = open_board::<B, _>(alloc, parts, recorders, keeps)?;
     let Some(seat) = board.seat(rt) else {
         return Err("a seat".into());
     };
@@ -292,24 +293,23 @@ fn on_board<B: Naming + Send + Sync, H: PostHook + Drop, R: Threads + Wait + Abo
     Ok((finished(alloc, board, seats, ends)?, told))
 }
 
-/// Serves the conversation on a new board of two lanes, and gives what was told and the report.
+/// Serves the conversation on a new board of two lanes, and gives what was told and the accepted changes.
 fn reported<R: Threads + Wait + Abort + Sync>(
     rt: &R,
     alloc: Global,
     hooks: &PreHooks,
     asked: &[u8],
-) -> Result<(Told, Vec<Accepted>), Fail> {
+    keeps: bool,
+) -> Result<(Told, Changes), Fail> {
     let parts = BoardParts::new(alloc, 2, 1)?;
     let done = |_: &Event| Outcome::Done;
     let recorders = (Recorder::new(alloc, done), Recorder::new(alloc, done));
-    let (report, told) = on_board::<Brand, _, _>(rt, alloc, parts, recorders, hooks, asked)?;
-    match report.accepted.list() {
-        Some(accepted) => Ok((told, accepted.to_vec(alloc)?)),
-        None => Err("changes that are kept".into()),
-    }
+    let (report, told) = on_board::<Brand, _, _>(rt, alloc, parts, recorders, hooks, asked, keeps)?;
+    Ok((told, report.accepted))
 }
 
-/// Holds that a book alone and a board answer the same to a talk, and accept the same changes, which are as many as is said.
+/// Holds that a book alone and boards of both kinds answer the same to a talk, and accept the same changes, which are as many as is said. The
+/// board that keeps them has the book's list. The one that counts them has no list to show, and so their number alone is compared.
 fn hold<R: Threads + Wait + Abort + Sync>(
     rt: &R,
     alloc: Global,
@@ -319,10 +319,12 @@ fn hold<R: Threads + Wait + Abort + Sync>(
     let text = text_of(alloc, talk)?;
     let mut book = Book::new(alloc, 2, 1_048_576)?;
     let by_book = talked(alloc, &mut book, hooks, text.as_bytes());
-    let (by_board, accepted) = reported(rt, alloc, hooks, text.as_bytes())?;
-    assert_eq!(rt; by_board, by_book);
-    assert_eq!(rt; accepted.as_slice(), book.journal().accepted());
-    assert_eq!(rt; accepted.len(), count);
+    for keeps in [true, false] {
+        let (by_board, accepted) = reported(rt, alloc, hooks, text.as_bytes(), keeps)?;
+        assert_eq!(rt; by_board, by_book);
+        assert_eq!(rt; accepted.list(), keeps.then_some(book.journal().accepted()));
+        assert_eq!(rt; accepted.len(), count);
+    }
     Ok(())
 }
 

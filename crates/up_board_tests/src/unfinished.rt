@@ -116,7 +116,7 @@ fn came_back<B: Naming + Send + Sync, H: PostHook + Drop, R: Threads + Wait + Ab
     requires first { H.is_sound hooks.0 × (H.handed hooks.0 ≡ []) }
     requires second { H.is_sound hooks.1 × (H.handed hooks.1 ≡ []) }
 {
-    let (board, lanes) = open_board::<B, H>(alloc, parts, hooks)?;
+    let (board, lanes) = open_board::<B, H>(alloc, parts, hooks, true)?;
     let Some(mut first) = board.seat(rt) else {
         return Err("a seat".into());
     };
@@ -251,7 +251,7 @@ fn each_missing<B: Naming + Send + Sync, H: PostHook + Drop, R: Threads + Wait +
     requires first { H.is_sound hooks.0 × (H.handed hooks.0 ≡ []) }
     requires second { H.is_sound hooks.1 × (H.handed hooks.1 ≡ []) }
 {
-    let (board, lanes) = open_board::<B, _>(alloc, parts, hooks)?;
+    let (board, lanes) = open_board::<B, _>(alloc, parts, hooks, true)?;
     let (Some(mut first), Some(mut second)) = (board.seat(rt), board.seat(rt)) else {
         return Err("two seats".into());
     };

@@ -7,6 +7,7 @@ use crate::patience::Patience;
 use crate::pool::Pool;
 use crate::seats::Seats;
 use crate::visit::attend;
+use crate::watch::Watch;
 use std::alloc::{AllocError, Global};
 use std::marker::{Send, Sync};
 use std::net::{TcpListener, TcpStream};
@@ -28,6 +29,8 @@ pub struct Visits<'a, N> {
     pub open: u64,
     /// How long a connection waits for its client.
     pub patience: Patience,
+    /// Where those that are open are counted, if anybody watches.
+    pub watch: Option<&'a Watch>,
     /// Who is told where none can be let in.
     pub notices: &'a N,
 }
@@ -45,8 +48,9 @@ fn serve_in_turn<B: Naming, I: Ids, T: Wait>(
         let Some(stream) = next else {
             break;
         };
+        hall.begin();
         attend(rt, alloc, hall, hooks, stream);
-        hall.door.leave(rt);
+        hall.end(rt);
         next = hall.pool.next(rt);
     }
 }
@@ -153,6 +157,7 @@ pub fn serve_connections<
         door: Door::new(),
         pool: Pool::new(alloc)?,
         patience: visits.patience,
+        watch: visits.watch,
         ids: Mutex::new(ids),
         seats: Seats::new(alloc, visits.open)?,
     };

@@ -3,7 +3,8 @@ use crate::door::Door;
 use crate::patience::Patience;
 use crate::pool::Pool;
 use crate::seats::Seats;
-use std::sync::Mutex;
+use crate::watch::Watch;
+use std::sync::{Mutex, Wait};
 use up_dispatch::{Board, Naming};
 
 /// What the connections of a server share, beside its closures.
@@ -13,6 +14,24 @@ pub struct Hall<'a, B: Naming, I> {
     pub door: Door,
     pub pool: Pool,
     pub patience: Patience,
+    pub watch: Option<&'a Watch>,
     pub ids: Mutex<I>,
     pub seats: Seats<B>,
+}
+
+impl<B: Naming, I> Hall<'_, B, I> {
+    /// A connection begins that the door has let in.
+    pub fn begin(&self) {
+        if let Some(watch) = self.watch {
+            watch.begin();
+        }
+    }
+
+    /// It has ended.
+    pub fn end<R: Wait>(&self, rt: &R) {
+        if let Some(watch) = self.watch {
+            watch.end();
+        }
+        self.door.leave(rt);
+    }
 }

@@ -13,12 +13,14 @@ mod pool;
 mod said;
 mod seats;
 mod visit;
+mod watch;
 
 pub use accept::{Visits, serve_connections};
 pub use door::Door;
 pub use drawn::Drawn;
 pub use notices::{Entrance, Notices, Silent, Want};
-pub use patience::Patience;
+pub use patience::{Patience, milliseconds};
 pub use said::{Due, Said};
 pub use seats::Seats;
 pub use visit::converse_at;
+pub use watch::Watch;

@@ -51,7 +51,7 @@ fn keep_alive(stream: &TcpStream) {
 }
 
 /// The milliseconds of the system's clock that never goes back.
-pub(crate) fn milliseconds() -> u64 {
+pub fn milliseconds() -> u64 {
     let mut time = libc::types::timespec {
         tv_sec: 0,
         tv_nsec: 0,

@@ -6,6 +6,7 @@ ghost use Rattle.up_dispatch.specs.Lists.{EachAt};
 ghost use Rattle.up_dispatch.specs.Parts.{IsNamed, capacities_of};
 ghost use Rattle.up_dispatch.specs.Keepers.{SeatPlans, SeatCommits};
 
+use crate::counts::Counts;
 use crate::inside::Inside;
 use crate::naming::Naming;
 use crate::parts::BoardParts;
@@ -161,6 +162,16 @@ impl<B: Naming> Board<B> {
         }
         remains.release();
         result
+    }
+
+    /// What is counted on the board at one moment. The lock is held for some steps for each lane.
+    pub fn counts<R: Wait>(&self, rt: &R) -> Counts {
+        let mut inside = self.inside.lock(rt);
+        let mut counts = inside.counts();
+        for (lane, waiting) in counts.waiting.iter_mut().enumerate() {
+            *waiting = inside.waiting(rt, lane as u64);
+        }
+        counts
     }
 
     /// Wakes the lane, if it sleeps.

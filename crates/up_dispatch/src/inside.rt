@@ -13,6 +13,7 @@ ghost use Rattle.up_dispatch.specs.Idle.{IsIdle};
 ghost use Rattle.up_dispatch.specs.Parts.{IsNamed, capacities_of};
 ghost use Rattle.up_dispatch.specs.Standing.{IsLawfulStanding};
 
+use crate::counts::Counts;
 use crate::feed::{Feed, Filled};
 use crate::naming::Naming;
 use crate::parts::{BoardParts, MOST_SEATS};
@@ -170,6 +171,33 @@ impl<B: Naming> Inside<B> {
         }
         let all = self.book.journal().log_len(lane);
         feed.cursor == all && all == taken
+    }
+
+    /// What is counted of the book. How many events wait is counted lane by lane, by `waiting`, and is 0 here.
+    pub fn counts(&self) -> Counts
+        ensures changes { result.changes ≡ length self.now.book.journal.accepted }
+        ensures lanes { result.lanes ≡ self.now.book.journal.lanes }
+    {
+        let journal = self.book.journal();
+        Counts {
+            uploads: journal.uploads(),
+            bytes: journal.bytes(),
+            changes: journal.accepted_count(),
+            lanes: self.lanes(),
+            waiting: [0; 16],
+        }
+    }
+
+    /// How many events of a lane were not taken yet: all that were not put, and no more than there are. 0 if there is no such lane.
+    pub fn waiting<R: Wait>(&mut self, rt: &R, lane: u64) -> u64
+        ensures same { self.new ≡ self.old }
+        ensures within { result ≤ length (lane_log self.old.book.journal lane) }
+    {
+        let all = self.book.journal().log_len(lane);
+        match self.feeds.get_mut(lane as usize) {
+            Some(feed) => feed.waiting(rt, all),
+            None => 0,
+        }
     }
 
     /// What lies under the lock is a lawful board. A law: it does nothing.

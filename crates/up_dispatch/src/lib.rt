@@ -4,6 +4,7 @@
 mod answering;
 mod board;
 mod conversation;
+mod counts;
 mod feed;
 mod finish;
 mod ids;
@@ -19,6 +20,7 @@ mod seat;
 pub use answering::answer;
 pub use board::Board;
 pub use conversation::{Ended, MOST_MESSAGES, converse};
+pub use counts::Counts;
 pub use feed::Filled;
 pub use finish::{FinishFault, LaneReport, Report, Unfinished};
 pub use ids::{Counting, Ids, SharedIds};

@@ -1,5 +1,5 @@
 //! The two ends of a queue. Contracts see an end as its queue, the capacity, and the list of what it has put or taken.
-ghost use Rattle.std.specs.Prelude.{◌≡◌, ◌<◌, [], ◌∷◌, ◌++◌, ◌↔◌, Err, IfOk, IfErr, IfSome, OnOk, OnErr, None};
+ghost use Rattle.std.specs.Prelude.{◌≡◌, ◌<◌, [], ◌∷◌, ◌++◌, ◌↔◌, ◌≤◌, length, Err, IfOk, IfErr, IfSome, OnOk, OnErr, None};
 ghost use Rattle.up_queue.specs.declared.fault.QueueFault.TheVariants.{ZeroCapacity};
 ghost use Rattle.up_queue.specs.declared.fault.PutFault.TheVariants.{Full};
 ghost use Rattle.up_queue.specs.Line.{IsOrderly};
@@ -7,7 +7,7 @@ ghost use Rattle.up_queue.specs.Sides.{AreNewEnds, AreLeft, with_put, with_taken
 
 use crate::fault::{PutFault, QueueFault};
 use crate::item::Item;
-use crate::line::{Line, join, open, pop, push};
+use crate::line::{Line, held, join, open, pop, push};
 use crate::rule::{EndView, Room};
 use crossbeam_queue::Pass;
 use std::alloc::Global;
@@ -111,6 +111,15 @@ impl PutEnd {
             }
             Err(item) => Err(PutFault::Full(item)),
         }
+    }
+
+    /// How many items the queue holds at one moment of the call. The contract says no more than that these are no more than it can hold, and
+    /// than were put. Takes no memory.
+    pub fn held<R: Wait>(&mut self, rt: &R) -> u64
+        ensures unchanged { self.new ≡ self.old }
+        ensures held { (result ≤ self.old.capacity) × (result ≤ length self.old.put) }
+    {
+        held(rt, &self.line, &mut self.pass)
     }
 }
 

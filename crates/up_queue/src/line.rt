@@ -67,6 +67,18 @@ pub fn pop<R: Wait>(rt: &R, line: &Line, pass: &mut Pass<Item, EndView>) -> Opti
     line.pop_as::<Takes, R>(rt, pass)
 }
 
+/// How many items the line holds at one moment of the call.
+pub fn held<R: Wait>(rt: &R, line: &Line, pass: &mut Pass<Item, EndView>) -> u64
+    requires line { IsPassOf line.now pass.old }
+    requires puts { view pass.old ≡ putting (ruled_capacity line.now) (view pass.old).put }
+    ensures line { IsPassOf line.now pass.new }
+    ensures queue { pass.new.table_id ≡ pass.old.table_id }
+    ensures unchanged { view pass.new ≡ view pass.old }
+    ensures held { (result ≤ ruled_capacity line.now) × (result ≤ length (view pass.old).put) }
+{
+    line.len_as::<Puts, R>(rt, pass) as u64
+}
+
 /// What the two passes of a line say of it together.
 pub fn join(line: &Line, mut putter: Pass<Item, EndView>, taker: Pass<Item, EndView>)
     requires passes { IsPassOf line.now putter × IsPassOf line.now taker }

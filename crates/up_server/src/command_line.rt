@@ -3,7 +3,8 @@ ghost use Rattle.std.specs.Prelude.{◌≡◌, ◌≤◌, IfOk, IfSome, option_m
 ghost use Rattle.clap.specs.Words.{first_value, found_of};
 
 use crate::settings::{
-    MOST_CAPACITY, MOST_CONNECTIONS, MOST_OPEN, MOST_PATIENCE, Serving, Settings, Words,
+    MOST_CAPACITY, MOST_CONNECTIONS, MOST_OPEN, MOST_PATIENCE, MOST_STATUS, Serving, Settings,
+    Words,
 };
 use clap::builder::ValueParser;
 use clap::error::ErrorKind;
@@ -108,7 +109,7 @@ const COMMON: [Word<'static>; 7] = [
 ];
 
 /// The words that say which connections are served, and what is told meanwhile.
-const CONNECTIONS: [Word<'static>; 6] = [
+const CONNECTIONS: [Word<'static>; 7] = [
     Word {
         name: "address",
         kind: Kind::Text("HOST:PORT"),
@@ -138,6 +139,12 @@ const CONNECTIONS: [Word<'static>; 6] = [
         kind: Kind::Number(1, MOST_BYTES),
         default: None,
         help: "End a connection whose request comes at fewer than N bytes a second for more than 10 seconds",
+    },
+    Word {
+        name: "status",
+        kind: Kind::Number(1, MOST_STATUS),
+        default: None,
+        help: "Say on standard error every N seconds, from 1 to 86400, and at the end how the server stands",
     },
     Word {
         name: "events",
@@ -239,6 +246,7 @@ fn serving_of(alloc: Global, serve: &ArgMatches<'_>) -> Result<Serving, AllocErr
             seconds: number_of(serve, "patience", MOST_PATIENCE),
             least_rate: number_of(serve, "least-rate", MOST_BYTES),
         },
+        status: number_of(serve, "status", MOST_STATUS),
         events: serve.get_flag("events"),
     })
 }

@@ -15,6 +15,7 @@ mod running;
 mod server_fault;
 mod serving;
 mod settings;
+mod status;
 mod telling;
 
 pub use command_line::{VERSION, WordsFault, words};

@@ -12,6 +12,7 @@ use crate::lanes::{end_all, start_all};
 use crate::runner::{OnStderr, Runner};
 use crate::server_fault::ServerFault;
 use crate::settings::Settings;
+use crate::status::{say, start_saying};
 use crate::telling::{tell_end, tell_report};
 use std::alloc::{AllocError, Global};
 use std::marker::{Brand, Send, Sync};
@@ -26,7 +27,7 @@ use up_hooks::{Outcome, PostHook, PreHooks, Recorder, Teller};
 use up_lanes::{Lane, LaneEnd};
 use up_wire::Sink;
 
-/// Starts the lanes in the scope, serves the connections, closes the board, and waits for the lanes.
+/// Starts the lanes in the scope, and what says how the server stands, serves the connections, closes the board, and waits for the lanes.
 fn attend_in<
     's,
     E,
@@ -43,13 +44,14 @@ fn attend_in<
     lanes: Vec<Lane<H>>,
     hooks: &PreHooks,
     listener: &TcpListener,
-    visits: &Visits<'_, N>,
+    visits: &Visits<'s, N>,
     ids: I,
 ) -> Result<(Vec<Seat<B>>, Vec<LaneEnd<H>>), AllocError>
     requires lanes { EachAt (λ k l. (l.lane ≡ k) × (l.queue ≡ B.queue k)) lanes.items }
     ensures count { IfOk result (λ r. vec_len r.1 ≡ vec_len lanes) }
     ensures ends { IfOk result (λ r. EachAt (λ k e. H.is_sound e.hook × (e.lane ≡ k) × (e.take_end.queue ≡ B.queue k)) r.1.items) }
 {
+    start_saying(scope, rt, runner, visits.watch)?;
     let running = start_all(scope, rt, alloc, runner, lanes)?;
     let seats = serve_connections(rt, alloc, runner.board, hooks, ids, listener, visits);
     let ends = end_all(rt, runner, running)?;
@@ -78,9 +80,9 @@ fn attend<
     ensures count { IfOk result (λ r. vec_len r.1 ≡ vec_len lanes) }
     ensures ends { IfOk result (λ r. EachAt (λ k e. H.is_sound e.hook × (e.lane ≡ k) × (e.take_end.queue ≡ B.queue k)) r.1.items) }
 {
-    let notices = &OnStderr { rt };
+    let notices = &OnStderr::new(rt);
     let runner = &Runner::lasting(board, notices);
-    thread::scope(
+    let ended = thread::scope(
         thread::scope_env(),
         rt,
         move |scope| -> Result<(Vec<Seat<B>>, Vec<LaneEnd<H>>), AllocError>
@@ -92,7 +94,9 @@ fn attend<
                 scope, rt, alloc, runner, lanes, hooks, listener, visits, ids,
             )
         },
-    )
+    );
+    say(rt, runner, visits.watch);
+    ended
 }
 
 /// Serves connections on a new board of these parts, ends its lanes and reports.

@@ -18,7 +18,7 @@ const MOST_PAUSE: u64 = 10_000;
 /// How many times it is tried once the board is closed, with the first pause between two tries.
 const LAST_TRIES: u32 = 3;
 
-/// Who is told of lanes that wait for memory.
+/// Who is told of lanes that wait for memory. Of each lane it is told by turns that it waits and that it goes on.
 pub trait LaneNotices: Sync {
     /// The post-hook of this lane was refused memory. The lane waits until there is some.
     fn waits(&self, lane: u64);
@@ -30,15 +30,39 @@ pub trait LaneNotices: Sync {
 /// Standard error, which is told in a line. Where it is closed nobody is told.
 #[derive(Drop)]
 pub struct OnStderr<'a, R> {
-    pub rt: &'a R,
+    rt: &'a R,
+    /// The lanes that wait, a bit for each.
+    stopped: AtomicU64,
+}
+
+/// The bit of a lane.
+fn bit(lane: u64) -> u64 {
+    1 << (lane % 64)
+}
+
+impl<'a, R> OnStderr<'a, R> {
+    /// No lane waits.
+    pub fn new(rt: &'a R) -> Self {
+        OnStderr {
+            rt,
+            stopped: AtomicU64::new(0),
+        }
+    }
+
+    /// The lanes that wait, a bit for each.
+    pub fn stopped(&self) -> u64 {
+        self.stopped.load(Ordering::SeqCst)
+    }
 }
 
 impl<R: Eprint + Sync> LaneNotices for OnStderr<'_, R> {
     fn waits(&self, lane: u64) {
+        self.stopped.fetch_add(bit(lane), Ordering::SeqCst);
         let _ = eprintln!(self.rt; "up_server: lane {lane} waits for memory");
     }
 
     fn goes_on(&self, lane: u64) {
+        self.stopped.fetch_sub(bit(lane), Ordering::SeqCst);
         let _ = eprintln!(self.rt; "up_server: lane {lane} goes on");
     }
 }
@@ -57,7 +81,7 @@ impl LaneNotices for Nobody {
 pub struct Runner<'a, B: Naming, N> {
     pub board: &'a Board<B>,
     /// Who is told of lanes that stopped, and go on. Where there is none, a lane that stopped has ended.
-    notices: Option<&'a N>,
+    pub notices: Option<&'a N>,
     /// 0 while the board is open, and 1 once it was closed. Lanes that wait for memory sleep on it.
     closed: AtomicU64,
 }
@@ -110,6 +134,13 @@ impl<'a, B: Naming + Send + Sync, N: LaneNotices> Runner<'a, B, N> {
     /// Whether the board was closed.
     fn is_closed(&self) -> bool {
         self.closed.load(Ordering::SeqCst) != 0
+    }
+
+    /// Sleeps so many milliseconds, or until the board is closed. Tells whether it is closed.
+    pub fn closes_within<T: Wait>(&self, rt: &T, pause: u64) -> bool {
+        self.closed
+            .park_timeout(rt, 0, Duration::from_millis(pause));
+        self.is_closed()
     }
 
     /// Sleeps so many milliseconds, or, of a board that isn't closed, until it is. Tells whether it is closed.

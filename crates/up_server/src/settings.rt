@@ -25,6 +25,9 @@ pub fn limits_are_exact()
 /// The most seconds for which a connection may be silent: a day.
 pub const MOST_PATIENCE: u64 = 86_400;
 
+/// The most seconds from one line that says how the server stands to the next: a day.
+pub const MOST_STATUS: u64 = 86_400;
+
 /// The size of a server.
 #[derive(Clone, Copy, Debug, PartialEq, Eq)]
 pub struct Settings {
@@ -61,6 +64,8 @@ pub struct Serving {
     pub open: u64,
     /// How long a connection waits for its client.
     pub patience: Patience,
+    /// After how many seconds each it is said how the server stands, from 1 to 86,400; where there is none, it isn't said.
+    pub status: Option<u64>,
     /// Whether each event is written as a line as it is handed over.
     pub events: bool,
     ghost connections_within: { (count : ℕ) → connections ≡ Some count → (1 ≤ count) × (count ≤ MOST_CONNECTIONS) },

@@ -87,7 +87,7 @@ fn stopped<B: Naming + Send + Sync, R: Threads + Wait + Abort + Sync>(
     requires first { ⟦<Listing as PostHook>⟧.handed hooks.0 ≡ [] }
     requires second { ⟦<Listing as PostHook>⟧.handed hooks.1 ≡ [] }
 {
-    let (board, lanes) = open_board::<B, _>(alloc, parts, hooks)?;
+    let (board, lanes) = open_board::<B, _>(alloc, parts, hooks, true)?;
     let Some(seat) = board.seat(rt) else {
         return Err("a seat".into());
     };

@@ -61,6 +61,7 @@ fn serves_three_from_one_seat(rt: HostRuntime) -> Result<(), Fail> {
         connections: Some(3),
         open: 1,
         patience: Patience::default(),
+        watch: None,
         notices: &Silent,
     };
     let parts = BoardParts::new(rt.alloc(), 1, 8)?;
@@ -88,6 +89,7 @@ fn ends_where_the_listener_is_gone(rt: HostRuntime) -> Result<(), Fail> {
         connections: None,
         open: 2,
         patience: Patience::default(),
+        watch: None,
         notices: &last,
     };
     let parts = BoardParts::new(rt.alloc(), 1, 8)?;

@@ -52,6 +52,7 @@ fn a_closure_waits_for_another_connection(rt: HostRuntime) -> Result<(), Fail> {
         connections: Some(2),
         open: 2,
         patience: Patience::default(),
+        watch: None,
         notices: &Silent,
     };
     let done = |_: &Event| Outcome::Done;

@@ -100,6 +100,7 @@ fn post_hooks_meet_by_two_connections(rt: HostRuntime) -> Result<(), Fail> {
         connections: Some(2),
         open: 1,
         patience: Patience::default(),
+        watch: None,
         notices: &Silent,
     };
     let report = reported(&rt, rt.alloc(), hooks, answer, &settings, listener, &visits)?;

@@ -33,6 +33,7 @@ fn reports_what_each_connection_did(rt: HostRuntime) -> Result<(), Fail> {
         connections: Some(3),
         open: 1,
         patience: Patience::default(),
+        watch: None,
         notices: &Silent,
     };
     let hooks = PreHooks::new(Vec::new(rt.alloc()));

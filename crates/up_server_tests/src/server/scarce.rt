@@ -106,6 +106,7 @@ fn served<'a, T: Threads + Wait + Eprint + Sync>(
         connections: Some(connections),
         open: 1,
         patience: Patience::default(),
+        watch: None,
         notices: &Silent,
     };
     let mut post_hooks = Vec::new(alloc);

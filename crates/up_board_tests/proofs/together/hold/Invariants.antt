@@ -1,6 +1,6 @@
 use Rattle.std.specs.Prelude.{length, slice_index_or}
 use Rattle.up_queue.specs.Sides.{no_queue}
-use Rattle.up_board_tests.proofs.together.two_seats_at_once.Given as goal
+use Rattle.up_board_tests.proofs.together.hold.Given as goal
 
 abbrev pub ghosts-changed_at_once-B-Ledger : goal.ghosts-changed_at_once-B-Ledger
 ghosts-changed_at_once-B-Ledger g a = record { name = a.parts.name; parts = a.parts.parts }
