@@ -14,7 +14,7 @@ use Rattle.up_events.specs.declared.event.Accepted.TheVariants.{Created, Appende
 use Rattle.up_events.specs.declared.event.Event.{Event}
 use Rattle.up_events.specs.declared.track.Track.{Track}
 use Rattle.up_events.specs.declared.journal.Journal.TheInside.{Inside}
-use Rattle.up_events.specs.Ended.{has}
+use Rattle.up_events.specs.Ascending.{has}
 use Rattle.up_events.specs.Lists.{gather, EachFollows, first_given}
 use Rattle.up_events.specs.History.{id_of, kind_of, length_of, is_final, offset_of, is_terminated, is_alive, CanFollow, IsLegal, Step, steps_at, steps_of, events_of}
 use Rattle.up_events.specs.Log.{numbered, log_of}
@@ -25,7 +25,7 @@ use Rattle.up_events.specs.contracts.journal.Journal.{the_view}
 use Rattle.up_events.specs.Reached.{reached, bytes_added, track_left, ended_by}
 use Rattle.up_events.specs.Kept.{IsKept, IsTailOf, track_of}
 use Rattle.up_events.proofs.HistoryLemmas.{append_nil, EachFollows-snoc, log_of-snoc}
-use Rattle.up_events.proofs.ListLemmas.{each_set, not_same}
+use Rattle.up_events.proofs.ListLemmas.{each_push, each_set, not_same}
 use Rattle.up_events.proofs.TrackLemmas.{tracks_after, ended_after}
 use Rattle.up_events.proofs.Sound.{IsSound, sound, offset_of-plain, steps_of-reached, track_of-reached}
 
@@ -239,11 +239,14 @@ step_places lanes changes c lane first count here begin n keeps firsts =
 -- ---- a log that is read
 
 -- the place of a lane's tail, and the tail, by what a look into the list of tails gave
+pub tail_at : (a : Inside) (r : Records) (k : ℕ) (log : Left) → IsKept a → the_view a ≡ r → k < length a.logs.items → log ≡ get_or a.logs.items k log → (first_of r k ≡ log.first) × IsTailOf (lane_log r k) log
+tail_at a r k log kept view within read =
+    let was = slice_get_read a.logs.items (length a.logs.items) k log refl within read in
+    subst (λ (r : Records). (first_of r k ≡ log.first) × IsTailOf (lane_log r k) log) view (first_at a.logs.items k log was, kept.logs k log was)
+
 pub tail_read : (a : Inside) (r : Records) (logs : List Left) (k : ℕ) (log : Left) → IsKept a → the_view a ≡ r → logs ≡ a.logs.items → true ≡ ltb k (length logs) → log ≡ get_or logs k log → (first_of r k ≡ log.first) × IsTailOf (lane_log r k) log
 tail_read a r logs k log kept view is within found =
-    let rows : length a.logs.items ≡ length logs = ap length (sym is) in
-    let was : slice_get a.logs.items k ≡ Some log = slice_get_read a.logs.items (length logs) k log (sym rows) (ltb-true k (length logs) (sym within)) (found ∙ ap (λ l. get_or l k log) is) in
-    subst (λ (r : Records). (first_of r k ≡ log.first) × IsTailOf (lane_log r k) log) view (first_at a.logs.items k log was, kept.logs k log was)
+    tail_at a r k log kept view (omega (arith, ltb-true k (length logs) (sym within), ap length is)) (found ∙ ap (λ l. get_or l k log) is)
 
 -- there is no log of a lane that isn't there
 pub no_tail_read : (a : Inside) (r : Records) (logs : List Left) (k : ℕ) → IsKept a → the_view a ≡ r → logs ≡ a.logs.items → false ≡ ltb k (length logs) → (first_of r k ≡ 0) × (lane_log r k ≡ [])
@@ -261,10 +264,9 @@ lane_there a r k place kept view within =
       | false ↦ λ e. let t = no_tail_read a r a.logs.items k kept view refl (sym e) in absurd (omega (arith, ap length t.1))
     ] refl
 
-pub tail_at : (a : Inside) (r : Records) (k : ℕ) (log : Left) → IsKept a → the_view a ≡ r → k < length a.logs.items → log ≡ get_or a.logs.items k log → (first_of r k ≡ log.first) × IsTailOf (lane_log r k) log
-tail_at a r k log kept view within read =
-    let was = slice_get_read a.logs.items (length a.logs.items) k log refl within read in
-    subst (λ (r : Records). (first_of r k ≡ log.first) × IsTailOf (lane_log r k) log) view (first_at a.logs.items k log was, kept.logs k log was)
+-- the same of the lane that has an event
+pub tail_with : (a : Inside) (r : Records) (k place : ℕ) (log : Left) → IsKept a → the_view a ≡ r → place < length (lane_log r k) → log ≡ get_or a.logs.items k log → (first_of r k ≡ log.first) × IsTailOf (lane_log r k) log
+tail_with a r k place log kept view within = tail_at a r k log kept view (lane_there a r k place kept view within)
 
 pub event_left : (log : List Event) (t : Left) (place : ℕ) (event : Event) → IsTailOf log t → t.first ≤ place → place < length log → slice_get t.events (place - t.first) ≡ Some event → slice_get log place ≡ Some event
 event_left log t place event is there within at =
@@ -279,17 +281,11 @@ kept_read r k log t = t.1.events_are ∙ ap (λ i. drop i (lane_log r k)) (sym t
 -- ---- a new journal
 
 -- what holds of each member holds of each with one more
-pub get-push : {X : Type 0} (P : X → Type 0) (xs : List X) (new : X) → ((k : ℕ) (x : X) → slice_get xs k ≡ Some x → P x) → P new → (k : ℕ) (x : X) → slice_get (xs ++ new ∷ []) k ≡ Some x → P x
-get-push P [] new old here zero x e = subst P (let h : new ≡ x = cc in h) here
-get-push P [] new old here (suc k) x e = absurd (cc)
-get-push P (y ∷ ys) new old here zero x e = old zero x e
-get-push P (y ∷ ys) new old here (suc k) x e = get-push P ys new (λ k x e. old (suc k) x e) here k x e
-
 pub empty_more : (n : ℕ) (logs new : List Left) (log : Left) → AreEmpty n logs → log.first ≡ 0 → log.events ≡ [] → new ≡ logs ++ log ∷ [] → AreEmpty (n + 1) new
 empty_more n logs new log are first events is = subst (AreEmpty (n + 1)) (sym is) (record {
   rows = omega (arith, length-append logs (log ∷ []), are.rows);
-  first = get-push (λ (l : Left). l.first ≡ 0) logs log are.first first;
-  empty = get-push (λ (l : Left). l.events ≡ []) logs log are.empty events;
+  first = each_push (λ _ (l : Left). l.first ≡ 0) logs log are.first first;
+  empty = each_push (λ _ (l : Left). l.events ≡ []) logs log are.empty events;
 })
 
 pub kept_new : (lanes : ℕ) (accepted : Listing) (logs : Vec Left Global) (tracks : BTreeMap ℕ Track) (ended : List ℕ) → 0 < lanes → lanes ≤ 16 → accepted.items ≡ [] → AreEmpty lanes logs.items → tracks.entries ≡ [] → ended ≡ [] → IsKept (record { lanes = lanes; accepted = accepted; logs = logs; tracks = tracks; ended = ended; bytes = 0 })

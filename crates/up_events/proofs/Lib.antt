@@ -1,4 +1,6 @@
 pub mod ListLemmas
+pub mod BlockLemmas
+pub mod AscendingLemmas
 pub mod EndedLemmas
 pub mod HistoryLemmas
 pub mod IdLemmas

@@ -1,13 +1,14 @@
 -- The blocks of a log, and one more event.
 use Rattle.std.proofs.Common.{◌≡◌, ◌≢◌, ◌⊎◌, inl, inr, ℕ, ◌+◌, ◌-◌, ◌*◌, ◌/◌, ◌%◌, ◌^◌, ◌≤◌, ◌<◌, min, true, false, ltb, Some, List, [], ◌∷◌, ◌++◌, length, take, drop, Vec, vec_capacity, refl, sym, ap, ◌∙◌, subst, arith, get_or, slice_get, slice_set, length-append}
 use Rattle.std.proofs.Math.ListN.{length-set}
-use Rattle.std.proofs.Math.Seq.{take-nil}
 use Rattle.std.specs.declared.alloc.Global.{Global}
 use Rattle.std.proofs.lemmas.Bool.{ltb-true, ltb-false}
 use Rattle.std.proofs.lemmas.Option.{get_or_from_slice_get, slice_get_read, slice_get_within}
-use Rattle.std.proofs.lemmas.List.{drop_all, drop-append-le, get_or-drop, get_or-take, length-drop, length-take, take_all, take_more, take-append-le}
+use Rattle.std.proofs.lemmas.List.{drop_all, drop-append-le, get_or-drop, length-drop, take_all, take_more, take-append-le}
 use Rattle.up_events.specs.declared.event.Event.{Event}
-use Rattle.up_events.specs.Left.{Left, left, log_length, IsBlock, IsLeft, IsNewBlock}
+use Rattle.up_events.specs.Blocks.{IsBlock, IsNewBlock}
+use Rattle.up_events.specs.Left.{Left, left, log_length, IsLeft}
+use Rattle.up_events.proofs.BlockLemmas.{block_read, new_block}
 use Rattle.up_events.proofs.ListLemmas.{each_push, each_set}
 
 -- ---- what the fields say of the view
@@ -22,12 +23,6 @@ view_room all len first base blocks v is view some =
 
 -- ---- what stands in a block
 
-pub block_length : (all : List Event) (place : ℕ) (block : Vec Event Global) → IsBlock all place block → length block.items ≡ min 1024 (length all - place)
-block_length all place block is = ap length is.events_are ∙ length-take 1024 (drop place all) ∙ ap (min 1024) (length-drop place all)
-
-block_read : (all : List Event) (place i : ℕ) (block : Vec Event Global) (d : Event) → IsBlock all place block → i < 1024 → get_or block.items i d ≡ get_or all (place + i) d
-block_read all place i block d is within = ap (λ l. get_or l i d) is.events_are ∙ get_or-take 1024 (drop place all) i d within ∙ get_or-drop place all i d
-
 -- the block at the place that is divided by the size
 pub block_at : (at : ℕ) (blocks : List (Vec Event Global)) (block : Vec Event Global) → at / 1024 < length blocks → block ≡ get_or blocks (at / 1024) block → slice_get blocks (at / 1024) ≡ Some block
 block_at at blocks block within read = slice_get_read blocks (length blocks) (at / 1024) block refl within read
@@ -36,7 +31,7 @@ pub event_read : (all : List Event) (len first base place : ℕ) (blocks : List 
 event_read all len first base place blocks block event left there within was read =
     let k = (place - base) / 1024 in
     let is = left.each k block was in
-    let e : event ≡ get_or all (base + k * 1024 + (place - base) % 1024) event = read ∙ block_read all (base + k * 1024) ((place - base) % 1024) block event is (omega arith) in
+    let e : event ≡ get_or all (base + k * 1024 + (place - base) % 1024) event = read ∙ block_read 1024 all (base + k * 1024) ((place - base) % 1024) block event is (omega arith) in
     let at : base + k * 1024 + (place - base) % 1024 ≡ first + (place - first) = omega (arith, left.given_back) in
     slice_get_read (drop first all) (length all - first) (place - first) event (sym (length-drop first all)) (omega arith)
     (e ∙ ap (λ i. get_or all i event) at ∙ sym (get_or-drop first all (place - first) event))
@@ -46,39 +41,33 @@ copied events n event at = take_more events n event (slice_get_within events n e
 
 -- ---- one more block
 
-new_block : (all : List Event) (place : ℕ) (block : Vec Event Global) → length all ≤ place → IsNewBlock block → IsBlock all place block
-new_block all place block past new = record {
-  events_are = new.empty ∙ sym (ap (take 1024) (drop_all place all past) ∙ take-nil 1024);
-  room = new.room;
-}
-
-pub left_block : (all : List Event) (len first base : ℕ) (old new : List (Vec Event Global)) (block : Vec Event Global) → IsLeft all len first base old → IsNewBlock block → new ≡ old ++ block ∷ [] → IsLeft all len first base new
+pub left_block : (all : List Event) (len first base : ℕ) (old new : List (Vec Event Global)) (block : Vec Event Global) → IsLeft all len first base old → IsNewBlock 1024 block → new ≡ old ++ block ∷ [] → IsLeft all len first base new
 left_block all len first base old new block left fresh is = subst (IsLeft all len first base) (sym is) (record {
   counted = left.counted;
   countable = left.countable;
   forgotten = left.forgotten;
   given_back = left.given_back;
   room = omega (arith, left.room, length-append old (block ∷ []));
-  each = each_push (λ k b. IsBlock all (base + k * 1024) b) old block left.each
-      (new_block all (base + length old * 1024) block (omega (arith, left.room, left.counted)) fresh);
+  each = each_push (λ k b. IsBlock 1024 all (base + k * 1024) b) old block left.each
+      (new_block 1024 all (base + length old * 1024) block (omega (arith, left.room, left.counted)) fresh);
 })
 
 -- ---- one more event
 
-other_block : (all : List Event) (event : Event) (place : ℕ) (block : Vec Event Global) → (place + 1024 ≤ length all) ⊎ (length all < place) → IsBlock all place block → IsBlock (all ++ event ∷ []) place block
+other_block : (all : List Event) (event : Event) (place : ℕ) (block : Vec Event Global) → (place + 1024 ≤ length all) ⊎ (length all < place) → IsBlock 1024 all place block → IsBlock 1024 (all ++ event ∷ []) place block
 other_block all event place block (inl full) is = record {
-  events_are = is.events_are ∙ sym (ap (take 1024) (drop-append-le place all (event ∷ []) (omega arith))
+  items_are = is.items_are ∙ sym (ap (take 1024) (drop-append-le place all (event ∷ []) (omega arith))
       ∙ take-append-le 1024 (drop place all) (event ∷ []) (omega (arith, length-drop place all)));
   room = is.room;
 }
 other_block all event place block (inr past) is = record {
-  events_are = is.events_are ∙ ap (take 1024) (drop_all place all (omega arith) ∙ sym (drop_all place (all ++ event ∷ []) (omega (arith, length-append all (event ∷ [])))));
+  items_are = is.items_are ∙ ap (take 1024) (drop_all place all (omega arith) ∙ sym (drop_all place (all ++ event ∷ []) (omega (arith, length-append all (event ∷ [])))));
   room = is.room;
 }
 
-own_block : (all : List Event) (event : Event) (place : ℕ) (old new : Vec Event Global) → place ≤ length all → length all < place + 1024 → IsBlock all place old → new.items ≡ old.items ++ event ∷ [] → vec_capacity new ≡ vec_capacity old → IsBlock (all ++ event ∷ []) place new
+own_block : (all : List Event) (event : Event) (place : ℕ) (old new : Vec Event Global) → place ≤ length all → length all < place + 1024 → IsBlock 1024 all place old → new.items ≡ old.items ++ event ∷ [] → vec_capacity new ≡ vec_capacity old → IsBlock 1024 (all ++ event ∷ []) place new
 own_block all event place old new there within is items room = record {
-  events_are = items ∙ ap (λ l. l ++ event ∷ []) (is.events_are ∙ take_all 1024 (drop place all) (omega (arith, length-drop place all)))
+  items_are = items ∙ ap (λ l. l ++ event ∷ []) (is.items_are ∙ take_all 1024 (drop place all) (omega (arith, length-drop place all)))
       ∙ sym (ap (take 1024) (drop-append-le place all (event ∷ []) there)
       ∙ take_all 1024 (drop place all ++ event ∷ []) (omega (arith, length-drop place all, length-append (drop place all) (event ∷ []))));
   room = omega (arith, is.room, room);
@@ -101,7 +90,7 @@ left_event all event len first base blocks old new left was within fits items ro
       forgotten = omega (arith, left.forgotten);
       given_back = left.given_back;
       room = omega (arith, length-set blocks k new);
-      each = each_set (λ j b. IsBlock all (base + j * 1024) b) (λ j b. IsBlock (all ++ event ∷ []) (base + j * 1024) b) blocks k new left.each
+      each = each_set (λ j b. IsBlock 1024 all (base + j * 1024) b) (λ j b. IsBlock 1024 (all ++ event ∷ []) (base + j * 1024) b) blocks k new left.each
           (own_block all event (base + k * 1024) old new (omega (arith, left.counted)) (omega (arith, left.counted)) (left.each k old was) items room)
           (λ j b other is. other_block all event (base + j * 1024) b (subst (λ n. (base + j * 1024 + 1024 ≤ n) ⊎ (n < base + j * 1024)) left.counted (apart len base j there other)) is);
     }
@@ -122,5 +111,5 @@ left_later all len first base place old new left there within is =
       forgotten = within;
       given_back = omega (arith, left.given_back);
       room = omega (arith, left.room, left.given_back, length-drop n old);
-      each = λ k block e. subst (λ p. IsBlock all p block) (omega arith) (left.each (n + k) block (block_later old n k block e));
+      each = λ k block e. subst (λ p. IsBlock 1024 all p block) (omega arith) (left.each (n + k) block (block_later old n k block e));
     })

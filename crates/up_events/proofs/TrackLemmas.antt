@@ -12,7 +12,7 @@ use Rattle.up_events.specs.declared.event.Accepted.{Accepted}
 use Rattle.up_events.specs.declared.event.Accepted.TheVariants.{Created, Appended, Declared, Terminated}
 use Rattle.up_events.specs.declared.track.Track.{Track}
 use Rattle.up_events.specs.declared.journal.Journal.TheInside.{Inside}
-use Rattle.up_events.specs.Ended.{has}
+use Rattle.up_events.specs.Ascending.{has}
 use Rattle.up_events.specs.History.{id_of, is_known, is_terminated, is_alive, ends, CanFollow}
 use Rattle.up_events.specs.Reached.{track_left, ended_by}
 use Rattle.up_events.specs.Kept.{IsKept, track_of}

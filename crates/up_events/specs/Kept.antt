@@ -2,7 +2,7 @@
 use Rattle.std.specs.Prelude.{◌≡◌, ℕ, ◌<◌, ◌≤◌, Some, None, if◌then◌else◌, List, length, drop, slice_get}
 use Rattle.std.specs.Ordering.{nat_cmp}
 use Rattle.std.specs.BTreeMap.{get}
-use Rattle.up_events.specs.Ended.{has}
+use Rattle.up_events.specs.Ascending.{has}
 use Rattle.up_events.specs.History.{is_alive, is_terminated, offset_of, length_of, events_of, IsLegal}
 use Rattle.up_events.specs.Left.{Left}
 use Rattle.up_events.specs.Log.{log_of}

@@ -1,6 +1,7 @@
 -- What is left of a log of which the first events may have been forgotten.
-use Rattle.std.specs.Prelude.{◌≡◌, ℕ, ◌+◌, ◌-◌, ◌*◌, ◌^◌, ◌≤◌, ◌<◌, min, Some, List, [], length, take, drop, slice_get, Vec, vec_capacity}
+use Rattle.std.specs.Prelude.{◌≡◌, ℕ, ◌+◌, ◌-◌, ◌*◌, ◌^◌, ◌≤◌, ◌<◌, min, Some, List, length, drop, slice_get, Vec}
 use Rattle.std.specs.declared.alloc.Global.{Global}
+use Rattle.up_events.specs.Blocks.{IsBlock}
 use Rattle.up_events.specs.declared.event.Event.{Event}
 use Rattle.up_events.specs.declared.tail.TheConstants.{BLOCK}
 
@@ -19,16 +20,6 @@ abbrev pub left : List Event → ℕ → ℕ → List (Vec Event Global) → Lef
 left all first base blocks =
     record { first = first; events = drop first all; room = min (base + length blocks * BLOCK - length all) (2 ^ 64 - 1 - length all) }
 
--- a block without an event
-pub record IsNewBlock (block : Vec Event Global) : Type 0 where
-  pub empty : block.items ≡ []
-  pub room : BLOCK ≤ vec_capacity block
-
--- a block has the events of the log from this place on, as many as there are places in it
-pub record IsBlock (all : List Event) (place : ℕ) (block : Vec Event Global) : Type 0 where
-  pub events_are : block.items ≡ take BLOCK (drop place all)
-  pub room : BLOCK ≤ vec_capacity block
-
 -- the blocks have all events of the log from the place `base` on, and of these `first - base` were forgotten
 pub record IsLeft (all : List Event) (len first base : ℕ) (blocks : List (Vec Event Global)) : Type 0 where
   pub counted : len ≡ length all
@@ -36,4 +27,4 @@ pub record IsLeft (all : List Event) (len first base : ℕ) (blocks : List (Vec 
   pub forgotten : first ≤ len
   pub given_back : base ≤ first
   pub room : len ≤ base + length blocks * BLOCK
-  pub each : (k : ℕ) (block : Vec Event Global) → slice_get blocks k ≡ Some block → IsBlock all (base + k * BLOCK) block
+  pub each : (k : ℕ) (block : Vec Event Global) → slice_get blocks k ≡ Some block → IsBlock BLOCK all (base + k * BLOCK) block

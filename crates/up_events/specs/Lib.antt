@@ -9,5 +9,7 @@ pub mod Records
 pub mod Reached
 pub mod Kept
 pub mod Listing
+pub mod Blocks
 pub mod Left
+pub mod Ascending
 pub mod Ended

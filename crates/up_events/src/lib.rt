@@ -2,6 +2,7 @@
 //! give, and the journal that keeps each lane's log of them.
 #![tactic(auto)]
 
+mod blocks;
 mod changes;
 mod ended;
 mod event;
@@ -11,6 +12,7 @@ mod journal;
 mod law;
 mod limits;
 mod room;
+mod sorted_ids;
 mod tail;
 mod trace;
 mod track;

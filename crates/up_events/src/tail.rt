@@ -1,7 +1,7 @@
 //! What is left of a lane's log.
 ghost use Rattle.std.specs.Prelude.{◌≡◌, ◌+◌, ◌-◌, ◌*◌, ◌≤◌, ◌<◌, length, drop, slice_get, Some, OnOk, OnErr, IfOk, [], ◌∷◌, ◌++◌, vec_capacity};
-ghost use Rattle.up_events.specs.Left.{IsNewBlock};
 
+use crate::blocks::new_block;
 use crate::event::Event;
 use crate::fault::NoMemory;
 use crate::room::make_room_by;
@@ -38,13 +38,6 @@ impl Model for Tail {
     ghost view = { λ t. left t.all.items t.first t.base t.blocks.items };
 
     ghost invariant = { λ t. IsLeft t.all.items t.len t.first t.base t.blocks.items };
-}
-
-/// A block without an event. `NoMemory` where memory was refused.
-fn new_block(alloc: Global) -> Result<Vec<Event>, NoMemory>
-    ensures { IfOk result IsNewBlock }
-{
-    Ok(Vec::with_capacity(alloc, BLOCK as usize)?)
 }
 
 /// Removes so many blocks at the front.
@@ -126,7 +119,7 @@ impl Tail {
         let last = (self.len - self.base + 1) / BLOCK;
         if last >= self.blocks.len() as u64 {
             make_room_by(&mut self.blocks, 1, LEAST_STEP)?;
-            let block = new_block(*self.blocks.allocator())?;
+            let block = new_block(*self.blocks.allocator(), BLOCK)?;
             self.blocks.push_reserved(block);
         }
         Ok(())

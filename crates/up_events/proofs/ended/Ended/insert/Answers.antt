@@ -6,4 +6,4 @@ invariant_of-self-2 c =
     let a = c.self.inside in
     let bucket = c.index_mut.result.now in
     let was = bucket_read a.all.items a.buckets.items c.args.id _ bucket c.self.invariant c.modulo.ensures c.index_mut.ensures.value in
-    rw (c.push.ensures, c.modulo.ensures) (spread_after a.all.items a.buckets.items c.args.id bucket c.put.new.bucket c.self.invariant was c.put.ensures.ascends c.in_ok-put.ensures.ok)
+    rw (c.push.ensures, c.modulo.ensures) (spread_after a.all.items a.buckets.items c.args.id bucket c.insert.new.self c.self.invariant was c.in_ok-insert.ensures.ok)

@@ -1,5 +1,5 @@
 use Rattle.std.proofs.Common.{◌≡◌, true, sym, ◌∙◌, subst}
-use Rattle.up_events.specs.Ended.{has}
+use Rattle.up_events.specs.Ascending.{has}
 use Rattle.up_events.specs.History.{is_known}
 use Rattle.up_events.specs.Records.{Records}
 use Rattle.up_events.proofs.TrackLemmas.{known_there, known_absent}

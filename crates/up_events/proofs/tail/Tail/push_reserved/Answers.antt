@@ -1,5 +1,6 @@
 use Rattle.std.proofs.Common.{◌+◌, ◌-◌, ◌*◌, ◌/◌, arith}
-use Rattle.up_events.proofs.TailLemmas.{block_at, block_length, left_event, view_room}
+use Rattle.up_events.proofs.BlockLemmas.{block_length}
+use Rattle.up_events.proofs.TailLemmas.{block_at, left_event, view_room}
 use Rattle.up_events.proofs.tail.Tail.push_reserved.Goals as goal
 
 pub push_reserved-requires : goal.push_reserved-requires
@@ -9,7 +10,7 @@ push_reserved-requires c =
     let v = view_room a.all.items a.len a.first a.base a.blocks.items c.args.self.now c.self.invariant c.self.view_is c.requires in
     let k = (a.len - a.base) / 1024 in
     let is = c.self.invariant.each k block (block_at (a.len - a.base) a.blocks.items block v.0 c.index_mut.ensures.value) in
-    omega (arith, block.ok, is.room, c.self.invariant.counted, block_length a.all.items (a.base + k * 1024) block is)
+    omega (arith, block.ok, is.room, c.self.invariant.counted, block_length 1024 a.all.items (a.base + k * 1024) block is)
 
 pub invariant_of-self : goal.invariant_of-self
 invariant_of-self c =
