@@ -1,17 +1,18 @@
 -- When there is nothing for a lane.
-use Rattle.std.proofs.Common.{◌≡◌, ℕ, ◌<◌, List, length, get_or, take, Bool, true, false, true≢false, refl, sym, ap, ◌∙◌, subst, arith, append-nil}
+use Rattle.std.proofs.Common.{◌≡◌, ℕ, ◌+◌, ◌-◌, ◌≤◌, ◌<◌, List, length, get_or, take, Bool, true, false, true≢false, refl, sym, ap, ◌∙◌, subst, arith, append-nil}
 use Rattle.std.proofs.Math.Seq.{take-length}
-use Rattle.std.proofs.lemmas.List.{length-map, length-take-le}
+use Rattle.std.proofs.lemmas.List.{length-append, length-map, length-take-le}
 use Rattle.up_events.specs.Records.{lane_log}
 use Rattle.up_events.specs.declared.event.Event.{Event}
 use Rattle.up_machine.specs.State.{State}
 use Rattle.up_queue.specs.declared.item.Item.TheVariants as item
-use Rattle.up_queue.specs.Line.{items_of, items_if}
+use Rattle.up_queue.specs.Line.{end_if, items_of, items_if}
 use Rattle.up_queue.specs.Sides.{QueueId}
 use Rattle.up_dispatch.specs.Fed.{IsFed}
 use Rattle.up_dispatch.specs.declared.feed.Feed.{Feed}
 use Rattle.up_dispatch.specs.Idle.{IsIdle}
-use Rattle.up_dispatch.specs.Standing.{IsLawfulBoard, standing}
+use Rattle.up_dispatch.specs.Puts.{end_at}
+use Rattle.up_dispatch.specs.Standing.{ends_of, IsLawfulBoard, standing}
 use Rattle.up_dispatch.proofs.Moves.{end_is}
 
 -- while changes are accepted no end was put
@@ -54,3 +55,17 @@ cursor_if queue count limit book feeds given total parts amount lane taken feed 
     let fed : IsFed (queue lane) (lane_log book.journal lane) false feed =
     subst (λ b. IsFed (queue lane) (lane_log book.journal lane) b feed) idle.going (subst (IsFed (queue lane) (lane_log book.journal lane) book.closed) (sym is) (lawful.fed lane feed within)) in
     put_whole (queue lane) (lane_log book.journal lane) feed fed (ap (λ e. e.put) (sym (end_is feeds lane feed within is)) ∙ idle.put_all)
+
+-- ---- what a lane has yet to take
+
+-- as many items were put as events at least
+put_covers : (queue : QueueId) (log : List Event) (closed : Bool) (feed : Feed) → IsFed queue log closed feed → feed.cursor ≤ length feed.put_end.put
+put_covers queue log closed feed fed =
+    omega (arith, ap length fed.put_is, length-append (items_of (take feed.cursor log)) (end_if feed.ended), count_of_items (take feed.cursor log), length-take-le feed.cursor log fed.within)
+
+pub waits_for : (queue : ℕ → QueueId) (count limit : ℕ) (book : State) (feeds : List Feed) (given total parts amount : ℕ) (lane result : ℕ) (feed : Feed) → IsLawfulBoard queue count limit book feeds given total parts amount
+    → lane < length feeds → feed ≡ get_or feeds lane feed → length (lane_log book.journal lane) - feed.cursor ≤ result
+    → length (lane_log book.journal lane) ≤ result + length (end_at (ends_of feeds) lane).put
+waits_for queue count limit book feeds given total parts amount lane result feed lawful within is left =
+    let fed : IsFed (queue lane) (lane_log book.journal lane) book.closed feed = subst (IsFed (queue lane) (lane_log book.journal lane) book.closed) (sym is) (lawful.fed lane feed within) in
+    omega (arith, left, put_covers (queue lane) (lane_log book.journal lane) book.closed feed fed, ap (λ e. length e.put) (end_is feeds lane feed within is))

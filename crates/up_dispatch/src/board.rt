@@ -165,8 +165,11 @@ impl<B: Naming> Board<B> {
     }
 
     /// What is counted on the board at one moment. The lock is held for some steps for each lane.
-    pub fn counts<R: Wait>(&self, rt: &R) -> Counts {
+    pub fn counts<R: Wait>(&self, rt: &R) -> Counts
+        ensures lanes { result.lanes ≡ B.lanes }
+    {
         let mut inside = self.inside.lock(rt);
+        inside.is_lawful();
         let mut counts = inside.counts();
         for (lane, waiting) in counts.waiting.iter_mut().enumerate() {
             *waiting = inside.waiting(rt, lane as u64);

@@ -192,6 +192,8 @@ impl<B: Naming> Inside<B> {
     pub fn waiting<R: Wait>(&mut self, rt: &R, lane: u64) -> u64
         ensures same { self.new ≡ self.old }
         ensures within { result ≤ length (lane_log self.old.book.journal lane) }
+        ensures unput { length (lane_log self.old.book.journal lane)
+            ≤ result + length (end_at self.old.ends lane).put }
     {
         let all = self.book.journal().log_len(lane);
         match self.feeds.get_mut(lane as usize) {
