@@ -3,6 +3,7 @@ ghost use Rattle.std.specs.Prelude.{◌≡◌, [], All, IsTrue, length};
 ghost use Rattle.up_hooks.specs.Told.{has_code};
 
 use crate::notice_lines::NoticeLines;
+use std::alloc::{AllocError, Global};
 use std::io::{self, BufReader, BufWriter};
 use std::marker::{Send, Sync};
 use std::net::TcpListener;
@@ -10,11 +11,14 @@ use std::random::RandomSource;
 use std::sync::Wait;
 use std::thread::Threads;
 use std::time::Clock;
-use up_connections::{Drawn, Notices, Visits, Watch};
+use up_connections::{Drawn, Ending, Notices, Visits, Watch};
 use up_events::Event;
 use up_hooks::{Outcome, PostHook, PreHooks, Recorder, Teller, new_recorders, new_tellers};
 use up_server::{EventLines, ServerFault, Words, keep_serving, replay, serve};
 use up_wire::{Output, Sink};
+
+/// The descriptor of standard input.
+const STDIN: i32 = 0;
 
 /// Where connections are counted, if the words ask for lines that say how the server stands.
 fn watch_of(words: &Words) -> Option<Watch> {
@@ -22,21 +26,40 @@ fn watch_of(words: &Words) -> Option<Watch> {
     Some(Watch::each(seconds))
 }
 
-/// How a server that is to run without an end is visited, if these words ask for one.
-fn endless<'a, N>(
+/// What ends the run in order, if the words ask for more than a number of connections.
+fn ending_of(alloc: Global, words: &Words) -> Result<Option<Ending>, AllocError> {
+    match &words.serve {
+        Some(serving) if serving.until_eof => {
+            let ending = Ending::new(alloc, STDIN, serving.grace, serving.open)?;
+            Ok(Some(ending))
+        }
+        _ => Ok(None),
+    }
+}
+
+/// Which connections are served, if the words ask for some.
+fn visits_of<'a, N>(
     words: &Words,
     watch: Option<&'a Watch>,
+    ending: Option<&'a Ending>,
     notices: &'a N,
 ) -> Option<Visits<'a, N>> {
+    let serving = words.serve.as_ref()?;
+    Some(Visits {
+        connections: serving.connections,
+        open: serving.open,
+        patience: serving.patience,
+        watch,
+        ending,
+        notices,
+    })
+}
+
+/// Whether nothing is kept of the events that went by: the run has no end of its own, or they are written as they go.
+fn is_counted(words: &Words) -> bool {
     match &words.serve {
-        Some(serving) if serving.connections.is_none() => Some(Visits {
-            connections: None,
-            open: serving.open,
-            patience: serving.patience,
-            watch,
-            notices,
-        }),
-        _ => None,
+        Some(serving) => serving.connections.is_none() || serving.events,
+        None => false,
     }
 }
 
@@ -64,31 +87,27 @@ pub fn run_with<
     let lanes = words.settings.lanes;
     let notices = NoticeLines::new(rt);
     let watch = watch_of(words);
-    match (endless(words, watch.as_ref(), &notices), listener) {
-        (Some(visits), Some(listener)) => match new_tellers(rt.alloc(), lanes, answer) {
-            Ok(tellers) => run_on(rt, words, &visits, listener, hooks, tellers),
-            Err(_) => Ok(Err(ServerFault::Memory)),
-        },
-        (_, listener) => match new_recorders(rt.alloc(), lanes, answer) {
-            Ok(recorders) => run_over(
-                rt,
-                words,
-                watch.as_ref(),
-                &notices,
-                listener,
-                hooks,
-                recorders,
-            ),
+    let ending = ending_of(rt.alloc(), words)?;
+    let visits = visits_of(words, watch.as_ref(), ending.as_ref(), &notices);
+    match (visits, listener) {
+        (Some(visits), Some(listener)) if is_counted(words) => {
+            match new_tellers(rt.alloc(), lanes, answer) {
+                Ok(tellers) => run_on(rt, words, &visits, listener, hooks, tellers),
+                Err(_) => Ok(Err(ServerFault::Memory)),
+            }
+        }
+        (visits, listener) => match new_recorders(rt.alloc(), lanes, answer) {
+            Ok(recorders) => run_over(rt, words, visits, listener, hooks, recorders),
             Err(_) => Ok(Err(ServerFault::Memory)),
         },
     }
 }
 
-/// Serves what the listener accepts, with these closures and post-hooks, and keeps nothing of what went by.
+/// Serves what the listener accepts, with these closures and post-hooks, keeps nothing of what went by, and reports its counts.
 fn run_on<
     F: Fn(&Event) -> Outcome + Send + Drop,
     N: Notices,
-    R: Eprint + AllocGlobal + RandomSource + Threads + Wait + Sync,
+    R: Print + Eprint + AllocGlobal + RandomSource + Threads + Wait + Sync,
 >(
     rt: &R,
     words: &Words,
@@ -100,6 +119,7 @@ fn run_on<
     requires one_for_each { length tellers.items ≡ words.now.settings.lanes }
     requires new { All (λ t. ⟦<Teller<F> as PostHook>⟧.is_sound t × (⟦<Teller<F> as PostHook>⟧.handed t ≡ [])) tellers.items }
 {
+    let mut sink = Output::new(BufWriter::new(rt.alloc(), io::writer(rt))?);
     let ids = Drawn::new(rt)?;
     Ok(keep_serving(
         rt,
@@ -110,6 +130,7 @@ fn run_on<
         listener,
         visits,
         ids,
+        &mut sink,
     ))
 }
 
@@ -121,8 +142,7 @@ fn run_over<
 >(
     rt: &R,
     words: &Words,
-    watch: Option<&Watch>,
-    notices: &N,
+    visits: Option<Visits<'_, N>>,
     listener: Option<TcpListener>,
     hooks: PreHooks,
     recorders: Vec<Recorder<F>>,
@@ -133,7 +153,7 @@ fn run_over<
     let alloc = rt.alloc();
     let settings = &words.settings;
     let mut sink = Output::new(BufWriter::new(alloc, io::writer(rt))?);
-    let (Some(listener), Some(serving)) = (listener, &words.serve) else {
+    let (Some(listener), Some(visits)) = (listener, visits) else {
         let mut source = up_wire::Input::new(BufReader::new(alloc, rt.reader())?);
         return Ok(replay(
             rt,
@@ -144,13 +164,6 @@ fn run_over<
             &mut source,
             &mut sink,
         ));
-    };
-    let visits = Visits {
-        connections: serving.connections,
-        open: serving.open,
-        patience: serving.patience,
-        watch,
-        notices,
     };
     let ids = Drawn::new(rt)?;
     Ok(serve(

@@ -1,5 +1,8 @@
 //! Many connections at a time, each in a thread that serves it alone.
+ghost use Rattle.std.specs.Prelude.{◌≤◌, IfSome};
+
 use crate::door::Door;
+use crate::ending::{Ending, NOTHING};
 use crate::gate::{Failed, Gate};
 use crate::hall::Hall;
 use crate::notices::{Entrance, Notices, Want};
@@ -31,6 +34,8 @@ pub struct Visits<'a, N> {
     pub patience: Patience,
     /// Where those that are open are counted, if anybody watches.
     pub watch: Option<&'a Watch>,
+    /// What ends the run in order, if anything but the number of connections does.
+    pub ending: Option<&'a Ending>,
     /// Who is told where none can be let in.
     pub notices: &'a N,
 }
@@ -77,9 +82,46 @@ fn let_in<'s, E, B: Naming + Send + Sync + 's, I: Ids + Send + 's, T: Wait + Syn
     }
 }
 
+/// Waits until fewer than `most` connections are open, and opens one. Tells how many are open then. None if the run ends first.
+fn enter<B: Naming, I, T: Wait>(rt: &T, hall: &Hall<'_, B, I>, most: u64) -> Option<u64>
+    ensures { IfSome result (λ count. 1 ≤ count) }
+{
+    let Some(ending) = hall.ending else {
+        return Some(hall.door.enter(rt, most));
+    };
+    for _ in rt.forever() {
+        if !ending.goes_on(rt, hall.board) {
+            return None;
+        }
+        if let Some(told) = hall.door.try_enter(rt, most) {
+            return Some(told);
+        }
+        hall.door.pause(rt, most);
+        ending.look();
+    }
+    unreachable!()
+}
+
+/// Waits until each connection has ended. If the run ends first, nothing more is read of any.
+fn see_out<B: Naming, I, T: Wait>(rt: &T, hall: &Hall<'_, B, I>) {
+    let Some(ending) = hall.ending else {
+        return;
+    };
+    for _ in rt.forever() {
+        if hall.door.is_empty(rt) {
+            break;
+        }
+        if !ending.goes_on(rt, hall.board) {
+            ending.shut(rt);
+            break;
+        }
+        ending.wait(NOTHING);
+    }
+}
+
 /// Accepts so many connections, and lets each in. An accept that fails, and a connection for which no thread can be started, count as a
 /// connection that has ended. Where something is wanting, the next waits until another has ended, or a while. None is accepted any more
-/// where the listener is gone.
+/// where the listener is gone, or the run ends.
 fn accept_all<
     's,
     E,
@@ -96,16 +138,24 @@ fn accept_all<
     listener: &TcpListener,
     visits: &Visits<'_, N>,
 ) {
-    let mut gate = Gate::new(listener, visits.notices);
+    let mut gate = Gate::new(listener, visits.notices, hall.ending.is_some());
     for _ in 0..visits.connections.unwrap_or(u64::MAX) {
-        let told = hall.door.enter(rt, visits.open);
-        let came = match gate.accept(rt, &hall.door) {
+        let Some(told) = enter(rt, hall, visits.open) else {
+            gate.shut();
+            break;
+        };
+        let came = match gate.accept(rt, hall) {
             Ok(stream) => let_in(scope, rt, alloc, hall, hooks, stream),
             Err(failed) => Err(failed),
         };
         match came {
             Ok(()) => gate.open(),
             Err(Failed::Passing) => hall.door.leave(rt),
+            Err(Failed::Over) => {
+                gate.shut();
+                hall.door.leave(rt);
+                break;
+            }
             Err(Failed::Lasting(entrance)) => {
                 let is_told = gate.tell(entrance);
                 hall.door.leave_in_want(rt, told);
@@ -117,6 +167,7 @@ fn accept_all<
     }
     gate.leave();
     hall.pool.close(rt);
+    see_out(rt, hall);
 }
 
 /// Accepts so many connections in a scope, and returns when the last of them has ended.
@@ -158,6 +209,7 @@ pub fn serve_connections<
         pool: Pool::new(alloc)?,
         patience: visits.patience,
         watch: visits.watch,
+        ending: visits.ending,
         ids: Mutex::new(ids),
         seats: Seats::new(alloc, visits.open)?,
     };

@@ -1,5 +1,5 @@
 //! How many connections are open.
-ghost use Rattle.std.specs.Prelude.{◌≤◌};
+ghost use Rattle.std.specs.Prelude.{◌≤◌, IfSome};
 
 use std::sync::atomic::{AtomicU64, Ordering};
 use std::sync::{Condvar, Mutex, Wait};
@@ -37,6 +37,23 @@ impl Door {
             .wait_while(rt, self.open.lock(rt), |open| *open >= most);
         *open += 1;
         *open
+    }
+
+    /// Opens one, if fewer than `most` are open. Tells how many are open then.
+    pub fn try_enter<R: Wait>(&self, rt: &R, most: u64) -> Option<u64>
+        ensures { IfSome result (λ count. (1 ≤ count) × (count ≤ most)) }
+    {
+        let mut open = self.open.lock(rt);
+        if *open >= most {
+            return None;
+        }
+        *open += 1;
+        Some(*open)
+    }
+
+    /// Whether none is open.
+    pub fn is_empty<R: Wait>(&self, rt: &R) -> bool {
+        *self.open.lock(rt) == 0
     }
 
     /// Ends one.

@@ -1,9 +1,11 @@
 //! The listener, and what comes of its accepts.
-use crate::door::Door;
+use crate::hall::Hall;
 use crate::notices::{Entrance, Notices, Want};
 use std::io;
 use std::net::{TcpListener, TcpStream};
+use std::os::fd::AsRawFd;
 use std::sync::Wait;
+use up_dispatch::Naming;
 
 /// The system's code where all systems' descriptors are used up (Linux, `errno`).
 const ENFILE: i32 = 23;
@@ -25,6 +27,8 @@ pub enum Failed {
     Passing,
     /// The next fails too, for as long as it stands so.
     Lasting(Entrance),
+    /// The run ends, and no other is let in.
+    Over,
 }
 
 /// Why an accept failed by which somebody was to be let in.
@@ -48,15 +52,21 @@ pub struct Gate<'a, N> {
     notices: &'a N,
     /// Whether something is left to be told. The listener doesn't block then, so that it can be told though nobody comes.
     is_unsettled: bool,
+    /// Whether something else is waited for too. The listener never blocks then.
+    is_shared: bool,
 }
 
 impl<'a, N: Notices> Gate<'a, N> {
     /// Nothing is left to be told.
-    pub fn new(listener: &'a TcpListener, notices: &'a N) -> Gate<'a, N> {
+    pub fn new(listener: &'a TcpListener, notices: &'a N, is_shared: bool) -> Gate<'a, N> {
+        if is_shared {
+            let _ = listener.set_nonblocking(true);
+        }
         Gate {
             listener,
             notices,
             is_unsettled: false,
+            is_shared,
         }
     }
 
@@ -65,7 +75,9 @@ impl<'a, N: Notices> Gate<'a, N> {
         let is_settled = self.notices.tell(entrance);
         if is_settled == self.is_unsettled {
             self.is_unsettled = !is_settled;
-            let _ = self.listener.set_nonblocking(self.is_unsettled);
+            let _ = self
+                .listener
+                .set_nonblocking(self.is_unsettled || self.is_shared);
         }
         is_settled
     }
@@ -77,14 +89,26 @@ impl<'a, N: Notices> Gate<'a, N> {
         }
     }
 
-    /// Waits for the next connection.
-    pub fn accept<R: Wait>(&mut self, rt: &R, door: &Door) -> Result<TcpStream, Failed> {
+    /// Waits for the next connection, as long as the run goes on.
+    pub fn accept<B: Naming, I, R: Wait>(
+        &mut self,
+        rt: &R,
+        hall: &Hall<'_, B, I>,
+    ) -> Result<TcpStream, Failed> {
         for _ in rt.forever() {
+            if let Some(ending) = hall.ending {
+                ending.wait(self.listener.as_raw_fd());
+                if !ending.goes_on(rt, hall.board) {
+                    return Err(Failed::Over);
+                }
+            }
             match self.listener.accept() {
                 Ok((stream, _)) => return Ok(stream),
                 Err(error) if error.kind() == io::ErrorKind::WouldBlock => {
                     self.open();
-                    door.pause(rt, 0);
+                    if !self.is_shared {
+                        hall.door.pause(rt, 0);
+                    }
                 }
                 Err(error) => return Err(why(&error)),
             }
@@ -92,9 +116,14 @@ impl<'a, N: Notices> Gate<'a, N> {
         unreachable!()
     }
 
+    /// Has the system refuse those that come, and those that wait to be let in.
+    pub fn shut(&self) {
+        let _ = libc::net::shutdown(self.listener.as_raw_fd(), libc::net::SHUT_RD);
+    }
+
     /// Leaves the listener as it was.
     pub fn leave(&mut self) {
-        if self.is_unsettled {
+        if self.is_unsettled || self.is_shared {
             let _ = self.listener.set_nonblocking(false);
         }
     }

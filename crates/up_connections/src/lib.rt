@@ -5,6 +5,7 @@
 mod accept;
 mod door;
 mod drawn;
+mod ending;
 mod gate;
 mod hall;
 mod notices;
@@ -18,6 +19,7 @@ mod watch;
 pub use accept::{Visits, serve_connections};
 pub use door::Door;
 pub use drawn::Drawn;
+pub use ending::Ending;
 pub use notices::{Entrance, Notices, Silent, Want};
 pub use patience::{Patience, milliseconds};
 pub use said::{Due, Said};

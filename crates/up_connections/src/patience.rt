@@ -1,6 +1,7 @@
 //! How long a connection waits for its client.
 ghost use Rattle.std.specs.Prelude.{◌↔◌, ◌*◌, ◌<◌, IsTrue};
 
+use crate::ending::Ending;
 use std::cell::Cell;
 use std::io::{self, ErrorKind, Read, Write};
 use std::net::TcpStream;
@@ -118,15 +119,21 @@ impl Pace {
     }
 }
 
-/// What a connection's client sends. A read fails where the request comes too slowly.
+/// What a connection's client sends. A read fails where the request comes too slowly, and finds the end where the run is over.
 #[derive(Drop)]
 pub(crate) struct Reading<'a> {
     pub stream: &'a TcpStream,
     pub pace: &'a Pace,
+    pub ending: Option<&'a Ending>,
 }
 
 impl Read for Reading<'_> {
     fn read(&mut self, buf: &mut [u8]) -> io::Result<usize> {
+        if let Some(ending) = self.ending
+            && ending.is_over()
+        {
+            return Ok(0);
+        }
         if self.pace.is_too_slow() {
             return Err(io::Error::from(ErrorKind::TimedOut));
         }

@@ -66,7 +66,11 @@ fn talk<B: Naming, I: Ids, T: Wait>(
     stream.set_nodelay(true)?;
     hall.patience.set_on(stream)?;
     let pace = &Pace::new(hall.patience);
-    let reading = Reading { stream, pace };
+    let reading = Reading {
+        stream,
+        pace,
+        ending: hall.ending,
+    };
     let writing = Writing { stream, pace };
     let mut source = Input::new(BufReader::with_capacity(alloc, READ_BUFFER, reading)?);
     let mut sink = Output::new(BufWriter::with_capacity(alloc, WRITE_BUFFER, writing)?);
@@ -115,7 +119,9 @@ pub fn attend<B: Naming, I: Ids, T: Wait>(
     stream: TcpStream,
 ) {
     if let Some(mut seat) = hall.seats.take(rt, hall.board) {
+        hall.begin_reading(rt, &stream);
         let ended = talk(rt, alloc, hall, hooks, &mut seat, &stream);
+        hall.end_reading(rt, &stream);
         hall.seats.put_back(rt, seat);
         if matches!(ended, Ok(Ended::Closed)) {
             let _ = close(&stream);

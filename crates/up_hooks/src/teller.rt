@@ -1,15 +1,18 @@
 //! A post-hook that keeps nothing.
-ghost use Rattle.std.specs.Prelude.{◌≡◌, [], true};
+ghost use Rattle.std.specs.Prelude.{◌≡◌, ◌-◌, ◌^◌, [], length, min, true};
 
 use crate::post_hook::{Outcome, PostHook};
 use up_events::{Event, NoMemory, Trace};
 
-/// A post-hook that calls a closure on each event that it is handed, and keeps nothing. The list of what it was handed exists in proofs
+/// A post-hook that calls a closure on each event that it is handed, and counts them. The list of what it was handed exists in proofs
 /// alone, so it needs no memory however many events come.
 #[derive(Drop)]
 pub struct Teller<F> {
     answer: F,
     told: Trace<Event>,
+    /// How many events it was handed, up to 2^64 - 1.
+    count: u64,
+    ghost counted: { count ≡ min (length told.items) (2 ^ 64 - 1) },
 }
 
 impl<F: Fn(&Event) -> Outcome + Send> PostHook for Teller<F> {
@@ -31,6 +34,7 @@ impl<F: Fn(&Event) -> Outcome + Send> PostHook for Teller<F> {
     fn hand(&mut self, event: &Event) -> Outcome {
         let outcome = (self.answer)(event);
         self.told.push(event);
+        self.count = self.count.saturating_add(1);
         outcome
     }
 }
@@ -48,6 +52,16 @@ impl<F: Fn(&Event) -> Outcome + Send> Teller<F> {
         Teller {
             answer,
             told: Trace::new(),
+            count: 0,
         }
+    }
+}
+
+impl<F> Teller<F> {
+    /// How many events it was handed, up to 2^64 - 1.
+    pub fn count(&self) -> u64
+        ensures { result ≡ min (length self.now.told.items) (2 ^ 64 - 1) }
+    {
+        self.count
     }
 }

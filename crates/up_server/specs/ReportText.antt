@@ -1,5 +1,5 @@
 -- The report of a run, as text.
-use Rattle.std.specs.Prelude.{ℕ, ◌+◌, List, [], ◌∷◌, ◌++◌, length, flat_map, codes, decimal, Option, Some, None}
+use Rattle.std.specs.Prelude.{ℕ, ◌+◌, ◌-◌, ◌^◌, min, List, [], ◌∷◌, ◌++◌, length, flat_map, codes, decimal, Option, Some, None}
 use Rattle.std.specs.List.{concat}
 use Rattle.up_events.specs.IdText.{text_of}
 use Rattle.up_events.specs.Names.{name_of}
@@ -38,22 +38,38 @@ how_of Drained = codes " drained "
 how_of Stopped = codes " stopped "
 
 -- a lane: its number, how it ended, and how many events it handed over
-abbrev pub lane_line : {F : Type 0} → ℕ → LaneReport (Recorder F) → List ℕ
-lane_line number lane = concat (codes "lane " ∷ decimal number ∷ how_of lane.how ∷ decimal (length (told_by lane.hook)) ∷ codes "\n" ∷ [])
+abbrev pub lane_line : ℕ → How → ℕ → List ℕ
+lane_line number how count = concat (codes "lane " ∷ decimal number ∷ how_of how ∷ decimal count ∷ codes "\n" ∷ [])
 
--- that line, and the events
-abbrev pub lane_text : {F : Type 0} → ℕ → LaneReport (Recorder F) → List ℕ
-lane_text number lane = lane_line number lane ++ flat_map event_line (told_by lane.hook)
+-- the events that a recorder keeps
+abbrev pub events_text : {F : Type 0} → Recorder F → List ℕ
+events_text hook = flat_map event_line (told_by hook)
+
+-- how many events a recorder keeps
+abbrev pub count_kept : {F : Type 0} → Recorder F → ℕ
+count_kept hook = length (told_by hook)
+
+-- that line, and what is told of its post-hook
+abbrev pub lane_text : {H : Type 0} → (H → ℕ) → (H → List ℕ) → ℕ → LaneReport H → List ℕ
+lane_text count text number lane = lane_line number lane.how (count lane.hook) ++ text lane.hook
 
 -- the lanes, numbered from this on
-abbrev pub lanes_text : {F : Type 0} → ℕ → List (LaneReport (Recorder F)) → List ℕ
-lanes_text number [] = []
-lanes_text number (lane ∷ lanes) = lane_text number lane ++ lanes_text (number + 1) lanes
+abbrev pub lanes_text : {H : Type 0} → (H → ℕ) → (H → List ℕ) → ℕ → List (LaneReport H) → List ℕ
+lanes_text count text number [] = []
+lanes_text count text number (lane ∷ lanes) = lane_text count text number lane ++ lanes_text count text (number + 1) lanes
 
 -- an empty line, and the number of accepted changes
 abbrev pub count_line : ℕ → List ℕ
 count_line count = concat (codes "\naccepted " ∷ decimal count ∷ codes "\n" ∷ [])
 
--- that number, and the lanes
+-- that number, and the lanes, each with what is told of its post-hook
+abbrev pub report_by : {H : Type 0} → (H → ℕ) → (H → List ℕ) → Report H → List ℕ
+report_by count text report = count_line (length report.accepted.items) ++ lanes_text count text 0 report.lanes.items
+
+-- the report of a run that kept its events
 abbrev pub report_text : {F : Type 0} → Report (Recorder F) → List ℕ
-report_text report = count_line (length report.accepted.items) ++ lanes_text 0 report.lanes.items
+report_text report = report_by count_kept events_text report
+
+-- the report of a run that counted them
+abbrev pub counts_text : {H : Type 0} → (H → List Event) → Report H → List ℕ
+counts_text handed report = report_by (λ hook. min (length (handed hook)) (2 ^ 64 - 1)) (λ hook. []) report

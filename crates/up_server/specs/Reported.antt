@@ -33,28 +33,23 @@ is_stopped Stopped = true
 abbrev pub any_stopped : {H : Type 0} → List (LaneReport H) → Bool
 any_stopped lanes = list_any (λ lane. is_stopped lane.how) lanes
 
--- the report was written, and sent on
-abbrev pub IsWritten : {F : Type 0} → Report (Recorder F) → Device → Device → Type 0
-IsWritten report before after = Appends before.bytes after.bytes (report_text report)
+-- the text was written, and sent on
+abbrev pub IsWritten : List ℕ → Device → Device → Type 0
+IsWritten text before after = Appends before.bytes after.bytes text
 
 -- a front of it was written, and then the sink failed, or was interrupted too often
-abbrev pub IsBrokenOff : {F : Type 0} → Report (Recorder F) → Device → Device → Type 0
-IsBrokenOff report before after = WritesFront before.bytes after.bytes (report_text report) × GaveUp after after.interruptions
+abbrev pub IsBrokenOff : List ℕ → Device → Device → Type 0
+IsBrokenOff text before after = WritesFront before.bytes after.bytes text × GaveUp after after.interruptions
 
--- the report, and what went wrong
+-- the report, and whether a lane stopped
+abbrev pub IsToldAs : List ℕ → Bool → Device → Device → {X : Type 0} → Result X ServerFault → Type 0
+IsToldAs text stopped before after (Ok done) = IsWritten text before after × (stopped ≡ false)
+IsToldAs text stopped before after (Err Fault.Memory) = ⊥
+IsToldAs text stopped before after (Err Fault.Listen) = ⊥
+IsToldAs text stopped before after (Err Fault.Write) = IsBrokenOff text before after
+IsToldAs text stopped before after (Err Fault.Read) = ⊥
+IsToldAs text stopped before after (Err Fault.Stopped) = IsWritten text before after × (stopped ≡ true)
+
+-- the report with its events, and what went wrong
 abbrev pub IsTold : {F : Type 0} → Report (Recorder F) → Device → Device → {X : Type 0} → Result X ServerFault → Type 0
-IsTold report before after (Ok done) = IsWritten report before after × (any_stopped report.lanes.items ≡ false)
-IsTold report before after (Err Fault.Memory) = ⊥
-IsTold report before after (Err Fault.Listen) = ⊥
-IsTold report before after (Err Fault.Write) = IsBrokenOff report before after
-IsTold report before after (Err Fault.Read) = ⊥
-IsTold report before after (Err Fault.Stopped) = IsWritten report before after × (any_stopped report.lanes.items ≡ true)
-
--- no report is told, and whether a lane stopped is
-abbrev pub HasEnded : {H X : Type 0} → Report H → Result X ServerFault → Type 0
-HasEnded report (Ok done) = any_stopped report.lanes.items ≡ false
-HasEnded report (Err Fault.Memory) = ⊥
-HasEnded report (Err Fault.Listen) = ⊥
-HasEnded report (Err Fault.Write) = ⊥
-HasEnded report (Err Fault.Read) = ⊥
-HasEnded report (Err Fault.Stopped) = any_stopped report.lanes.items ≡ true
+IsTold report before after result = IsToldAs (report_text report) (any_stopped report.lanes.items) before after result

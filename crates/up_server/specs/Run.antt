@@ -7,6 +7,7 @@ use Rattle.up_events.specs.declared.event.Event.{Event}
 use Rattle.up_hooks.specs.declared.recorder.Recorder.{Recorder}
 use Rattle.up_queue.specs.Sides.{QueueId}
 use Rattle.up_server.specs.Reported.{IsBrokenOff, IsReportOf, IsWritten, any_stopped}
+use Rattle.up_server.specs.ReportText.{report_text}
 use Rattle.up_server.specs.Seats.{IsServedFrom}
 use Rattle.up_server.specs.declared.running.Served.{Served}
 use Rattle.up_server.specs.declared.server_fault.ServerFault.{ServerFault}
@@ -27,10 +28,10 @@ HasEndedWell ended = (ended ≡ Closed) ⊎ (ended ≡ Cut)
 -- the report behind the replies, and what went wrong; none where the replies couldn't be written
 abbrev pub IsReported : {F : Type 0} → Served (Recorder F) → Device → Device → {X : Type 0} → Result X ServerFault → Type 0
 IsReported served before after (Ok done) =
-    HasEndedWell served.ended × IsWritten served.report before after × (any_stopped served.report.lanes.items ≡ false)
+    HasEndedWell served.ended × IsWritten (report_text served.report) before after × (any_stopped served.report.lanes.items ≡ false)
 IsReported served before after (Err Fault.Memory) = ⊥
 IsReported served before after (Err Fault.Listen) = ⊥
-IsReported served before after (Err Fault.Write) = ((served.ended ≡ WriteFailed) × (after ≡ before)) ⊎ IsBrokenOff served.report before after
-IsReported served before after (Err Fault.Read) = (served.ended ≡ ReadFailed) × IsWritten served.report before after
+IsReported served before after (Err Fault.Write) = ((served.ended ≡ WriteFailed) × (after ≡ before)) ⊎ IsBrokenOff (report_text served.report) before after
+IsReported served before after (Err Fault.Read) = (served.ended ≡ ReadFailed) × IsWritten (report_text served.report) before after
 IsReported served before after (Err Fault.Stopped) =
-    HasEndedWell served.ended × IsWritten served.report before after × (any_stopped served.report.lanes.items ≡ true)
+    HasEndedWell served.ended × IsWritten (report_text served.report) before after × (any_stopped served.report.lanes.items ≡ true)

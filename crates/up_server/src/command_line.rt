@@ -3,8 +3,8 @@ ghost use Rattle.std.specs.Prelude.{◌≡◌, ◌≤◌, IfOk, IfSome, option_m
 ghost use Rattle.clap.specs.Words.{first_value, found_of};
 
 use crate::settings::{
-    MOST_CAPACITY, MOST_CONNECTIONS, MOST_OPEN, MOST_PATIENCE, MOST_STATUS, Serving, Settings,
-    Words,
+    MOST_CAPACITY, MOST_CONNECTIONS, MOST_GRACE, MOST_OPEN, MOST_PATIENCE, MOST_STATUS, Serving,
+    Settings, Words,
 };
 use clap::builder::ValueParser;
 use clap::error::ErrorKind;
@@ -109,7 +109,7 @@ const COMMON: [Word<'static>; 7] = [
 ];
 
 /// The words that say which connections are served, and what is told meanwhile.
-const CONNECTIONS: [Word<'static>; 7] = [
+const CONNECTIONS: [Word<'static>; 9] = [
     Word {
         name: "address",
         kind: Kind::Text("HOST:PORT"),
@@ -151,6 +151,18 @@ const CONNECTIONS: [Word<'static>; 7] = [
         kind: Kind::Nothing,
         default: None,
         help: "Write each event to standard output as a line, as it is handed over",
+    },
+    Word {
+        name: "until-eof",
+        kind: Kind::Nothing,
+        default: None,
+        help: "End in order and report once standard input has ended",
+    },
+    Word {
+        name: "grace",
+        kind: Kind::Number(1, MOST_GRACE),
+        default: Some("10"),
+        help: "How many seconds the events that are left have then, from 1 to 86400",
     },
 ];
 
@@ -248,6 +260,8 @@ fn serving_of(alloc: Global, serve: &ArgMatches<'_>) -> Result<Serving, AllocErr
         },
         status: number_of(serve, "status", MOST_STATUS),
         events: serve.get_flag("events"),
+        until_eof: serve.get_flag("until-eof"),
+        grace: value_of(serve, "grace", MOST_GRACE),
     })
 }
 

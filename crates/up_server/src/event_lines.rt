@@ -7,6 +7,7 @@ ghost use Rattle.up_wire.specs.Device.{GaveUp};
 ghost use Rattle.up_server.specs.ReportText.{event_line};
 
 use crate::report::write_told;
+use std::sync::atomic::{AtomicBool, Ordering};
 use std::sync::{Mutex, Wait};
 use up_events::Event;
 use up_hooks::Outcome;
@@ -28,6 +29,8 @@ fn write_line<W: Sink>(sink: &mut W, event: &Event) -> Outcome
 #[derive(Drop)]
 pub struct EventLines<W> {
     sink: Mutex<W>,
+    /// Whether standard error was told that a line could not be written.
+    is_told: AtomicBool,
 }
 
 impl<W: Sink> EventLines<W> {
@@ -35,14 +38,19 @@ impl<W: Sink> EventLines<W> {
     pub fn new(sink: W) -> Self {
         EventLines {
             sink: Mutex::new(sink),
+            is_told: AtomicBool::new(false),
         }
     }
 
     /// Writes the event as a line in the form of the report, and has the sink send it on, before any other is written. `Failed` with the
-    /// code 1 where that failed.
-    pub fn tell<R: Wait>(&self, rt: &R, event: &Event) -> Outcome
+    /// code 1 if that failed, of which standard error is told once.
+    pub fn tell<R: Eprint + Wait>(&self, rt: &R, event: &Event) -> Outcome
         ensures { IsTrue (has_code result) }
     {
-        write_line(&mut *self.sink.lock(rt), event)
+        let outcome = write_line(&mut *self.sink.lock(rt), event);
+        if outcome != Outcome::Done && !self.is_told.swap(true, Ordering::SeqCst) {
+            let _ = eprintln!(rt; "up_server: events can't be written: whoever reads them is gone");
+        }
+        outcome
     }
 }

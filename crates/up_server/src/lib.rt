@@ -15,6 +15,7 @@ mod running;
 mod server_fault;
 mod serving;
 mod settings;
+mod shown;
 mod status;
 mod telling;
 
@@ -25,3 +26,4 @@ pub use rules::{at_most, finishes_at_most, keeps, needs_key, refuse};
 pub use server_fault::ServerFault;
 pub use serving::replay;
 pub use settings::{Serving, Settings, Words, limits_are_exact};
+pub use shown::Shown;

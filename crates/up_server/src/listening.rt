@@ -5,7 +5,8 @@ ghost use Rattle.up_dispatch.specs.Parts.{IsNamed};
 ghost use Rattle.up_dispatch.specs.declared.finish.Report.{Report};
 ghost use Rattle.up_hooks.specs.declared.recorder.Recorder.{Recorder};
 ghost use Rattle.up_hooks.specs.declared.teller.Teller.{Teller};
-ghost use Rattle.up_server.specs.Reported.{HasEnded, IsReportOf, IsTold};
+ghost use Rattle.up_server.specs.ReportText.{counts_text};
+ghost use Rattle.up_server.specs.Reported.{IsReportOf, IsTold, IsToldAs, any_stopped};
 
 use crate::boards;
 use crate::lanes::{end_all, start_all};
@@ -13,7 +14,7 @@ use crate::runner::{OnStderr, Runner};
 use crate::server_fault::ServerFault;
 use crate::settings::Settings;
 use crate::status::{say, start_saying};
-use crate::telling::{tell_end, tell_report};
+use crate::telling::tell_report;
 use std::alloc::{AllocError, Global};
 use std::marker::{Brand, Send, Sync};
 use std::net::TcpListener;
@@ -199,12 +200,13 @@ pub fn serve<
     }
 }
 
-/// The same, with tellers and with no report: nothing is kept of the changes and events that went by, so it may run without an end. What it
-/// holds are the uploads that are there, a few words for each id that was ever given, and the events that wait for their lane.
+/// The same, with tellers and with a report of counts alone: nothing is kept of the changes and events that went by, so it may run without an
+/// end. What it holds are the uploads that are there, a few words for each id that was ever given, and the events that wait for their lane.
 pub fn keep_serving<
     F: Fn(&Event) -> Outcome + Send + Drop,
     I: Ids + Send + Drop,
     N: Notices,
+    W: Sink,
     T: Threads + Wait + Eprint + Sync,
 >(
     rt: &T,
@@ -215,16 +217,17 @@ pub fn keep_serving<
     listener: TcpListener,
     visits: &Visits<'_, N>,
     ids: I,
+    sink: &mut W,
 ) -> Result<(), ServerFault>
     requires one_for_each { length tellers.items ≡ settings.now.lanes }
     requires new { All (λ t. ⟦<Teller<F> as PostHook>⟧.is_sound t × (⟦<Teller<F> as PostHook>⟧.handed t ≡ [])) tellers.items }
     ensures { (result ≡ Err ServerFault.Memory) ⊎ ((report : Report (Teller F))
         × IsReportOf ⟦<Teller<F> as PostHook>⟧.handed settings.now.lanes report
         × All (λ lane. ⟦<Teller<F> as PostHook>⟧.is_sound lane.hook) report.lanes.items
-        × HasEnded report result) }
+        × IsToldAs (counts_text ⟦<Teller<F> as PostHook>⟧.handed report) (any_stopped report.lanes.items) (W.device sink.old) (W.device sink.new) result) }
 {
     match serve_with(rt, alloc, hooks, tellers, settings, listener, visits, ids) {
-        Ok(report) => tell_end(&report),
+        Ok(counts) => tell_report(sink, &counts),
         Err(_) => Err(ServerFault::Memory),
     }
 }

@@ -2,24 +2,22 @@
 ghost use Rattle.std.specs.Prelude.{◌≡◌, flat_map, OnErr};
 ghost use Rattle.up_wire.specs.Device.{GaveUp};
 ghost use Rattle.up_wire.specs.Response.{Writes};
-ghost use Rattle.up_server.specs.ReportText.{count_line, event_line, event_text, lane_line, lane_text, lanes_text, report_text, how_of, length_text, outcome_of};
+ghost use Rattle.up_server.specs.ReportText.{count_line, event_line, event_text, lane_line, lane_text, lanes_text, report_by, how_of, length_text, outcome_of};
 
+use crate::shown::Shown;
 use itoa::Buffer;
 use up_dispatch::{LaneReport, Report};
 use up_events::Event;
-use up_hooks::{Outcome, Recorder};
+use up_hooks::Outcome;
 use up_lanes::How;
 use up_wire::{Sink, WriteFailed, flush, write_pieces};
 
 /// Writes the report, and has the sink send it on: an empty line, `accepted` and the number of accepted changes, then for
-/// each lane a line with its number, how it ended and how many events it handed over, and these events, a line each. An
-/// error comes where a write or the flush gave up on the sink.
-pub fn write_report<F, W: Sink>(
-    sink: &mut W,
-    report: &Report<Recorder<F>>,
-) -> Result<(), WriteFailed>
+/// each lane a line with its number, how it ended and how many events it handed over, and what is told of its post-hook. An
+/// error comes if a write or the flush gave up on the sink.
+pub fn write_report<H: Shown, W: Sink>(sink: &mut W, report: &Report<H>) -> Result<(), WriteFailed>
     ensures written { Writes (W.device sink.old).bytes (W.device sink.new).bytes
-        (report_text report.now) result }
+        (report_by H.count H.text report.now) result }
     ensures failed { OnErr result (GaveUp (W.device sink.new) (W.device sink.new).interruptions) }
 {
     write_count(sink, report.accepted.len())?;
@@ -39,12 +37,9 @@ fn write_count<W: Sink>(sink: &mut W, count: u64) -> Result<(), WriteFailed>
 }
 
 /// Writes the lanes, with their numbers from 0 on.
-fn write_lanes<F, W: Sink>(
-    sink: &mut W,
-    lanes: &[LaneReport<Recorder<F>>],
-) -> Result<(), WriteFailed>
+fn write_lanes<H: Shown, W: Sink>(sink: &mut W, lanes: &[LaneReport<H>]) -> Result<(), WriteFailed>
     ensures written { Writes (W.device sink.old).bytes (W.device sink.new).bytes
-        (lanes_text 0 lanes.now) result }
+        (lanes_text H.count H.text 0 lanes.now) result }
     ensures failed { OnErr result (GaveUp (W.device sink.new) (W.device sink.new).interruptions) }
 {
     for (number, lane) in lanes.iter().enumerate() {
@@ -53,18 +48,18 @@ fn write_lanes<F, W: Sink>(
     Ok(())
 }
 
-/// Writes a lane and its events.
-fn write_lane<F, W: Sink>(
+/// Writes a lane, and what is told of its post-hook.
+fn write_lane<H: Shown, W: Sink>(
     sink: &mut W,
     number: usize,
-    lane: &LaneReport<Recorder<F>>,
+    lane: &LaneReport<H>,
 ) -> Result<(), WriteFailed>
     ensures written { Writes (W.device sink.old).bytes (W.device sink.new).bytes
-        (lane_text number lane.now) result }
+        (lane_text H.count H.text number lane.now) result }
     ensures failed { OnErr result (GaveUp (W.device sink.new) (W.device sink.new).interruptions) }
 {
-    write_lane_line(sink, number, lane)?;
-    write_events(sink, lane.hook.list())
+    write_lane_line(sink, number, lane.how, lane.hook.count_handed())?;
+    lane.hook.write_text(sink)
 }
 
 fn how_of(how: How) -> &'static [u8]
@@ -76,13 +71,14 @@ fn how_of(how: How) -> &'static [u8]
     }
 }
 
-fn write_lane_line<F, W: Sink>(
+fn write_lane_line<W: Sink>(
     sink: &mut W,
     number: usize,
-    lane: &LaneReport<Recorder<F>>,
+    how: How,
+    count: u64,
 ) -> Result<(), WriteFailed>
     ensures written { Writes (W.device sink.old).bytes (W.device sink.new).bytes
-        (lane_line number lane.now) result }
+        (lane_line number how count) result }
     ensures failed { OnErr result (GaveUp (W.device sink.new) (W.device sink.new).interruptions) }
 {
     let mut digits = Buffer::new();
@@ -90,14 +86,15 @@ fn write_lane_line<F, W: Sink>(
     let pieces: [&[u8]; 5] = [
         b"lane ",
         digits.format(number).as_bytes(),
-        how_of(lane.how),
-        handed.format(lane.hook.list().len()).as_bytes(),
+        how_of(how),
+        handed.format(count).as_bytes(),
         b"\n",
     ];
     write_pieces(sink, &pieces)
 }
 
-fn write_events<W: Sink>(sink: &mut W, events: &[(Event, Outcome)]) -> Result<(), WriteFailed>
+/// Writes events, and what a post-hook answered to each, a line each.
+pub fn write_events<W: Sink>(sink: &mut W, events: &[(Event, Outcome)]) -> Result<(), WriteFailed>
     ensures written { Writes (W.device sink.old).bytes (W.device sink.new).bytes
         (flat_map event_line events.now) result }
     ensures failed { OnErr result (GaveUp (W.device sink.new) (W.device sink.new).interruptions) }

@@ -28,6 +28,9 @@ pub const MOST_PATIENCE: u64 = 86_400;
 /// The most seconds from one line that says how the server stands to the next: a day.
 pub const MOST_STATUS: u64 = 86_400;
 
+/// The most seconds that the lanes have once a run ends: a day.
+pub const MOST_GRACE: u64 = 86_400;
+
 /// The size of a server.
 #[derive(Clone, Copy, Debug, PartialEq, Eq)]
 pub struct Settings {
@@ -68,6 +71,10 @@ pub struct Serving {
     pub status: Option<u64>,
     /// Whether each event is written as a line as it is handed over.
     pub events: bool,
+    /// Whether the run ends in order once standard input has ended.
+    pub until_eof: bool,
+    /// How many seconds the lanes have then, from 1 to 86,400.
+    pub grace: u64,
     ghost connections_within: { (count : ℕ) → connections ≡ Some count → (1 ≤ count) × (count ≤ MOST_CONNECTIONS) },
     ghost open_within: { (1 ≤ «open») × («open» ≤ MOST_OPEN) },
 }

@@ -1,13 +1,16 @@
 //! What is said at the end of a run.
 ghost use Rattle.std.specs.Prelude.{◌≡◌};
-ghost use Rattle.up_server.specs.Reported.{HasEnded, IsTold, any_stopped, is_stopped};
+ghost use Rattle.up_server.specs.ReportText.{report_by};
+ghost use Rattle.up_server.specs.Reported.{IsToldAs, any_stopped, is_stopped};
 ghost use Rattle.up_server.specs.Run.{IsReported};
 
 use crate::report::write_report;
 use crate::running::Served;
 use crate::server_fault::ServerFault;
+use crate::shown::Shown;
 use up_dispatch::{Ended, LaneReport, Report};
-use up_hooks::Recorder;
+use up_events::Event;
+use up_hooks::{Outcome, Recorder};
 use up_lanes::How;
 use up_wire::Sink;
 
@@ -26,11 +29,9 @@ fn any_stopped<H>(lanes: &[LaneReport<H>]) -> bool
 }
 
 /// Writes the report, and tells whether a write failed, or else whether a lane stopped.
-pub fn tell_report<F, W: Sink>(
-    sink: &mut W,
-    report: &Report<Recorder<F>>,
-) -> Result<(), ServerFault>
-    ensures { IsTold report.now (W.device sink.old) (W.device sink.new) result }
+pub fn tell_report<H: Shown, W: Sink>(sink: &mut W, report: &Report<H>) -> Result<(), ServerFault>
+    ensures { IsToldAs (report_by H.count H.text report.now) (any_stopped report.now.lanes.items)
+        (W.device sink.old) (W.device sink.new) result }
 {
     match write_report(sink, report) {
         Ok(()) if any_stopped(report.lanes.as_slice()) => Err(ServerFault::Stopped),
@@ -39,18 +40,11 @@ pub fn tell_report<F, W: Sink>(
     }
 }
 
-/// Tells whether a lane stopped, of a run whose report nobody reads.
-pub fn tell_end<H>(report: &Report<H>) -> Result<(), ServerFault>
-    ensures { HasEnded report.now result }
-{
-    if any_stopped(report.lanes.as_slice()) {
-        return Err(ServerFault::Stopped);
-    }
-    Ok(())
-}
-
 /// Writes the report behind the replies, where these were written, and tells the first thing that went wrong.
-pub fn tell<F, W: Sink>(sink: &mut W, served: &Served<Recorder<F>>) -> Result<(), ServerFault>
+pub fn tell<F: Fn(&Event) -> Outcome + Send, W: Sink>(
+    sink: &mut W,
+    served: &Served<Recorder<F>>,
+) -> Result<(), ServerFault>
     ensures { IsReported served.now (W.device sink.old) (W.device sink.new) result }
 {
     match served.ended {

@@ -62,6 +62,7 @@ fn serves_three_from_one_seat(rt: HostRuntime) -> Result<(), Fail> {
         open: 1,
         patience: Patience::default(),
         watch: None,
+        ending: None,
         notices: &Silent,
     };
     let parts = BoardParts::new(rt.alloc(), 1, 8)?;
@@ -90,6 +91,7 @@ fn ends_where_the_listener_is_gone(rt: HostRuntime) -> Result<(), Fail> {
         open: 2,
         patience: Patience::default(),
         watch: None,
+        ending: None,
         notices: &last,
     };
     let parts = BoardParts::new(rt.alloc(), 1, 8)?;

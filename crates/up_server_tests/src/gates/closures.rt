@@ -53,6 +53,7 @@ fn a_closure_waits_for_another_connection(rt: HostRuntime) -> Result<(), Fail> {
         open: 2,
         patience: Patience::default(),
         watch: None,
+        ending: None,
         notices: &Silent,
     };
     let done = |_: &Event| Outcome::Done;

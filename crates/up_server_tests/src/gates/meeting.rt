@@ -101,6 +101,7 @@ fn post_hooks_meet_by_two_connections(rt: HostRuntime) -> Result<(), Fail> {
         open: 1,
         patience: Patience::default(),
         watch: None,
+        ending: None,
         notices: &Silent,
     };
     let report = reported(&rt, rt.alloc(), hooks, answer, &settings, listener, &visits)?;

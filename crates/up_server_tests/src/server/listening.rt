@@ -34,6 +34,7 @@ fn reports_what_each_connection_did(rt: HostRuntime) -> Result<(), Fail> {
         open: 1,
         patience: Patience::default(),
         watch: None,
+        ending: None,
         notices: &Silent,
     };
     let hooks = PreHooks::new(Vec::new(rt.alloc()));

@@ -107,6 +107,7 @@ fn served<'a, T: Threads + Wait + Eprint + Sync>(
         open: 1,
         patience: Patience::default(),
         watch: None,
+        ending: None,
         notices: &Silent,
     };
     let mut post_hooks = Vec::new(alloc);

@@ -1,0 +1,130 @@
+//! A run that ends in order once an input has ended.
+use crate::patience::milliseconds;
+use libc::net::{POLLIN, SHUT_RD};
+use libc::types::pollfd;
+use std::alloc::{AllocError, Global};
+use std::sync::atomic::{AtomicBool, AtomicU64, Ordering};
+use std::sync::{Mutex, Wait};
+use up_dispatch::{Board, Naming};
+
+/// How many milliseconds pass at most before it is looked at again how the run stands.
+const PAUSE: i32 = 100;
+
+/// The same, once the input has ended.
+const LAST_PAUSE: i32 = 10;
+
+/// How many bytes of the input are read and dropped at a time.
+const DROPPED: usize = 4096;
+
+/// In place of a descriptor: `poll` passes over it.
+pub(crate) const NOTHING: i32 = -1;
+
+/// Ends a run in order once an input has ended. Then the board is closed: changes are refused, reads go on, and the lanes hand
+/// over what there is. Once they have, or the grace is over, no connection is let in any more, and nothing more is read of those
+/// that are open, so that each ends after what came. It has no seat of the board, without which nothing can be changed there.
+#[derive(Drop)]
+pub struct Ending {
+    /// The descriptor of the input.
+    input: i32,
+    /// How many milliseconds the lanes have.
+    grace: u64,
+    /// When the input ended, in milliseconds of the system's clock. 0 before that.
+    since: AtomicU64,
+    /// Whether nothing more is read of any connection.
+    is_over: AtomicBool,
+    /// The sockets of the connections that are read.
+    sockets: Mutex<Vec<i32>>,
+}
+
+/// What `poll` is asked of a descriptor: whether it has something to read.
+fn awaited(fd: i32) -> pollfd {
+    pollfd {
+        fd,
+        events: POLLIN,
+        revents: 0,
+    }
+}
+
+impl Ending {
+    /// Waits for the end of the input with this descriptor, and gives the lanes so many seconds then. There is room for so many
+    /// connections at a time.
+    pub fn new(alloc: Global, input: i32, grace: u64, open: u64) -> Result<Ending, AllocError> {
+        Ok(Ending {
+            input,
+            grace: grace.saturating_mul(1000),
+            since: AtomicU64::new(0),
+            is_over: AtomicBool::new(false),
+            sockets: Mutex::new(Vec::with_capacity(alloc, open as usize)?),
+        })
+    }
+
+    /// Whether nothing more is read of any connection.
+    pub(crate) fn is_over(&self) -> bool {
+        self.is_over.load(Ordering::SeqCst)
+    }
+
+    /// A connection on this socket is going to be read.
+    pub(crate) fn begin<R: Wait>(&self, rt: &R, socket: i32) {
+        let _there_is_room = self.sockets.lock(rt).push(socket);
+    }
+
+    /// It isn't read any more, and its socket may be closed.
+    pub(crate) fn end<R: Wait>(&self, rt: &R, socket: i32) {
+        let mut sockets = self.sockets.lock(rt);
+        if let Some(place) = sockets.iter().position(|it| *it == socket) {
+            sockets.swap_remove(place);
+        }
+    }
+
+    /// Reads nothing more of any connection, and wakes those that wait for bytes.
+    pub(crate) fn shut<R: Wait>(&self, rt: &R) {
+        let sockets = self.sockets.lock(rt);
+        self.is_over.store(true, Ordering::SeqCst);
+        for socket in &*sockets {
+            let _ = libc::net::shutdown(*socket, SHUT_RD);
+        }
+    }
+
+    /// Waits until a connection waits at the listener, or the input has something, and for some milliseconds at most.
+    pub(crate) fn wait(&self, listener: i32) {
+        match self.since.load(Ordering::SeqCst) {
+            0 => self.poll(self.input, listener, PAUSE),
+            _ => self.poll(NOTHING, listener, LAST_PAUSE),
+        }
+    }
+
+    /// Looks whether the input has ended, without waiting for it.
+    pub(crate) fn look(&self) {
+        if self.since.load(Ordering::SeqCst) == 0 {
+            self.poll(self.input, NOTHING, 0);
+        }
+    }
+
+    /// Waits for either for so many milliseconds at most.
+    fn poll(&self, input: i32, listener: i32, pause: i32) {
+        let mut awaited = [awaited(input), awaited(listener)];
+        let _ = libc::net::poll(&mut awaited, pause);
+        if awaited[0].revents != 0 {
+            self.read();
+        }
+    }
+
+    /// Reads and drops what the input has, and notes its end.
+    fn read(&self) {
+        let mut dropped = [0; DROPPED];
+        if libc::read(self.input, &mut dropped) <= 0 {
+            self.since.store(milliseconds().max(1), Ordering::SeqCst);
+        }
+    }
+
+    /// Whether connections are let in. The board is closed as soon as the input has ended.
+    pub(crate) fn goes_on<B: Naming, R: Wait>(&self, rt: &R, board: &Board<B>) -> bool {
+        let since = self.since.load(Ordering::SeqCst);
+        if since == 0 {
+            return true;
+        }
+        board.close(rt);
+        let has_time = milliseconds().saturating_sub(since) < self.grace;
+        has_time && board.counts(rt).waiting.iter().any(|count| *count > 0)
+    }
+}

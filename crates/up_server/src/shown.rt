@@ -1,0 +1,62 @@
+//! What a report tells of a post-hook.
+ghost use Rattle.std.specs.Prelude.{◌≡◌, OnErr};
+ghost use Rattle.up_wire.specs.Device.{GaveUp};
+ghost use Rattle.up_wire.specs.Response.{Writes};
+
+use crate::report::write_events;
+use up_events::Event;
+use up_hooks::{Outcome, PostHook, Recorder, Teller};
+use up_wire::{Sink, WriteFailed};
+
+/// A post-hook of which a report can tell.
+pub trait Shown: PostHook {
+    ghost use Rattle.std.specs.Prelude.{ℕ, List};
+
+    /// How many events it was handed, as far as it counts.
+    ghost count: { Self → ℕ };
+
+    /// What else is told of it.
+    ghost text: { Self → List ℕ };
+
+    /// How many events it was handed, as far as it counts.
+    fn count_handed(&self) -> u64
+        ensures { result ≡ count self.now };
+
+    /// Writes what else is told of it. An error comes if a write gave up on the sink.
+    fn write_text<W: Sink>(&self, sink: &mut W) -> Result<(), WriteFailed>
+        ensures written { Writes (W.device sink.old).bytes (W.device sink.new).bytes
+            (text self.now) result }
+        ensures failed { OnErr result (GaveUp (W.device sink.new) (W.device sink.new).interruptions) };
+}
+
+impl<F: Fn(&Event) -> Outcome + Send> Shown for Recorder<F> {
+    ghost use Rattle.up_server.specs.ReportText.{count_kept, events_text};
+
+    ghost count = { count_kept };
+
+    ghost text = { events_text };
+
+    fn count_handed(&self) -> u64 {
+        self.list().len() as u64
+    }
+
+    fn write_text<W: Sink>(&self, sink: &mut W) -> Result<(), WriteFailed> {
+        write_events(sink, self.list())
+    }
+}
+
+impl<F: Fn(&Event) -> Outcome + Send> Shown for Teller<F> {
+    ghost use Rattle.std.specs.Prelude.{◌-◌, ◌^◌, [], length, min};
+
+    ghost count = { λ t. min (length (⟦<Teller<F> as PostHook>⟧.handed t)) (2 ^ 64 - 1) };
+
+    ghost text = { λ _. [] };
+
+    fn count_handed(&self) -> u64 {
+        self.count()
+    }
+
+    fn write_text<W: Sink>(&self, _sink: &mut W) -> Result<(), WriteFailed> {
+        Ok(())
+    }
+}
