@@ -6,16 +6,13 @@ import os
 import re
 import resource
 import shutil
-import signal
-import socket
 import subprocess
 import sys
-import tempfile
 import time
 
 ROOT = os.path.dirname(os.path.dirname(os.path.abspath(__file__)))
 sys.path.insert(0, os.path.join(ROOT, "tests"))
-from serving import Server, build, same, soon  # noqa: E402
+from serving import NginxServer, Server, build, same  # noqa: E402
 
 MIB = 1 << 20
 
@@ -23,59 +20,28 @@ MIB = 1 << 20
 QUIET = 0.1
 
 NGINX = """
-daemon off; worker_processes 2; pid {folder}/pid; error_log {folder}/errors; {user}
-events {{ worker_connections 4096; }}
-http {{
-    access_log off; sendfile on; tcp_nodelay on; keepalive_requests 1000000000; keepalive_timeout 1h;
-    client_max_body_size 0; client_body_buffer_size 256k; client_body_temp_path {folder}/bodies;
-    proxy_temp_path {folder}/proxy; fastcgi_temp_path {folder}/fastcgi; uwsgi_temp_path {folder}/uwsgi;
-    scgi_temp_path {folder}/scgi;
+    sendfile on; tcp_nodelay on; keepalive_requests 1000000000; keepalive_timeout 1h;
+    client_max_body_size 0; client_body_buffer_size 256k;
     server {{
         listen 127.0.0.1:{port} backlog=4096; root {folder}/files;
         location / {{ dav_methods PUT DELETE; }}
     }}
-}}
 """
 
 
-class NginxServer:
-    """nginx on a free port, which keeps its files in memory; it is ended at the end of the `with`, and its files with it."""
-
-    def __enter__(self):
-        self.folder = tempfile.mkdtemp(prefix="up-bench-", dir="/dev/shm")
-        os.mkdir(os.path.join(self.folder, "files"))
-        with socket.socket() as free:
-            free.bind(("127.0.0.1", 0))
-            self.port = free.getsockname()[1]
-        path = os.path.join(self.folder, "conf")
-        user = "user root;" if os.geteuid() == 0 else ""
-        with open(path, "w", encoding="ascii") as file:
-            file.write(NGINX.format(folder=self.folder, port=self.port, user=user))
-        self.process = subprocess.Popen(["nginx", "-c", path, "-e", os.path.join(self.folder, "errors")])
-        soon(self.listens, "nginx listens")
-        return self
-
-    def __exit__(self, *_):
-        self.process.send_signal(signal.SIGTERM)
-        self.process.wait()
-        shutil.rmtree(self.folder)
-
-    def listens(self):
-        with socket.socket() as probe:
-            return probe.connect_ex(("127.0.0.1", self.port)) == 0 and len(self.processes()) == 3
-
-    def processes(self):
-        with open(f"/proc/{self.process.pid}/task/{self.process.pid}/children", encoding="ascii") as file:
-            return [self.process.pid, *map(int, file.read().split())]
+def nginx_lines(port, folder):
+    """The `http` block of an nginx that takes files by PUT."""
+    os.mkdir(os.path.join(folder, "files"))
+    return NGINX.format(port=port, folder=folder)
 
 
 class Nginx:
-    """nginx as a contender, and what it speaks."""
+    """nginx as a contender, which keeps its files in memory, and what it speaks."""
 
     name, kind = "nginx", "put"
 
     def server(self):
-        return NginxServer()
+        return NginxServer(nginx_lines, workers=2, place="/dev/shm")
 
 
 class Up:

@@ -1,6 +1,6 @@
 """What the scripts of `tests/`, `bench/memory`, `bench/serve`, `bench/lock` and `bench/soak` share: the program `up`, a
-server of it for the time of a `with`, connections that speak HTTP/1.1 byte for byte, work in many threads at once, and the
-count of cases. It needs nothing but Python 3 and prints nothing by itself.
+server of it and an nginx for the time of a `with`, connections that speak HTTP/1.1 byte for byte, work in many threads at
+once, and the count of cases. It needs nothing but Python 3, and nginx where that is used, and prints nothing by itself.
 """
 import argparse
 import os
@@ -126,6 +126,62 @@ class Server:
     def descriptors(self):
         """How many files and sockets the server holds."""
         return len(os.listdir(f"/proc/{self.process.pid}/fd"))
+
+
+NGINX = """
+daemon off; worker_processes {workers}; pid {folder}/pid; error_log {folder}/errors; {user}
+events {{ worker_connections 4096; }}
+http {{
+    access_log off; client_body_temp_path {folder}/bodies; proxy_temp_path {folder}/proxy;
+    fastcgi_temp_path {folder}/fastcgi; uwsgi_temp_path {folder}/uwsgi; scgi_temp_path {folder}/scgi;
+{lines}
+}}
+"""
+
+
+class NginxServer:
+    """nginx on a free port of the loopback, with so many workers. `lines_of` answers the lines of its `http` block, from the
+    port and a folder for its files. It is ended at the end of the `with`, and the folder, which stands in `place`, with it."""
+
+    def __init__(self, lines_of, workers, place=None):
+        self.lines_of, self.workers, self.place = lines_of, workers, place
+
+    def __enter__(self):
+        self.files = tempfile.TemporaryDirectory(prefix="up-nginx-", dir=self.place)
+        self.folder = self.files.name
+        with socket.socket() as free:
+            free.bind(("127.0.0.1", 0))
+            self.port = free.getsockname()[1]
+        path, errors = os.path.join(self.folder, "conf"), os.path.join(self.folder, "errors")
+        user = "user root;" if os.geteuid() == 0 else ""
+        lines = self.lines_of(self.port, self.folder)
+        with open(path, "w", encoding="ascii") as file:
+            file.write(NGINX.format(workers=self.workers, folder=self.folder, user=user, lines=lines))
+        self.process = subprocess.Popen(["nginx", "-c", path, "-e", errors])
+        soon(lambda: self.listens() or self.process.poll() is not None, "nginx listens")
+        if self.process.poll() is not None:
+            raise AssertionError("nginx doesn't start, and has said why")
+        return self
+
+    def __exit__(self, *_):
+        self.process.send_signal(signal.SIGTERM)
+        self.process.wait()
+        self.files.cleanup()
+
+    def listens(self):
+        with socket.socket() as probe:
+            listens = probe.connect_ex(("127.0.0.1", self.port)) == 0
+        return listens and len(self.processes()) == 1 + self.workers
+
+    def processes(self):
+        with open(f"/proc/{self.process.pid}/task/{self.process.pid}/children", encoding="ascii") as file:
+            return [self.process.pid, *map(int, file.read().split())]
+
+    def open_files(self, place):
+        """The files at a place in its folder that its processes have open, also those that have no name any more."""
+        files = [entry.path for process in self.processes() for entry in os.scandir(f"/proc/{process}/fd")]
+        paths = [os.readlink(file) for file in files]
+        return [path for path in paths if path.startswith(os.path.join(self.folder, place, ""))]
 
 
 class Reply:
