@@ -81,7 +81,7 @@ def contenders_of(programs):
         if len(set(names)) < len(names) or Nginx.name in names:
             sys.exit("bench: each program needs a name of its own")
         return programs
-    with open(os.path.join(ROOT, "up"), encoding="utf-8") as file:
+    with open(os.path.join(ROOT, "packaging", "up"), encoding="utf-8") as file:
         found = re.search(r"^memory=(\S+)$", file.read(), re.MULTILINE)
     return [Up("up", build(), os.environ.get("GLIBC_TUNABLES", found[1]) if found else None)]
 

@@ -57,12 +57,12 @@ def seconds_of(process):
 
 class Server:
     """`up serve` with these words, on a free port of the loopback. It is killed at the end of the `with`. With `unheard` its
-    standard output is a pipe whose reader has gone, and with a `sink` it is that file. It has this environment, and so many
-    files and KiB of addresses, where these are given. One that may fail, and doesn't listen, has no port."""
+    standard output is a pipe whose reader has gone, and with a `sink` it is that file. It has this environment and standard
+    input, and so many files and KiB of addresses, where these are given. One that may fail, and doesn't listen, has no port."""
 
     def __init__(
         self, program, *words, size=MAX_SIZE, files=None, addresses=None, unheard=False, sink=None, environment=None,
-        may_fail=False,
+        may_fail=False, given=subprocess.DEVNULL,
     ):
         self.words = [program, "serve", "--address", "127.0.0.1:0", "--max-size", str(size), *words]
         self.files = files
@@ -71,6 +71,7 @@ class Server:
         self.sink = sink
         self.environment = environment
         self.may_fail = may_fail
+        self.given = given
 
     def limit(self):
         signal.signal(signal.SIGPIPE, signal.SIG_DFL)
@@ -83,7 +84,7 @@ class Server:
         self.told = tempfile.TemporaryFile()
         told = subprocess.PIPE if self.unheard else self.sink or self.told
         self.process = subprocess.Popen(
-            self.words, stdin=subprocess.DEVNULL, stdout=told, stderr=subprocess.PIPE, preexec_fn=self.limit,
+            self.words, stdin=self.given, stdout=told, stderr=subprocess.PIPE, preexec_fn=self.limit,
             env=self.environment,
         )
         if self.unheard:
