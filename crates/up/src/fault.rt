@@ -2,7 +2,8 @@
 use std::io;
 use std::process::ExitCode;
 use thiserror::Error;
-use up_server::{ServerFault, WordsFault};
+use up_server::ServerFault;
+use up_words::WordsFault;
 
 /// Why the program failed.
 #[derive(Debug, Drop, Error)]

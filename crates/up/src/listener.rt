@@ -3,7 +3,8 @@ use crate::fault::Fault;
 use std::io;
 use std::net::{Net, TcpListener, TcpStream};
 use std::os::fd::AsRawFd;
-use up_server::{ServerFault, Serving};
+use up_server::ServerFault;
+use up_words::Serving;
 
 /// How many connections may wait for the server to accept them; std asks for 128.
 const BACKLOG: i32 = 4096;

@@ -21,8 +21,9 @@ use std::random::RandomSource;
 use std::sync::Wait;
 use std::thread::Threads;
 use std::time::Clock;
-use up_server::{EventLines, ServerFault, Words, WordsFault, words};
+use up_server::{EventLines, ServerFault};
 use up_wire::Output;
+use up_words::{Words, WordsFault, words};
 
 /// Serves as the words ask for it. An error is a standard stream that can't be had, or want of memory for it or for the closures.
 fn obey<R: Input + Print + Eprint + AllocGlobal + Clock + RandomSource + Threads + Wait + Sync>(

@@ -13,8 +13,9 @@ use std::thread::Threads;
 use std::time::Clock;
 use up_hooks::{PreHook, PreHooks};
 use up_machine::{Ask, Point, Verdict};
-use up_server::{EventLines, ServerFault, Words, at_most, finishes_at_most, keeps, needs_key};
+use up_server::{EventLines, ServerFault, at_most, finishes_at_most, keeps, needs_key};
 use up_wire::Sink;
+use up_words::Words;
 
 /// Serves what the words ask for, with the closures of their rules, which are asked in the order in which the help names them. An error is
 /// want of memory for the closures, or one of the run.

@@ -11,11 +11,12 @@ use std::random::RandomSource;
 use std::sync::Wait;
 use std::thread::Threads;
 use std::time::Clock;
-use up_connections::{Drawn, Ending, Notices, Visits, Watch};
+use up_connections::{Drawn, Ending, Notices, Patience, Visits, Watch};
 use up_events::Event;
 use up_hooks::{Outcome, PostHook, PreHooks, Recorder, Teller, new_recorders, new_tellers};
-use up_server::{EventLines, ServerFault, Words, keep_serving, replay, serve};
+use up_server::{EventLines, ServerFault, keep_serving, replay, serve};
 use up_wire::{Output, Sink};
+use up_words::Words;
 
 /// The descriptor of standard input.
 const STDIN: i32 = 0;
@@ -48,7 +49,10 @@ fn visits_of<'a, N>(
     Some(Visits {
         connections: serving.connections,
         open: serving.open,
-        patience: serving.patience,
+        patience: Patience {
+            seconds: serving.patience,
+            least_rate: serving.least_rate,
+        },
         watch,
         ending,
         notices,

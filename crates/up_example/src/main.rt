@@ -10,8 +10,9 @@ use std::io::{self, BufReader, BufWriter};
 use up_events::{Event, Hook};
 use up_hooks::{Outcome, PreHook, PreHooks, new_recorders};
 use up_machine::{Ask, Point, Verdict};
-use up_server::{Settings, finishes_at_most, needs_key, refuse, replay};
+use up_server::{finishes_at_most, needs_key, refuse, replay};
 use up_wire::{Input, Output};
+use up_words::Settings;
 
 /// Has an upload scanned, and tells of it on standard error. This scanner takes no more than 8 bytes.
 fn scan(rt: &impl Eprint, upload: &Event) -> Outcome

@@ -1,5 +1,4 @@
 -- The definitions that the contracts cite.
-pub mod Limits
 pub mod Seats
 pub mod ReportText
 pub mod Reported

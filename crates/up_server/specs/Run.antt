@@ -12,8 +12,8 @@ use Rattle.up_server.specs.Seats.{IsServedFrom}
 use Rattle.up_server.specs.declared.running.Served.{Served}
 use Rattle.up_server.specs.declared.server_fault.ServerFault.{ServerFault}
 use Rattle.up_server.specs.declared.server_fault.ServerFault.TheVariants as Fault
-use Rattle.up_server.specs.declared.settings.Settings.{Settings}
 use Rattle.up_wire.specs.Device.{Device}
+use Rattle.up_words.specs.declared.settings.Settings.{Settings}
 
 -- One conversation was served from the only seat of a new board of this size whose closures may give this, over these queues. The report
 -- is that of the board, and tells as many changes as were made from the seat.

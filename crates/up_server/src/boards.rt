@@ -5,12 +5,12 @@ ghost use Rattle.up_dispatch.specs.Parts.{IsNamed};
 ghost use Rattle.up_server.specs.Reported.{IsReportOf};
 
 use crate::lanes::lanes_over;
-use crate::settings::Settings;
 use std::alloc::Global;
 use up_dispatch::{Board, BoardParts, Naming, Report, Seat};
 use up_events::NoMemory;
 use up_hooks::PostHook;
 use up_lanes::{Lane, LaneEnd};
+use up_words::Settings;
 
 /// A new board of these parts and of this size, which counts the changes and doesn't keep them, and a lane over each of its queues, with the
 /// post-hook at its place.

@@ -4,7 +4,6 @@
 #![tactic(auto)]
 
 mod boards;
-mod command_line;
 mod event_lines;
 mod lanes;
 mod listening;
@@ -14,16 +13,13 @@ mod runner;
 mod running;
 mod server_fault;
 mod serving;
-mod settings;
 mod shown;
 mod status;
 mod telling;
 
-pub use command_line::{VERSION, WordsFault, words};
 pub use event_lines::EventLines;
 pub use listening::{keep_serving, serve, serve_with};
 pub use rules::{at_most, finishes_at_most, keeps, needs_key, refuse};
 pub use server_fault::ServerFault;
 pub use serving::replay;
-pub use settings::{Serving, Settings, Words, limits_are_exact};
 pub use shown::Shown;

@@ -12,7 +12,6 @@ use crate::boards;
 use crate::lanes::{end_all, start_all};
 use crate::runner::{OnStderr, Runner};
 use crate::server_fault::ServerFault;
-use crate::settings::Settings;
 use crate::status::{say, start_saying};
 use crate::telling::tell_report;
 use std::alloc::{AllocError, Global};
@@ -27,6 +26,7 @@ use up_events::{Event, NoMemory};
 use up_hooks::{Outcome, PostHook, PreHooks, Recorder, Teller};
 use up_lanes::{Lane, LaneEnd};
 use up_wire::Sink;
+use up_words::Settings;
 
 /// Starts the lanes in the scope, and what says how the server stands, serves the connections, closes the board, and waits for the lanes.
 fn attend_in<

@@ -9,7 +9,6 @@ ghost use Rattle.up_server.specs.Run.{IsRun};
 use crate::boards;
 use crate::lanes::{end_all, start_all};
 use crate::runner::{Nobody, Runner};
-use crate::settings::Settings;
 use std::alloc::{AllocError, Global};
 use std::marker::{Send, Sync};
 use std::sync::Wait;
@@ -21,6 +20,7 @@ use up_events::NoMemory;
 use up_hooks::{PostHook, PreHooks};
 use up_lanes::{Lane, LaneEnd};
 use up_wire::{Sink, Source};
+use up_words::Settings;
 
 /// How a conversation ended, and how each lane did.
 #[derive(Drop)]

@@ -9,7 +9,6 @@ ghost use Rattle.up_server.specs.declared.running.Served.{Served};
 
 use crate::running::{Served, run};
 use crate::server_fault::ServerFault;
-use crate::settings::Settings;
 use crate::telling::tell;
 use std::alloc::Global;
 use std::marker::{Brand, Sync};
@@ -19,6 +18,7 @@ use up_dispatch::BoardParts;
 use up_events::Event;
 use up_hooks::{Outcome, PostHook, PreHooks, Recorder};
 use up_wire::{Sink, Source};
+use up_words::Settings;
 
 /// Serves the messages of `source` as one conversation on a new board, with ids counted from 1, while each lane hands its events to the
 /// recorder at its place in a thread of its own; writes the replies to `sink`, ends the lanes and writes the report. The closures of `hooks`

@@ -7,8 +7,9 @@ use std::sync::Wait;
 use std::thread::Threads;
 use up_events::Event;
 use up_hooks::{Outcome, PreHooks, new_recorders};
-use up_server::{ServerFault, Settings, replay};
+use up_server::{ServerFault, replay};
 use up_wire::{Output, Source};
+use up_words::Settings;
 
 /// How a run over this source ends, without closures that are asked and with post-hooks that answer so, and what it writes.
 pub fn replayed<F: Fn(&Event) -> Outcome + Send + Copy + Drop, R: Source, T: Threads + Wait + Sync>(

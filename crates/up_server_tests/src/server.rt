@@ -16,8 +16,9 @@ use std::test::Fail;
 use std::thread::Threads;
 use up_events::Event;
 use up_hooks::{Outcome, PreHooks, new_recorders};
-use up_server::{ServerFault, Settings, replay};
+use up_server::{ServerFault, replay};
 use up_wire::{Input, Output, Sink, Source};
+use up_words::Settings;
 
 const U1: &str = "00000000000000000000000000000001";
 

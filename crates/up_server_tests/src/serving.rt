@@ -15,8 +15,9 @@ use up_connections::{Notices, Visits};
 use up_dispatch::Counting;
 use up_events::Event;
 use up_hooks::{Outcome, PostHook, PreHooks, Recorder, new_recorders};
-use up_server::{ServerFault, Settings, serve};
+use up_server::{ServerFault, serve};
 use up_wire::Output;
+use up_words::Settings;
 
 /// What a server with these closures, whose post-hooks answer so and whose ids are counted, reports once its last connection has ended.
 pub fn reported<

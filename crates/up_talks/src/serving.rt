@@ -11,10 +11,9 @@ use std::thread::Threads;
 use up_events::Event;
 use up_hooks::{Outcome, PreHook, PreHooks, new_recorders};
 use up_machine::{Ask, Point, Verdict};
-use up_server::{
-    ServerFault, Settings, Words, at_most, finishes_at_most, keeps, needs_key, replay,
-};
+use up_server::{ServerFault, at_most, finishes_at_most, keeps, needs_key, replay};
 use up_wire::{Input, Output};
+use up_words::{Settings, Words};
 
 /// What came of a run.
 #[derive(Drop)]

@@ -2,7 +2,7 @@
 use crate::line_fault::LineFault;
 use std::alloc::{AllocError, Global};
 use up_escape::put_bytes;
-use up_server::{Words, WordsFault, words};
+use up_words::{Words, WordsFault, words};
 
 /// What is asked in a conversation, of which server, and what must come of it.
 #[derive(Drop)]

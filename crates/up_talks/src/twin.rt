@@ -3,8 +3,8 @@ use std::alloc::{AllocError, Global};
 use up_dispatch::{Counting, converse_by_book};
 use up_hooks::PreHooks;
 use up_machine::Book;
-use up_server::Settings;
 use up_wire::{Input, Output};
+use up_words::Settings;
 
 /// The replies of a book that is lent to one conversation, its ids counted from 1.
 fn replies(

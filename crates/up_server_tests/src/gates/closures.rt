@@ -15,7 +15,7 @@ use up_connections::{Patience, Silent, Visits};
 use up_events::Event;
 use up_hooks::{Outcome, PreHook, PreHooks};
 use up_machine::{Ask, Point, Verdict};
-use up_server::Settings;
+use up_words::Settings;
 
 /// What is reported of the one upload.
 const REPORT: &str = "\naccepted 1\nlane 0 drained 0\nlane 1 drained 1\n\

@@ -12,8 +12,8 @@ use up_board_tests::{POST, is_set_in_time};
 use up_connections::{Patience, Silent, Visits};
 use up_events::Event;
 use up_hooks::{Outcome, PreHooks};
-use up_server::Settings;
 use up_wire::Input;
+use up_words::Settings;
 
 /// Two uploads, the first of lane 1 and the second of lane 0.
 const ASKED: &[u8] = b"POST /files/ HTTP/1.1\r\nHost: a\r\nTus-Resumable: 1.0.0\r\n\

@@ -1,7 +1,7 @@
 //! What the words of the command line ask for.
 use std::alloc::{AllocError, Global};
 use std::test::Fail;
-use up_server::{Settings, Words, WordsFault, words};
+use up_words::{Settings, Words, WordsFault, words};
 
 /// The words as the server is given them.
 fn list_of(alloc: Global, given: &[&str]) -> Result<Vec<String>, AllocError> {
@@ -184,9 +184,7 @@ const PATIENCE: [(&[&str], Option<(Option<u64>, Option<u64>)>); 4] = [
 fn reads_how_long_it_waits_for_clients(rt: HostRuntime) -> Result<(), Fail> {
     for (i, (line, wanted)) in PATIENCE.iter().enumerate() {
         let found = read(rt.alloc(), line)?;
-        let patience = found
-            .serve
-            .map(|it| (it.patience.seconds, it.patience.least_rate));
+        let patience = found.serve.map(|it| (it.patience, it.least_rate));
         assert_eq!(rt; patience, *wanted, "at {i}");
     }
     Ok(())

@@ -6,7 +6,7 @@ use std::test::Fail;
 use up_connections::{Patience, Silent, Visits};
 use up_events::Event;
 use up_hooks::{Outcome, PreHooks};
-use up_server::Settings;
+use up_words::Settings;
 
 /// A creation, an append and what is no upload, each of which closes its connection.
 const ASKED: [&[u8]; 3] = [

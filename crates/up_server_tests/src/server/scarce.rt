@@ -17,7 +17,8 @@ use up_dispatch::{Counting, Report};
 use up_events::{Event, Hook, Id, NoMemory};
 use up_hooks::{Outcome, PostHook, PreHooks};
 use up_lanes::How;
-use up_server::{Settings, serve_with};
+use up_server::serve_with;
+use up_words::Settings;
 
 /// A creation and an append, each of which closes its connection.
 const ASKED: [&[u8]; 2] = [

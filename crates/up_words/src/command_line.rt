@@ -10,7 +10,6 @@ use clap::builder::ValueParser;
 use clap::error::ErrorKind;
 use clap::{Arg, ArgAction, ArgMatches, Command, Error};
 use std::alloc::{AllocError, Global};
-use up_connections::Patience;
 use up_events::{MOST_BYTES, MOST_LANES};
 
 /// What `--version` tells: the version of the program, and the logic of the toolchain by which it is proved, as `rt version` has it.
@@ -254,10 +253,8 @@ fn serving_of(alloc: Global, serve: &ArgMatches<'_>) -> Result<Serving, AllocErr
         address: text_of(alloc, serve, "address")?.unwrap_or(String::new(alloc)),
         connections: number_of(serve, "connections", MOST_CONNECTIONS),
         open: value_of(serve, "open", MOST_OPEN),
-        patience: Patience {
-            seconds: number_of(serve, "patience", MOST_PATIENCE),
-            least_rate: number_of(serve, "least-rate", MOST_BYTES),
-        },
+        patience: number_of(serve, "patience", MOST_PATIENCE),
+        least_rate: number_of(serve, "least-rate", MOST_BYTES),
         status: number_of(serve, "status", MOST_STATUS),
         events: serve.get_flag("events"),
         until_eof: serve.get_flag("until-eof"),

@@ -1,10 +1,8 @@
 //! What a run of the server is given.
 ghost use Rattle.std.specs.Prelude.{◌≡◌, ℕ, ◌≤◌, Some};
 ghost use Rattle.up_events.specs.declared.limits.TheConstants.{MOST_BYTES, MOST_LANES};
-ghost use Rattle.up_server.specs.Limits.{most_capacity, most_connections, most_open};
-ghost use Rattle.up_server.specs.declared.settings.TheConstants.{MOST_CAPACITY, MOST_CONNECTIONS, MOST_OPEN};
-
-use up_connections::Patience;
+ghost use Rattle.up_words.specs.Limits.{most_capacity, most_connections, most_open};
+ghost use Rattle.up_words.specs.declared.settings.TheConstants.{MOST_CAPACITY, MOST_CONNECTIONS, MOST_OPEN};
 
 /// The most items that the queue of a lane holds.
 pub const MOST_CAPACITY: u64 = 4096;
@@ -65,8 +63,10 @@ pub struct Serving {
     pub connections: Option<u64>,
     /// How many connections are open at a time, from 1 to 4,096.
     pub open: u64,
-    /// How long a connection waits for its client.
-    pub patience: Patience,
+    /// For how many seconds a connection may be silent, from 1 to 86,400; where there is none, for as long as the client likes.
+    pub patience: Option<u64>,
+    /// How many bytes a second a request has to come at, from 1 to 2^30; where there is none, as few as the client likes.
+    pub least_rate: Option<u64>,
     /// After how many seconds each it is said how the server stands, from 1 to 86,400; where there is none, it isn't said.
     pub status: Option<u64>,
     /// Whether each event is written as a line as it is handed over.
