@@ -1,0 +1,7 @@
+pub mod Loop
+pub mod Again
+pub mod Crash
+pub mod Batches
+pub mod Headings
+pub mod Mending
+pub mod Parts

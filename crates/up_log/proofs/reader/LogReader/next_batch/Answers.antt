@@ -1,0 +1,32 @@
+use Rattle.std.proofs.Common.{◌∙◌, ◌+◌, ℕ, List, [], ◌∷◌, ◌++◌, length, drop, sym, ap, subst}
+use Rattle.up_log.specs.declared.entry.Entry.{Entry}
+use Rattle.up_log.specs.Blocks.{blocks}
+use Rattle.up_log.specs.Logs.{IsPart, NextIs}
+use Rattle.up_log.specs.Spelling.{batch}
+use Rattle.up_log.proofs.Parts.{goes_on, tail_is}
+use Rattle.up_log.proofs.reader.LogReader.next_batch.Goals as goal
+
+pub returns-clause-reads : goal.returns-clause-reads
+returns-clause-reads g c = λ setup read left reading clean.
+    let part = reading.0 in
+    let gate = c.args.self.now.gate in
+    let len = c.args.self.now.len in
+    let seen = g.D.Disk.seen c.args.self.now.device in
+    let tail = tail_is setup seen gate len read left part in
+    let next = subst (NextIs left) c.if-not-branch.false (c.in_ok-begins_at.ensures.next left part.back tail part.closed part.len_is (c.block_at.ensures.clean clean)) in
+    let first = next.0 in
+    let others = next.1 in
+    let same = c.begins_at.ensures.seen in
+    let tail_then = ap (λ (l : List ℕ). drop gate l) same ∙ tail ∙ ap (λ (l : List (List Entry)). blocks l ++ part.back) next.2 in
+    let block = c.in_ok-entries.ensures.block first others part.back tail_then (part.len_is ∙ ap length (sym same)) clean in
+    let are = next.2 ∙ ap (λ (f : List Entry). f ∷ others) (sym block.0) in
+    let place = block.1 ∙ ap (λ (f : List Entry). gate + 9 + length (batch f)) (sym block.0) in
+    let on = goes_on setup seen gate len c.in_ok-entries.gate read left others c.in_ok-entries.entries part are place in
+    let all = c.block_at.ensures.seen ∙ same in (
+      others,
+      are,
+      (
+        subst (λ (f : List ℕ). IsPart setup f c.in_ok-entries.gate len (read ++ c.in_ok-entries.entries ∷ []) others) (sym all) on,
+        λ d now. reading.1 d (c.begins_at.ensures.crash d (c.block_at.ensures.crash d now)) ∙ sym all,
+      ),
+    )

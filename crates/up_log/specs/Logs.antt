@@ -1,0 +1,94 @@
+-- What contracts say of a log, and of one that is being read.
+use Rattle.std.specs.Prelude.{◌≡◌, ℕ, ◌-◌, List, [], ◌∷◌, ◌++◌, length, Bool, true, false, IsTrue, Option, Some, None, Result, Ok, Err}
+use Rattle.sqlite_disk.specs.Disk.{Only}
+use Rattle.sqlite_disk.specs.declared.Disk.{Ghosts}
+use Rattle.up_log.specs.declared.appending.Log.{Log}
+use Rattle.up_log.specs.declared.entry.Entry.{Entry}
+use Rattle.up_log.specs.declared.fault.LogFault.{LogFault}
+use Rattle.up_log.specs.declared.fault.LogFault.TheVariants as fault
+use Rattle.up_log.specs.declared.reader.LogReader.{LogReader}
+use Rattle.up_log.specs.declared.reader.Refused.{Refused}
+use Rattle.up_log.specs.declared.setup.Setup.{Setup}
+use Rattle.up_log.specs.Blocks.{blocks, written, IsAtRest, IsClosed}
+use Rattle.up_log.specs.Spelling.{batch}
+
+-- the file is at rest, its gate is known, all of it is on the disk, and no call has failed
+pub record IsSettled {D : Type 0} (g : Ghosts D) (log : Log D) (setup : Setup) (batches : List (List Entry)) : Type 0 where
+  pub file : IsAtRest setup (g.seen log.device) batches
+  pub place : log.gate ≡ length (written setup batches)
+  pub durable : Only (g.seen log.device) (g.may_leave log.device)
+  pub usable : IsTrue (g.is_usable log.device)
+
+-- a file of the batches that were read and of those that are left, as much as a disk and a place tell of it
+pub record IsPart (setup : Setup) (file : List ℕ) (gate len : ℕ) (read left : List (List Entry)) : Type 0 where
+  pub back : List ℕ
+  pub whole : file ≡ written setup read ++ (blocks left ++ back)
+  pub closed : IsClosed back
+  pub place : gate ≡ length (written setup read)
+  pub len_is : len ≡ length file
+
+-- these batches were read, these are left, and all of the file is on the disk
+abbrev pub IsReading : {D : Type 0} → Ghosts D → LogReader D → Setup → List (List Entry) → List (List Entry) → Type 0
+IsReading g reader setup read left =
+    IsPart setup (g.seen reader.device) reader.gate reader.len read left × Only (g.seen reader.device) (g.may_leave reader.device)
+
+-- the file isn't that of such a server, or is damaged
+abbrev pub IsRefusal : LogFault → Type 0
+IsRefusal fault.Foreign = Unit {0}
+IsRefusal (fault.Version version) = Unit {0}
+IsRefusal (fault.Lanes made asked) = Unit {0}
+IsRefusal (fault.MaxSize made asked) = Unit {0}
+IsRefusal fault.Damaged = Unit {0}
+IsRefusal other = ⊥
+
+-- how many bytes of the file weren't read
+abbrev pub unread : {D : Type 0} → LogReader D → ℕ
+unread reader = reader.len - reader.gate
+
+-- whether there is a first batch
+abbrev pub NextIs : List (List Entry) → Bool → Type 0
+NextIs left true = (first : List Entry) × (others : List (List Entry)) × (left ≡ first ∷ others)
+NextIs left false = left ≡ []
+
+abbrev pub IsDamaged : LogFault → Type 0
+IsDamaged fault.Damaged = Unit {0}
+IsDamaged other = ⊥
+
+-- the size of this batch, or no damage
+abbrev pub HasSize : List Entry → Result ℕ LogFault → Type 0
+HasSize first (Ok size) = size ≡ length (batch first)
+HasSize first (Err e) = IsDamaged e → ⊥
+
+-- this batch, or no damage
+abbrev pub IsBatch : List Entry → Result (List Entry) LogFault → Type 0
+IsBatch first (Ok entries) = entries ≡ first
+IsBatch first (Err e) = IsDamaged e → ⊥
+
+-- this batch and this place, or no damage
+abbrev pub BlockIs : List Entry → ℕ → Result (List Entry × ℕ) LogFault → Type 0
+BlockIs first end (Ok block) = (block.0 ≡ first) × (block.1 ≡ end)
+BlockIs first end (Err e) = IsDamaged e → ⊥
+
+module _ {D : Type 0} (g : Ghosts D) where
+  -- no wrong answer of the disk was taken as true
+  abbrev pub IsCleanReader : LogReader D → Type 0
+  IsCleanReader reader = IsTrue (g.is_clean reader.device)
+
+  abbrev pub IsCleanLog : Log D → Type 0
+  IsCleanLog log = IsTrue (g.is_clean log.device)
+
+  -- the first of the batches that are left, none if none is left, or no damage
+  abbrev pub ReadsNext : LogReader D → Setup → List (List Entry) → List (List Entry) → Result (Option (List Entry)) LogFault → Type 0
+  ReadsNext new setup read left (Ok None) = (left ≡ []) × IsReading g new setup read left
+  ReadsNext new setup read left (Ok (Some entries)) =
+      (others : List (List Entry)) × (left ≡ entries ∷ others) × IsReading g new setup (read ++ entries ∷ []) others
+  ReadsNext new setup read left (Err e) = (IsDamaged e → ⊥) × IsReading g new setup read left
+
+  -- what a crash may leave of the file, which the disk read without a lie
+  abbrev pub reader_leaves : Result (LogReader D) (Refused D) → List ℕ → Type 0
+  reader_leaves (Ok reader) c = IsCleanReader reader × g.may_leave reader.device c
+  reader_leaves (Err refused) c = IsTrue (g.is_clean refused.device) × g.may_leave refused.device c
+
+  abbrev pub log_leaves : Result (Log D) (Refused D) → List ℕ → Type 0
+  log_leaves (Ok log) c = IsCleanLog log × g.may_leave log.device c
+  log_leaves (Err refused) c = IsTrue (g.is_clean refused.device) × g.may_leave refused.device c

@@ -1,0 +1,89 @@
+-- The one spelling of an entry, and of a batch of entries.
+use Rattle.std.specs.Prelude.{ℕ, Bool, true, false, ◌%◌, ◌/◌, ◌^◌, List, [], ◌∷◌, ◌++◌, length, Option, Some, None, Result, Ok, Err}
+use Rattle.std.specs.List.{flat_map}
+use Rattle.up_events.specs.declared.event.Kind.{Kind}
+use Rattle.up_events.specs.declared.event.Kind.TheVariants.{Plain, Partial, Final}
+use Rattle.up_headers.specs.declared.request.NewUpload.{NewUpload}
+use Rattle.up_headers.specs.declared.request.NotDigits.{NotDigits}
+use Rattle.up_headers.specs.declared.request.Patch.{Patch}
+use Rattle.up_headers.specs.declared.request.Request.{Request}
+use Rattle.up_headers.specs.declared.request.Request.TheVariants as request
+use Rattle.up_log.specs.declared.entry.Consent.{Consent}
+use Rattle.up_log.specs.declared.entry.Consent.TheVariants.{Skipped, Allowed, AllowedFinish}
+use Rattle.up_log.specs.declared.entry.Entry.{Entry}
+
+-- a number in eight cells, the lowest first. Below 2^64 each of them is a byte; the last takes what is above, so that no two numbers
+-- have one spelling
+unfoldable pub word : ℕ → List ℕ
+word n =
+    let a = n / 256 in
+    let b = a / 256 in
+    let c = b / 256 in
+    let d = c / 256 in
+    let e = d / 256 in
+    let f = e / 256 in
+    let g = f / 256 in
+    n % 256 ∷ a % 256 ∷ b % 256 ∷ c % 256 ∷ d % 256 ∷ e % 256 ∷ f % 256 ∷ g ∷ []
+
+-- an id in two words, the lower first
+abbrev pub id : ℕ → List ℕ
+id n = word (n % 2 ^ 64) ++ word (n / 2 ^ 64)
+
+-- so many bytes follow, and the bytes
+abbrev pub text : List ℕ → List ℕ
+text bytes = word (length bytes) ++ bytes
+
+-- whether there is a field, and the field
+abbrev pub maybe : {X : Type 0} → (X → List ℕ) → Option X → List ℕ
+maybe field None = 0 ∷ []
+maybe field (Some x) = 1 ∷ field x
+
+-- so many fields follow, and the fields
+abbrev pub many : {X : Type 0} → (X → List ℕ) → List X → List ℕ
+many field xs = word (length xs) ++ flat_map field xs
+
+abbrev pub flag : Bool → List ℕ
+flag false = 0 ∷ []
+flag true = 1 ∷ []
+
+abbrev pub kind : Kind → List ℕ
+kind Plain = 0 ∷ []
+kind Partial = 1 ∷ []
+kind Final = 2 ∷ []
+
+abbrev pub consent : Consent → List ℕ
+consent Skipped = 0 ∷ []
+consent Allowed = 1 ∷ []
+consent AllowedFinish = 2 ∷ []
+
+-- a length that is declared, if one was sent
+abbrev pub declared : Option (Result ℕ NotDigits) → List ℕ
+declared None = 0 ∷ []
+declared (Some (Ok n)) = 1 ∷ word n
+declared (Some (Err fault)) = 2 ∷ []
+
+-- a key and its value
+abbrev pub pair : List ℕ × List ℕ → List ℕ
+pair p = text p.0 ++ text p.1
+
+abbrev pub new_upload : NewUpload → List ℕ
+new_upload new =
+    kind new.kind ++ maybe word new.length ++ many id new.parts ++ many pair new.pairs ++ maybe text new.metadata ++ maybe text new.concat
+
+abbrev pub patch : Patch → List ℕ
+patch p = id p.id ++ flag p.media ++ maybe word p.offset ++ declared p.length ++ text p.bytes
+
+abbrev pub asked_for : Request → List ℕ
+asked_for request.Options = 0 ∷ []
+asked_for (request.Create new) = 1 ∷ new_upload new
+asked_for (request.Head u) = 2 ∷ id u
+asked_for (request.Patch p) = 3 ∷ patch p
+asked_for (request.Delete u) = 4 ∷ id u
+asked_for (request.Get u) = 5 ∷ id u
+
+abbrev pub entry : Entry → List ℕ
+entry e = id e.id ++ consent e.consent ++ asked_for e.request
+
+-- a batch of entries
+abbrev pub batch : List Entry → List ℕ
+batch entries = many entry entries

@@ -1,0 +1,65 @@
+//! Adding batches of entries at the end of a log.
+ghost use Rattle.std.specs.Prelude.{◌≡◌, ◌⊎◌, ◌++◌, ◌∷◌, [], List, ℕ, OnOk, IsErr, OnErr, IsTrue};
+ghost use Rattle.up_log.specs.Blocks.{IsBeforeOrAfter};
+ghost use Rattle.up_log.specs.Logs.{IsSettled};
+ghost use Rattle.up_log.specs.declared.entry.Entry.{Entry as Logged};
+ghost use Rattle.up_log.specs.declared.setup.Setup.{Setup as Numbers};
+
+use crate::device::write_synced;
+use crate::entry::Entry;
+use crate::fault::LogFault;
+use crate::writing::closed_body;
+use sqlite_disk::Disk;
+use std::alloc::Global;
+
+/// A log to which batches can be added. Each stands in a block behind a gate, a byte that is opened by a write of its own once the
+/// block is on the disk.
+#[derive(Drop)]
+pub struct Log<D: Disk> {
+    pub(crate) device: D,
+    /// Where the next block begins.
+    pub(crate) gate: usize,
+    /// Whether a write failed, so that what stands in the file isn't known.
+    pub(crate) is_broken: bool,
+}
+
+impl<D: Disk> Log<D> {
+    /// The file, which takes no more of this log.
+    pub fn into_device(self) -> D
+        ensures { result ≡ self.device }
+    {
+        self.device
+    }
+
+    /// Adds a batch of entries, and returns once it is on the disk: from `Ok` on each crash leaves a log that has it. A crash in the
+    /// call, or after an error, leaves the log with the whole batch or without it. After `Memory` the log is as it was; after any other
+    /// error it takes no more (`Broken`), and is to be opened again.
+    pub fn append(&mut self, alloc: Global, entries: &[Entry]) -> Result<(), LogFault>
+        ensures durable { (setup : Numbers) (batches : List (List Logged))
+            → IsSettled D.Disk self.old setup batches
+            → OnOk result (IsSettled D.Disk self.new setup (batches ++ entries.now ∷ [])) }
+        ensures crash { (setup : Numbers) (batches : List (List Logged))
+            → IsSettled D.Disk self.old setup batches
+            → (c : List ℕ) → D.may_leave self.new.device c
+            → IsBeforeOrAfter setup batches entries.now c }
+        ensures kept { OnErr result ((self.new ≡ self.old) ⊎ IsTrue self.new.is_broken) }
+        ensures broken { IsTrue self.old.is_broken → IsErr result × (self.new ≡ self.old) }
+    {
+        if self.is_broken {
+            return Err(LogFault::Broken);
+        }
+        let bytes = closed_body(alloc, entries)?;
+        let Some(start) = self.gate.checked_add(1) else {
+            return Err(LogFault::Broken);
+        };
+        let Some(end) = self.gate.checked_add(bytes.len()) else {
+            return Err(LogFault::Broken);
+        };
+        self.is_broken = true;
+        write_synced(&mut self.device, start, &bytes)?;
+        write_synced(&mut self.device, self.gate, &[1])?;
+        self.gate = end;
+        self.is_broken = false;
+        Ok(())
+    }
+}

@@ -1,0 +1,118 @@
+//! A block of a log, read from its place.
+ghost use Rattle.std.specs.Prelude.{◌≡◌, ◌+◌, ◌<◌, ◌≤◌, ◌++◌, ◌∷◌, List, ℕ, length, take, drop, IfOk, IfErr, IsTrue};
+ghost use Rattle.up_log.specs.Blocks.{blocks, IsClosed};
+ghost use Rattle.up_log.specs.Logs.{NextIs, HasSize, IsBatch, BlockIs, IsDamaged};
+ghost use Rattle.up_log.specs.Spelling.{batch};
+ghost use Rattle.up_log.specs.declared.fault.Unread.TheVariants.{Damaged};
+ghost use Rattle.up_log.specs.declared.entry.Entry.{Entry as Logged};
+
+use crate::device::{read_from, read_vec};
+use crate::entry::Entry;
+use crate::fault::{LogFault, Unread};
+use crate::reading::{whole_batch, word_of};
+use sqlite_disk::Disk;
+use std::alloc::Global;
+use up_message::Sequence;
+
+fn log_fault(fault: Unread) -> LogFault
+    ensures { IsDamaged result → fault ≡ Damaged }
+{
+    match fault {
+        Unread::Memory => LogFault::Memory,
+        Unread::Damaged => LogFault::Damaged,
+    }
+}
+
+/// Whether a block begins at this place.
+pub(crate) fn begins_at<D: Disk>(disk: &mut D, len: usize, gate: usize) -> Result<bool, LogFault>
+    ensures next { (left : List (List Logged)) (back : List ℕ)
+        → drop gate (D.seen disk.old) ≡ blocks left ++ back → IsClosed back
+        → len ≡ length (D.seen disk.old)
+        → IfOk result (λ begins. IsTrue (D.is_clean disk.new) → NextIs left begins) }
+    ensures fault { IfErr result (λ fault. IsDamaged fault → ⊥) }
+    ensures seen { D.seen disk.new ≡ D.seen disk.old }
+    ensures clean { IsTrue (D.is_clean disk.new) → IsTrue (D.is_clean disk.old) }
+    ensures crash { (c : List ℕ) → D.may_leave disk.new c → D.may_leave disk.old c }
+{
+    if len.saturating_sub(gate) < 2 {
+        return Ok(false);
+    }
+    let mut byte = [0; 1];
+    read_from(disk, gate, &mut byte)?;
+    if byte[0] != 1 {
+        return Ok(false);
+    }
+    Ok(true)
+}
+
+/// How many bytes the batch of the block takes that begins at this place.
+fn size_at<D: Disk>(disk: &mut D, len: usize, gate: usize) -> Result<usize, LogFault>
+    ensures size { (first : List Logged) (others : List (List Logged)) (back : List ℕ)
+        → drop gate (D.seen disk.old) ≡ blocks (first ∷ others) ++ back
+        → len ≡ length (D.seen disk.old)
+        → IsTrue (D.is_clean disk.new) → HasSize first result }
+    ensures fits { IfOk result (λ n. gate + 9 + n ≤ len) }
+    ensures seen { D.seen disk.new ≡ D.seen disk.old }
+    ensures clean { IsTrue (D.is_clean disk.new) → IsTrue (D.is_clean disk.old) }
+    ensures crash { (c : List ℕ) → D.may_leave disk.new c → D.may_leave disk.old c }
+{
+    let rest = len.saturating_sub(gate);
+    if rest < 9 {
+        return Err(LogFault::Damaged);
+    }
+    let mut bytes = [0; 8];
+    read_from(disk, gate + 1, &mut bytes)?;
+    let size = match word_of(&bytes) {
+        Ok((size, _)) => size as usize,
+        Err(fault) => return Err(log_fault(fault)),
+    };
+    if rest - 9 < size {
+        return Err(LogFault::Damaged);
+    }
+    Ok(size)
+}
+
+/// The batch that so many bytes at this place spell.
+fn batch_from<D: Disk>(
+    alloc: Global,
+    disk: &mut D,
+    at: usize,
+    size: usize,
+) -> Result<Sequence<Entry>, LogFault>
+    ensures entries { (first : List Logged) → take size (drop at (D.seen disk.old)) ≡ batch first
+        → IsTrue (D.is_clean disk.new) → IsBatch first result }
+    ensures seen { D.seen disk.new ≡ D.seen disk.old }
+    ensures clean { IsTrue (D.is_clean disk.new) → IsTrue (D.is_clean disk.old) }
+    ensures crash { (c : List ℕ) → D.may_leave disk.new c → D.may_leave disk.old c }
+{
+    if size == 0 {
+        return Err(LogFault::Damaged);
+    }
+    let bytes = read_vec(alloc, disk, at, size)?;
+    match whole_batch(alloc, &bytes) {
+        Ok(entries) => Ok(entries),
+        Err(fault) => Err(log_fault(fault)),
+    }
+}
+
+/// The batch of the block that begins at this place, and the place behind it.
+pub(crate) fn block_at<D: Disk>(
+    alloc: Global,
+    disk: &mut D,
+    len: usize,
+    gate: usize,
+) -> Result<(Sequence<Entry>, usize), LogFault>
+    ensures block { (first : List Logged) (others : List (List Logged)) (back : List ℕ)
+        → drop gate (D.seen disk.old) ≡ blocks (first ∷ others) ++ back
+        → len ≡ length (D.seen disk.old)
+        → IsTrue (D.is_clean disk.new) → BlockIs first (gate + 9 + length (batch first)) result }
+    ensures fits { IfOk result (λ block. (gate < block.1) × (block.1 ≤ len)) }
+    ensures seen { D.seen disk.new ≡ D.seen disk.old }
+    ensures clean { IsTrue (D.is_clean disk.new) → IsTrue (D.is_clean disk.old) }
+    ensures crash { (c : List ℕ) → D.may_leave disk.new c → D.may_leave disk.old c }
+{
+    let size = size_at(disk, len, gate)?;
+    let at = gate + 9;
+    let entries = batch_from(alloc, disk, at, size)?;
+    Ok((entries, at + size))
+}

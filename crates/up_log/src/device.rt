@@ -1,0 +1,78 @@
+//! Reading and writing a part of a file.
+ghost use Rattle.std.specs.Prelude.{◌≡◌, ◌<◌, List, ℕ, length, take, drop, IfOk, IfErr, OnOk, IsTrue};
+ghost use Rattle.sqlite_disk.specs.Disk.{Holds, Torn, Only};
+ghost use Rattle.up_log.specs.Logs.{IsDamaged, IsRefusal};
+
+use crate::fault::LogFault;
+use sqlite_disk::Disk;
+use std::alloc::Global;
+
+/// Fills a buffer with the bytes that begin at this place.
+pub(crate) fn read_from<D: Disk>(disk: &mut D, at: usize, buf: &mut [u8]) -> Result<(), LogFault>
+    requires some { 0 < length buf.old }
+    ensures bytes { OnOk result (IsTrue (D.is_clean disk.new)
+        → buf.new ≡ take (length buf.old) (drop at (D.seen disk.old))) }
+    ensures fault { IfErr result (λ fault. IsDamaged fault → ⊥) }
+    ensures seen { D.seen disk.new ≡ D.seen disk.old }
+    ensures clean { IsTrue (D.is_clean disk.new) → IsTrue (D.is_clean disk.old) }
+    ensures crash { (c : List ℕ) → D.may_leave disk.new c → D.may_leave disk.old c }
+{
+    if !disk.may_be_used() {
+        return Err(LogFault::Broken);
+    }
+    disk.read_at(at, buf)?;
+    Ok(())
+}
+
+/// So many bytes that begin at this place.
+pub(crate) fn read_vec<D: Disk>(
+    alloc: Global,
+    disk: &mut D,
+    at: usize,
+    size: usize,
+) -> Result<Vec<u8>, LogFault>
+    requires some { 0 < size }
+    ensures bytes { IfOk result (λ bytes. IsTrue (D.is_clean disk.new)
+        → bytes.items ≡ take size (drop at (D.seen disk.old))) }
+    ensures fault { IfErr result (λ fault. IsDamaged fault → ⊥) }
+    ensures seen { D.seen disk.new ≡ D.seen disk.old }
+    ensures clean { IsTrue (D.is_clean disk.new) → IsTrue (D.is_clean disk.old) }
+    ensures crash { (c : List ℕ) → D.may_leave disk.new c → D.may_leave disk.old c }
+{
+    let mut bytes = vec![in alloc; 0; size]?;
+    read_from(disk, at, &mut bytes)?;
+    Ok(bytes)
+}
+
+/// How many bytes the file has.
+pub(crate) fn len_of<D: Disk>(disk: &mut D) -> Result<usize, LogFault>
+    ensures len { IfOk result (λ n. IsTrue (D.is_clean disk.new) → n ≡ length (D.seen disk.old)) }
+    ensures seen { D.seen disk.new ≡ D.seen disk.old }
+    ensures clean { IsTrue (D.is_clean disk.new) → IsTrue (D.is_clean disk.old) }
+    ensures crash { (c : List ℕ) → D.may_leave disk.new c → D.may_leave disk.old c }
+{
+    if !disk.may_be_used() {
+        return Err(LogFault::Broken);
+    }
+    Ok(disk.len()?)
+}
+
+/// Writes bytes at this place, so that they are on the disk at `Ok`.
+pub(crate) fn write_synced<D: Disk>(disk: &mut D, at: usize, bytes: &[u8]) -> Result<(), LogFault>
+    requires some { 0 < length bytes.now }
+    ensures written { OnOk result (Holds (D.seen disk.new) at bytes.now) }
+    ensures others { Torn at (length bytes.now) (D.seen disk.old) (D.seen disk.new) }
+    ensures synced { OnOk result (Only (D.seen disk.new) (D.may_leave disk.new)) }
+    ensures usable { OnOk result (IsTrue (D.is_usable disk.new)) }
+    ensures fault { IfErr result (λ fault. IsRefusal fault → ⊥) }
+    ensures calm { D.is_clean disk.new ≡ D.is_clean disk.old }
+    ensures crash { (c : List ℕ) → D.may_leave disk.new c
+        → (before : List ℕ) × D.may_leave disk.old before × Torn at (length bytes.now) before c }
+{
+    if !disk.may_be_used() {
+        return Err(LogFault::Broken);
+    }
+    disk.write_at(at, bytes)?;
+    disk.sync()?;
+    Ok(())
+}

@@ -1,0 +1,93 @@
+//! Why a log can't be read or written.
+ghost use Rattle.std.specs.Prelude.{◌≡◌};
+ghost use Rattle.up_log.specs.declared.fault.Unread.TheVariants.{Memory};
+ghost use Rattle.up_log.specs.declared.fault.LogFault.TheVariants as log_fault;
+
+use std::alloc::{AllocError, AllocFailed};
+use std::io;
+use thiserror::Error;
+
+/// Why a field isn't read from bytes.
+#[derive(Clone, Copy, Debug, PartialEq, Eq, Error)]
+pub enum Unread {
+    #[error("out of memory")]
+    Memory,
+    /// The bytes begin with no such field.
+    #[error("no such field")]
+    Damaged,
+}
+
+impl From<AllocError> for Unread {
+    ghost from_gives = { λ _ e. e ≡ Memory };
+
+    fn from(_: AllocError) -> Self {
+        Unread::Memory
+    }
+}
+
+impl<T: Drop> From<AllocFailed<T>> for Unread {
+    ghost from_gives = { λ _ e. e ≡ Memory };
+
+    fn from(_: AllocFailed<T>) -> Self {
+        Unread::Memory
+    }
+}
+
+/// Why a call of a log failed.
+#[derive(Clone, Copy, Debug, Error)]
+pub enum LogFault {
+    /// Out of memory. The call can be made again.
+    #[error("out of memory")]
+    Memory,
+    /// The file is no log. It is left as it is.
+    #[error("the file is no log of up")]
+    Foreign,
+    /// The log is of a version that this program doesn't know. It is left as it is.
+    #[error("the log has version {0}, and this program reads version 1")]
+    Version(u64),
+    /// The log is that of a server with another number of lanes. It is left as it is.
+    #[error("the log was made with {made} lanes, and is opened with {asked}")]
+    Lanes { made: u64, asked: u64 },
+    /// The log is that of a server with another largest size of an upload, in bytes. It is left as it is.
+    #[error("the log was made for uploads of at most {made} bytes, and is opened for {asked}")]
+    MaxSize { made: u64, asked: u64 },
+    /// A block behind an open gate holds no batch: the file was changed by something else, or its medium decays.
+    #[error("the log is damaged")]
+    Damaged,
+    /// Batches are left that were not read.
+    #[error("the log was not read to its end")]
+    NotRead,
+    /// Another server has the file open.
+    #[error("another server has the log open")]
+    Busy,
+    /// The disk failed, or is full.
+    #[error("the disk failed: {0}")]
+    Disk(io::Error),
+    /// An earlier call failed, so that the file has to be opened again.
+    #[error("an earlier write of the log failed")]
+    Broken,
+}
+
+impl From<AllocError> for LogFault {
+    ghost from_gives = { λ _ e. e ≡ log_fault.Memory };
+
+    fn from(_: AllocError) -> Self {
+        LogFault::Memory
+    }
+}
+
+impl<T: Drop> From<AllocFailed<T>> for LogFault {
+    ghost from_gives = { λ _ e. e ≡ log_fault.Memory };
+
+    fn from(_: AllocFailed<T>) -> Self {
+        LogFault::Memory
+    }
+}
+
+impl From<io::Error> for LogFault {
+    ghost from_gives = { λ error e. e ≡ log_fault.Disk error };
+
+    fn from(error: io::Error) -> Self {
+        LogFault::Disk(error)
+    }
+}

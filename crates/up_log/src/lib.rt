@@ -1,0 +1,23 @@
+//! A log of what is committed, on a disk, from which a book can be made again after a restart or a crash.
+#![tactic(auto)]
+
+mod appending;
+mod block;
+mod device;
+mod entry;
+mod fault;
+mod file;
+mod heading;
+mod reader;
+mod reading;
+mod setup;
+mod writing;
+
+pub use appending::Log;
+pub use entry::{Consent, Entry};
+pub use fault::{LogFault, Unread};
+pub use file::open_file;
+pub use reader::{LogReader, Refused};
+pub use reading::read_batch;
+pub use setup::Setup;
+pub use writing::spell_batch;

@@ -1,0 +1,157 @@
+//! Opening a log: its batches one after another, and then its end repaired.
+ghost use Rattle.std.specs.Prelude.{◌≡◌, ◌<◌, ◌++◌, [], List, ℕ, length, IfOk, IfSome, IfErr, OnOk, IsTrue};
+ghost use Rattle.sqlite_disk.specs.Disk.{Only};
+ghost use Rattle.up_log.specs.Blocks.{written, IsAtRest, IsFileOf, IsLog, IsOurs};
+ghost use Rattle.up_log.specs.Logs.{IsCleanLog, IsCleanReader, IsReading, IsRefusal, IsPart, IsSettled, ReadsNext, reader_leaves, log_leaves, unread};
+ghost use Rattle.up_log.specs.declared.entry.Entry.{Entry as Logged};
+ghost use Rattle.up_log.specs.declared.setup.Setup.{Setup as Numbers};
+
+use crate::appending::Log;
+use crate::block::{begins_at, block_at};
+use crate::device::write_synced;
+use crate::entry::Entry;
+use crate::fault::LogFault;
+use crate::heading::{BEGINNING, begin};
+use crate::setup::Setup;
+use sqlite_disk::Disk;
+use std::alloc::Global;
+use up_message::Sequence;
+
+/// A log that is being opened. Its batches are read one after another, so that no more than one of them is in memory.
+#[derive(Drop)]
+pub struct LogReader<D: Disk> {
+    pub(crate) device: D,
+    /// How many bytes the file has.
+    pub(crate) len: usize,
+    /// Where the next block begins.
+    pub(crate) gate: usize,
+}
+
+/// Why a log wasn't opened, and the file.
+#[derive(Drop)]
+pub struct Refused<D: Disk> {
+    pub fault: LogFault,
+    pub device: D,
+}
+
+/// Puts a closed gate behind the blocks, where a crash left no gate, or a gate and nothing behind it. Anything else is closed already.
+fn mend<D: Disk>(disk: &mut D, len: usize, gate: usize) -> Result<(), LogFault>
+    ensures mended { (setup : Numbers) (batches : List (List Logged))
+        → IsLog setup (D.seen disk.old) batches
+        → gate ≡ length (written setup batches) → len ≡ length (D.seen disk.old)
+        → Only (D.seen disk.old) (D.may_leave disk.old)
+        → OnOk result (IsAtRest setup (D.seen disk.new) batches
+        × Only (D.seen disk.new) (D.may_leave disk.new)) }
+    ensures crash { (setup : Numbers) (batches : List (List Logged))
+        → IsLog setup (D.seen disk.old) batches
+        → gate ≡ length (written setup batches) → len ≡ length (D.seen disk.old)
+        → Only (D.seen disk.old) (D.may_leave disk.old)
+        → (c : List ℕ) → D.may_leave disk.new c → IsLog setup c batches }
+    ensures usable { OnOk result (IsTrue (D.is_usable disk.new)) }
+    ensures calm { D.is_clean disk.new ≡ D.is_clean disk.old }
+{
+    if len > gate.saturating_add(1) {
+        if !disk.may_be_used() {
+            return Err(LogFault::Broken);
+        }
+        return Ok(());
+    }
+    write_synced(disk, gate, &[0])?;
+    Ok(())
+}
+
+/// Looks whether all blocks were read, and repairs the end behind them.
+fn end<D: Disk>(disk: &mut D, len: usize, gate: usize) -> Result<(), LogFault>
+    ensures settled { (setup : Numbers) (read left : List (List Logged))
+        → IsPart setup (D.seen disk.old) gate len read left
+        → Only (D.seen disk.old) (D.may_leave disk.old)
+        → OnOk result (IsTrue (D.is_clean disk.new) → (left ≡ [])
+        × IsAtRest setup (D.seen disk.new) read
+        × Only (D.seen disk.new) (D.may_leave disk.new)) }
+    ensures crash { (setup : Numbers) (read left : List (List Logged))
+        → IsPart setup (D.seen disk.old) gate len read left
+        → Only (D.seen disk.old) (D.may_leave disk.old)
+        → IsTrue (D.is_clean disk.new) → (c : List ℕ) → D.may_leave disk.new c
+        → IsLog setup c (read ++ left) }
+    ensures usable { OnOk result (IsTrue (D.is_usable disk.new)) }
+    ensures clean { IsTrue (D.is_clean disk.new) → IsTrue (D.is_clean disk.old) }
+{
+    if begins_at(disk, len, gate)? {
+        return Err(LogFault::NotRead);
+    }
+    mend(disk, len, gate)?;
+    Ok(())
+}
+
+impl<D: Disk> LogReader<D> {
+    /// Begins to open the log of a server of this setup. On a file with no heading yet, as an empty one, it is written.
+    pub fn open(alloc: Global, device: D, setup: Setup) -> Result<LogReader<D>, Refused<D>>
+        // What is no log of such a server isn't opened,
+        ensures ours { IfOk result (λ reader. IsCleanReader D.Disk reader
+            → IsOurs setup (D.seen device)) }
+        // and stays as it is.
+        ensures unchanged { IfErr result (λ refused. IsRefusal refused.fault
+            → (D.seen refused.device ≡ D.seen device)
+            × ((c : List ℕ) → D.may_leave refused.device c → D.may_leave device c)) }
+        ensures reads { (batches : List (List Logged)) → IsFileOf setup batches (D.seen device)
+            → Only (D.seen device) (D.may_leave device)
+            → IfOk result (λ reader. IsCleanReader D.Disk reader
+            → IsReading D.Disk reader setup [] batches) }
+        ensures crash { (batches : List (List Logged)) → IsFileOf setup batches (D.seen device)
+            → Only (D.seen device) (D.may_leave device)
+            → (c : List ℕ) → reader_leaves D.Disk result c → IsFileOf setup batches c }
+    {
+        let mut device = device;
+        match begin(alloc, &mut device, setup) {
+            Ok(len) => Ok(LogReader {
+                device,
+                len,
+                gate: BEGINNING,
+            }),
+            Err(fault) => Err(Refused { fault, device }),
+        }
+    }
+
+    /// The next batch, None at the end.
+    pub fn next_batch(&mut self, alloc: Global) -> Result<Option<Sequence<Entry>>, LogFault>
+        ensures reads { (setup : Numbers) (read left : List (List Logged))
+            → IsReading D.Disk self.old setup read left
+            → IsCleanReader D.Disk self.new → ReadsNext D.Disk self.new setup read left result }
+        ensures further { IfOk result (λ found. IfSome found (λ _.
+            unread self.new < unread self.old)) }
+        ensures seen { D.seen self.new.device ≡ D.seen self.old.device }
+        ensures clean { IsCleanReader D.Disk self.new → IsCleanReader D.Disk self.old }
+        ensures crash { (c : List ℕ) → D.may_leave self.new.device c
+            → D.may_leave self.old.device c }
+    {
+        if !begins_at(&mut self.device, self.len, self.gate)? {
+            return Ok(None);
+        }
+        let (entries, gate) = block_at(alloc, &mut self.device, self.len, self.gate)?;
+        self.gate = gate;
+        Ok(Some(entries))
+    }
+
+    /// The log, once all of its batches were read (`NotRead`).
+    pub fn finish(self) -> Result<Log<D>, Refused<D>>
+        ensures settled { (setup : Numbers) (read left : List (List Logged))
+            → IsReading D.Disk self setup read left
+            → IfOk result (λ log. IsCleanLog D.Disk log → (left ≡ [])
+            × IsSettled D.Disk log setup read) }
+        ensures clean { IfOk result (λ log. IsCleanLog D.Disk log → IsCleanReader D.Disk self) }
+        ensures crash { (setup : Numbers) (read left : List (List Logged))
+            → IsReading D.Disk self setup read left
+            → (c : List ℕ) → log_leaves D.Disk result c → IsLog setup c (read ++ left) }
+    {
+        let LogReader { device, len, gate } = self;
+        let mut device = device;
+        match end(&mut device, len, gate) {
+            Ok(()) => Ok(Log {
+                device,
+                gate,
+                is_broken: false,
+            }),
+            Err(fault) => Err(Refused { fault, device }),
+        }
+    }
+}

@@ -1,0 +1,327 @@
+//! Reading entries from their spelling.
+ghost use Rattle.std.specs.Prelude.{◌≡◌, ◌<◌, List, length, Some, IfOk};
+ghost use Rattle.up_log.specs.Spelling.{batch};
+ghost use Rattle.up_log.specs.Reading.{Gives, word_at, id_at, text_at, maybe_at, many_at, so_many_at, flag_at, kind_at, consent_at, declared_at, pair_at, new_upload_at, patch_at, asked_for_at, entry_at, batch_at, whole_at};
+ghost use Rattle.up_log.specs.declared.entry.Entry.{Entry as Logged};
+
+use crate::entry::{Consent, Entry};
+use crate::fault::Unread;
+use std::alloc::Global;
+use up_events::{Id, Kind};
+use up_headers::{NewUpload, NotDigits, Pairs, Patch, Request};
+use up_message::{Piece, Sequence};
+
+#[tactic(auto, unfolding(crate::specs::Reading::word_at))]
+pub(crate) fn word_of(bytes: &[u8]) -> Result<(u64, &[u8]), Unread>
+    ensures exact { Gives (λ x. (x.0, x.1.now)) result (word_at bytes.now) }
+    ensures shorter { IfOk result (λ x. length x.1.now < length bytes.now) }
+{
+    match bytes {
+        [a, b, c, d, e, f, g, h, rest @ ..] => {
+            let upper = u64::from(*e)
+                + 256 * (u64::from(*f) + 256 * (u64::from(*g) + 256 * u64::from(*h)));
+            let lower = u64::from(*a)
+                + 256
+                    * (u64::from(*b) + 256 * (u64::from(*c) + 256 * (u64::from(*d) + 256 * upper)));
+            Ok((lower, rest))
+        }
+        _ => Err(Unread::Damaged),
+    }
+}
+
+#[tactic(auto, unfolding(crate::specs::Reading::id_at))]
+fn number_of(bytes: &[u8]) -> Result<(u128, &[u8]), Unread>
+    ensures { Gives (λ x. (x.0, x.1.now)) result (id_at bytes.now) }
+{
+    let (low, rest) = word_of(bytes)?;
+    let (high, rest) = word_of(rest)?;
+    let number = u128::from(low) + (1 << 64) * u128::from(high);
+    Ok((number, rest))
+}
+
+#[tactic(auto, unfolding(crate::specs::Reading::text_at))]
+fn text_of(alloc: Global, bytes: &[u8]) -> Result<(Sequence<u8>, &[u8]), Unread>
+    ensures { Gives (λ x. (x.0, x.1.now)) result (text_at bytes.now) }
+{
+    let (count, rest) = word_of(bytes)?;
+    let count = count as usize;
+    if rest.len() < count {
+        return Err(Unread::Damaged);
+    }
+    let (text, rest) = rest.split_at(count);
+    Ok((Sequence::from_slice(alloc, text)?, rest))
+}
+
+fn piece_of(alloc: Global, bytes: &[u8]) -> Result<(Piece, &[u8]), Unread>
+    ensures { Gives (λ x. (x.0, x.1.now)) result (text_at bytes.now) }
+{
+    let (text, rest) = span_of(bytes)?;
+    Ok((Piece::copied(alloc, text)?, rest))
+}
+
+#[tactic(auto, unfolding(crate::specs::Reading::maybe_at))]
+fn length_of(bytes: &[u8]) -> Result<(Option<u64>, &[u8]), Unread>
+    ensures { Gives (λ x. (x.0, x.1.now)) result (maybe_at word_at bytes.now) }
+{
+    match bytes {
+        [0, rest @ ..] => Ok((None, rest)),
+        [1, rest @ ..] => {
+            let (n, rest) = word_of(rest)?;
+            Ok((Some(n), rest))
+        }
+        _ => Err(Unread::Damaged),
+    }
+}
+
+#[tactic(auto, unfolding(crate::specs::Reading::maybe_at))]
+fn some_text_of(alloc: Global, bytes: &[u8]) -> Result<(Option<Sequence<u8>>, &[u8]), Unread>
+    ensures { Gives (λ x. (x.0, x.1.now)) result (maybe_at text_at bytes.now) }
+{
+    match bytes {
+        [0, rest @ ..] => Ok((None, rest)),
+        [1, rest @ ..] => {
+            let (text, rest) = text_of(alloc, rest)?;
+            Ok((Some(text), rest))
+        }
+        _ => Err(Unread::Damaged),
+    }
+}
+
+#[tactic(auto, unfolding(crate::specs::Reading::flag_at))]
+fn flag_of(bytes: &[u8]) -> Result<(bool, &[u8]), Unread>
+    ensures { Gives (λ x. (x.0, x.1.now)) result (flag_at bytes.now) }
+{
+    match bytes {
+        [0, rest @ ..] => Ok((false, rest)),
+        [1, rest @ ..] => Ok((true, rest)),
+        _ => Err(Unread::Damaged),
+    }
+}
+
+#[tactic(auto, unfolding(crate::specs::Reading::kind_at))]
+fn kind_of(bytes: &[u8]) -> Result<(Kind, &[u8]), Unread>
+    ensures { Gives (λ x. (x.0, x.1.now)) result (kind_at bytes.now) }
+{
+    match bytes {
+        [0, rest @ ..] => Ok((Kind::Plain, rest)),
+        [1, rest @ ..] => Ok((Kind::Partial, rest)),
+        [2, rest @ ..] => Ok((Kind::Final, rest)),
+        _ => Err(Unread::Damaged),
+    }
+}
+
+#[tactic(auto, unfolding(crate::specs::Reading::consent_at))]
+fn consent_of(bytes: &[u8]) -> Result<(Consent, &[u8]), Unread>
+    ensures { Gives (λ x. (x.0, x.1.now)) result (consent_at bytes.now) }
+{
+    match bytes {
+        [0, rest @ ..] => Ok((Consent::Skipped, rest)),
+        [1, rest @ ..] => Ok((Consent::Allowed, rest)),
+        [2, rest @ ..] => Ok((Consent::AllowedFinish, rest)),
+        _ => Err(Unread::Damaged),
+    }
+}
+
+#[tactic(auto, unfolding(crate::specs::Reading::declared_at))]
+fn declared_of(bytes: &[u8]) -> Result<(Option<Result<u64, NotDigits>>, &[u8]), Unread>
+    ensures { Gives (λ x. (x.0, x.1.now)) result (declared_at bytes.now) }
+{
+    match bytes {
+        [0, rest @ ..] => Ok((None, rest)),
+        [1, rest @ ..] => {
+            let (n, rest) = word_of(rest)?;
+            Ok((Some(Ok(n)), rest))
+        }
+        [2, rest @ ..] => Ok((Some(Err(NotDigits)), rest)),
+        _ => Err(Unread::Damaged),
+    }
+}
+
+#[tactic(auto, unfolding(crate::specs::Reading::pair_at))]
+fn pair_of(alloc: Global, bytes: &[u8]) -> Result<((Sequence<u8>, Sequence<u8>), &[u8]), Unread>
+    ensures { Gives (λ x. (x.0, x.1.now)) result (pair_at bytes.now) }
+{
+    let (key, rest) = text_of(alloc, bytes)?;
+    let (value, rest) = text_of(alloc, rest)?;
+    Ok(((key, value), rest))
+}
+
+fn so_many_ids(alloc: Global, count: u64, bytes: &[u8]) -> Result<(Sequence<Id>, &[u8]), Unread>
+    ensures { Gives (λ x. (x.0, x.1.now)) result (so_many_at id_at count bytes.now) }
+{
+    let mut ids = Sequence::new(alloc);
+    let mut rest = bytes;
+    for _ in 0..count {
+        let (number, after) = number_of(rest)?;
+        ids.push(Id::new(number))?;
+        rest = after;
+    }
+    Ok((ids, rest))
+}
+
+fn so_many_pairs(alloc: Global, count: u64, bytes: &[u8]) -> Result<(Pairs, &[u8]), Unread>
+    ensures { Gives (λ x. (x.0, x.1.now)) result (so_many_at pair_at count bytes.now) }
+{
+    let mut pairs = Sequence::new(alloc);
+    let mut rest = bytes;
+    for _ in 0..count {
+        let (pair, after) = pair_of(alloc, rest)?;
+        pairs.push(pair)?;
+        rest = after;
+    }
+    Ok((pairs, rest))
+}
+
+#[tactic(auto, unfolding(crate::specs::Reading::many_at))]
+fn ids_of(alloc: Global, bytes: &[u8]) -> Result<(Sequence<Id>, &[u8]), Unread>
+    ensures { Gives (λ x. (x.0, x.1.now)) result (many_at id_at bytes.now) }
+{
+    let (count, rest) = word_of(bytes)?;
+    so_many_ids(alloc, count, rest)
+}
+
+#[tactic(auto, unfolding(crate::specs::Reading::many_at))]
+fn pairs_of(alloc: Global, bytes: &[u8]) -> Result<(Pairs, &[u8]), Unread>
+    ensures { Gives (λ x. (x.0, x.1.now)) result (many_at pair_at bytes.now) }
+{
+    let (count, rest) = word_of(bytes)?;
+    so_many_pairs(alloc, count, rest)
+}
+
+#[tactic(auto, unfolding(crate::specs::Reading::new_upload_at))]
+fn new_upload_of(alloc: Global, bytes: &[u8]) -> Result<(NewUpload, &[u8]), Unread>
+    ensures { Gives (λ x. (x.0, x.1.now)) result (new_upload_at bytes.now) }
+{
+    let (kind, rest) = kind_of(bytes)?;
+    let (length, rest) = length_of(rest)?;
+    let (parts, rest) = ids_of(alloc, rest)?;
+    let (pairs, rest) = pairs_of(alloc, rest)?;
+    let (metadata, rest) = some_text_of(alloc, rest)?;
+    let (concat, rest) = some_text_of(alloc, rest)?;
+    let new = NewUpload {
+        kind,
+        length,
+        parts,
+        pairs,
+        metadata,
+        concat,
+    };
+    Ok((new, rest))
+}
+
+#[tactic(auto, unfolding(crate::specs::Reading::patch_at))]
+fn patch_of(alloc: Global, bytes: &[u8]) -> Result<(Patch, &[u8]), Unread>
+    ensures { Gives (λ x. (x.0, x.1.now)) result (patch_at bytes.now) }
+{
+    let (number, rest) = number_of(bytes)?;
+    let (media, rest) = flag_of(rest)?;
+    let (offset, rest) = length_of(rest)?;
+    let (length, rest) = declared_of(rest)?;
+    let (bytes, rest) = piece_of(alloc, rest)?;
+    let patch = Patch {
+        id: Id::new(number),
+        media,
+        offset,
+        length,
+        bytes,
+    };
+    Ok((patch, rest))
+}
+
+#[tactic(auto, unfolding(crate::specs::Reading::asked_for_at))]
+fn request_of(alloc: Global, bytes: &[u8]) -> Result<(Request, &[u8]), Unread>
+    ensures { Gives (λ x. (x.0, x.1.now)) result (asked_for_at bytes.now) }
+{
+    match bytes {
+        [0, rest @ ..] => Ok((Request::Options, rest)),
+        [1, rest @ ..] => {
+            let (new, rest) = new_upload_of(alloc, rest)?;
+            Ok((Request::Create(new), rest))
+        }
+        [2, rest @ ..] => {
+            let (number, rest) = number_of(rest)?;
+            Ok((Request::Head(Id::new(number)), rest))
+        }
+        [3, rest @ ..] => {
+            let (patch, rest) = patch_of(alloc, rest)?;
+            Ok((Request::Patch(patch), rest))
+        }
+        [4, rest @ ..] => {
+            let (number, rest) = number_of(rest)?;
+            Ok((Request::Delete(Id::new(number)), rest))
+        }
+        [5, rest @ ..] => {
+            let (number, rest) = number_of(rest)?;
+            Ok((Request::Get(Id::new(number)), rest))
+        }
+        _ => Err(Unread::Damaged),
+    }
+}
+
+#[tactic(auto, unfolding(crate::specs::Reading::entry_at))]
+fn entry_of(alloc: Global, bytes: &[u8]) -> Result<(Entry, &[u8]), Unread>
+    ensures { Gives (λ x. (x.0, x.1.now)) result (entry_at bytes.now) }
+{
+    let (number, rest) = number_of(bytes)?;
+    let (consent, rest) = consent_of(rest)?;
+    let (request, rest) = request_of(alloc, rest)?;
+    let entry = Entry {
+        id: Id::new(number),
+        consent,
+        request,
+    };
+    Ok((entry, rest))
+}
+
+fn so_many_entries(
+    alloc: Global,
+    count: u64,
+    bytes: &[u8],
+) -> Result<(Sequence<Entry>, &[u8]), Unread>
+    ensures { Gives (λ x. (x.0, x.1.now)) result (so_many_at entry_at count bytes.now) }
+{
+    let mut entries = Sequence::new(alloc);
+    let mut rest = bytes;
+    for _ in 0..count {
+        let (entry, after) = entry_of(alloc, rest)?;
+        entries.push(entry)?;
+        rest = after;
+    }
+    Ok((entries, rest))
+}
+
+/// So many bytes, which are not copied.
+#[tactic(auto, unfolding(crate::specs::Reading::text_at))]
+fn span_of(bytes: &[u8]) -> Result<(&[u8], &[u8]), Unread>
+    ensures exact { Gives (λ x. (x.0.now, x.1.now)) result (text_at bytes.now) }
+    ensures shorter { IfOk result (λ x. length x.1.now < length bytes.now) }
+{
+    let (count, rest) = word_of(bytes)?;
+    let count = count as usize;
+    if rest.len() < count {
+        return Err(Unread::Damaged);
+    }
+    Ok(rest.split_at(count))
+}
+
+/// The batch that these bytes spell.
+#[tactic(auto, unfolding(crate::specs::Reading::whole_at))]
+pub(crate) fn whole_batch(alloc: Global, bytes: &[u8]) -> Result<Sequence<Entry>, Unread>
+    ensures { Gives (λ x. x) result (whole_at bytes.now) }
+{
+    let (entries, rest) = read_batch(alloc, bytes)?;
+    if !rest.is_empty() {
+        return Err(Unread::Damaged);
+    }
+    Ok(entries)
+}
+
+/// The entries that bytes begin with, and the bytes after them.
+#[tactic(auto, unfolding(crate::specs::Reading::batch_at, crate::specs::Reading::many_at))]
+pub fn read_batch(alloc: Global, bytes: &[u8]) -> Result<(Sequence<Entry>, &[u8]), Unread>
+    // What they are.
+    ensures exact { Gives (λ x. (x.0, x.1.now)) result (batch_at bytes.now) }
+{
+    let (count, rest) = word_of(bytes)?;
+    so_many_entries(alloc, count, rest)
+}

@@ -1,0 +1,261 @@
+//! The one spelling of entries.
+ghost use Rattle.std.specs.Prelude.{◌≡◌, ◌≤◌, ◌++◌, ◌∷◌, [], length, drop, IfOk, OnOk};
+ghost use Rattle.std.specs.Option.{option_map};
+ghost use Rattle.up_log.specs.Blocks.{body};
+ghost use Rattle.up_log.specs.Spelling.{word, id, text, maybe, many, flag, kind, consent, declared, pair, new_upload, patch, asked_for, entry, batch};
+
+use crate::entry::{Consent, Entry};
+use std::alloc::{AllocError, Global};
+use up_events::{Id, Kind};
+use up_headers::{NewUpload, NotDigits, Pairs, Patch, Request};
+use up_message::{Piece, Sequence};
+
+#[tactic(auto, unfolding(crate::specs::Spelling::word))]
+pub(crate) fn word_of(n: u64) -> [u8; 8]
+    ensures { result ≡ word n }
+{
+    let a = n / 256;
+    let b = a / 256;
+    let c = b / 256;
+    let d = c / 256;
+    let e = d / 256;
+    let f = e / 256;
+    let g = f / 256;
+    [
+        (n % 256) as u8,
+        (a % 256) as u8,
+        (b % 256) as u8,
+        (c % 256) as u8,
+        (d % 256) as u8,
+        (e % 256) as u8,
+        (f % 256) as u8,
+        g as u8,
+    ]
+}
+
+fn put_word(out: &mut Vec<u8>, n: u64) -> Result<(), AllocError>
+    ensures { OnOk result (out.new.items ≡ out.old.items ++ word n) }
+{
+    out.extend_from_slice(&word_of(n))
+}
+
+fn put_id(out: &mut Vec<u8>, upload: Id) -> Result<(), AllocError>
+    ensures { OnOk result (out.new.items ≡ out.old.items ++ id upload) }
+{
+    let number = upload.number();
+    put_word(out, (number % (1 << 64)) as u64)?;
+    put_word(out, (number / (1 << 64)) as u64)
+}
+
+fn put_text(out: &mut Vec<u8>, bytes: &Sequence<u8>) -> Result<(), AllocError>
+    ensures { OnOk result (out.new.items ≡ out.old.items ++ text bytes.now) }
+{
+    put_word(out, bytes.len() as u64)?;
+    out.extend_from_slice(bytes.as_slice())
+}
+
+fn put_piece(out: &mut Vec<u8>, bytes: &Piece) -> Result<(), AllocError>
+    ensures { OnOk result (out.new.items ≡ out.old.items ++ text bytes.now) }
+{
+    put_word(out, bytes.len() as u64)?;
+    out.extend_from_slice(bytes.as_slice())
+}
+
+fn put_length(out: &mut Vec<u8>, length: Option<u64>) -> Result<(), AllocError>
+    ensures { OnOk result (out.new.items ≡ out.old.items ++ maybe word length) }
+{
+    match length {
+        None => Ok(out.push(0)?),
+        Some(n) => {
+            out.push(1)?;
+            put_word(out, n)
+        }
+    }
+}
+
+fn put_some_text(out: &mut Vec<u8>, sent: &Option<Sequence<u8>>) -> Result<(), AllocError>
+    ensures { OnOk result (out.new.items ≡ out.old.items ++ maybe text sent.now) }
+{
+    match sent {
+        None => Ok(out.push(0)?),
+        Some(bytes) => {
+            out.push(1)?;
+            put_text(out, bytes)
+        }
+    }
+}
+
+fn put_flag(out: &mut Vec<u8>, holds: bool) -> Result<(), AllocError>
+    ensures { OnOk result (out.new.items ≡ out.old.items ++ flag holds) }
+{
+    Ok(out.push(if holds { 1 } else { 0 })?)
+}
+
+fn put_kind(out: &mut Vec<u8>, of: Kind) -> Result<(), AllocError>
+    ensures { OnOk result (out.new.items ≡ out.old.items ++ kind of) }
+{
+    Ok(out.push(match of {
+        Kind::Plain => 0,
+        Kind::Partial => 1,
+        Kind::Final => 2,
+    })?)
+}
+
+fn put_consent(out: &mut Vec<u8>, given: Consent) -> Result<(), AllocError>
+    ensures { OnOk result (out.new.items ≡ out.old.items ++ consent given) }
+{
+    Ok(out.push(match given {
+        Consent::Skipped => 0,
+        Consent::Allowed => 1,
+        Consent::AllowedFinish => 2,
+    })?)
+}
+
+fn put_declared(out: &mut Vec<u8>, length: Option<Result<u64, NotDigits>>) -> Result<(), AllocError>
+    ensures { OnOk result (out.new.items ≡ out.old.items ++ declared length) }
+{
+    match length {
+        None => Ok(out.push(0)?),
+        Some(Ok(n)) => {
+            out.push(1)?;
+            put_word(out, n)
+        }
+        Some(Err(_)) => Ok(out.push(2)?),
+    }
+}
+
+fn put_ids(out: &mut Vec<u8>, ids: &[Id]) -> Result<(), AllocError>
+    ensures { OnOk result (out.new.items ≡ out.old.items ++ many id ids.now) }
+{
+    put_word(out, ids.len() as u64)?;
+    for upload in ids {
+        put_id(out, *upload)?;
+    }
+    Ok(())
+}
+
+fn put_pair(out: &mut Vec<u8>, both: &(Sequence<u8>, Sequence<u8>)) -> Result<(), AllocError>
+    ensures { OnOk result (out.new.items ≡ out.old.items ++ pair both.now) }
+{
+    put_text(out, &both.0)?;
+    put_text(out, &both.1)
+}
+
+fn put_pairs(out: &mut Vec<u8>, pairs: &[(Sequence<u8>, Sequence<u8>)]) -> Result<(), AllocError>
+    ensures { OnOk result (out.new.items ≡ out.old.items ++ many pair pairs.now) }
+{
+    put_word(out, pairs.len() as u64)?;
+    for both in pairs {
+        put_pair(out, both)?;
+    }
+    Ok(())
+}
+
+fn put_new_upload(out: &mut Vec<u8>, new: &NewUpload) -> Result<(), AllocError>
+    ensures { OnOk result (out.new.items ≡ out.old.items ++ new_upload new.now) }
+{
+    put_kind(out, new.kind)?;
+    put_length(out, new.length)?;
+    put_ids(out, new.parts.as_slice())?;
+    put_pairs(out, new.pairs.as_slice())?;
+    put_some_text(out, &new.metadata)?;
+    put_some_text(out, &new.concat)
+}
+
+fn put_patch(out: &mut Vec<u8>, sent: &Patch) -> Result<(), AllocError>
+    ensures { OnOk result (out.new.items ≡ out.old.items ++ patch sent.now) }
+{
+    put_id(out, sent.id)?;
+    put_flag(out, sent.media)?;
+    put_length(out, sent.offset)?;
+    put_declared(out, sent.length)?;
+    put_piece(out, &sent.bytes)
+}
+
+fn put_request(out: &mut Vec<u8>, request: &Request) -> Result<(), AllocError>
+    ensures { OnOk result (out.new.items ≡ out.old.items ++ asked_for request.now) }
+{
+    match request {
+        Request::Options => Ok(out.push(0)?),
+        Request::Create(new) => {
+            out.push(1)?;
+            put_new_upload(out, new)
+        }
+        Request::Head(upload) => {
+            out.push(2)?;
+            put_id(out, *upload)
+        }
+        Request::Patch(sent) => {
+            out.push(3)?;
+            put_patch(out, sent)
+        }
+        Request::Delete(upload) => {
+            out.push(4)?;
+            put_id(out, *upload)
+        }
+        Request::Get(upload) => {
+            out.push(5)?;
+            put_id(out, *upload)
+        }
+    }
+}
+
+fn put_entry(out: &mut Vec<u8>, logged: &Entry) -> Result<(), AllocError>
+    ensures { OnOk result (out.new.items ≡ out.old.items ++ entry logged.now) }
+{
+    put_id(out, logged.id)?;
+    put_consent(out, logged.consent)?;
+    put_request(out, &logged.request)
+}
+
+fn put_batch(out: &mut Vec<u8>, entries: &[Entry]) -> Result<(), AllocError>
+    ensures { OnOk result (out.new.items ≡ out.old.items ++ batch entries.now) }
+{
+    put_word(out, entries.len() as u64)?;
+    for logged in entries {
+        put_entry(out, logged)?;
+    }
+    Ok(())
+}
+
+/// The one spelling of a batch of entries.
+pub fn spell_batch(alloc: Global, entries: &[Entry]) -> Result<Vec<u8>, AllocError>
+    ensures { IfOk result (λ bytes. bytes.items ≡ batch entries.now) }
+{
+    let mut out = Vec::new(alloc);
+    put_batch(&mut out, entries)?;
+    Ok(out)
+}
+
+/// About how many bytes a batch takes: what is spelled into so much room is mostly not moved.
+fn room_for(entries: &[Entry]) -> usize {
+    let mut room: usize = 17;
+    for logged in entries {
+        room = room.saturating_add(match &logged.request {
+            Request::Patch(sent) => sent.bytes.len().saturating_add(64),
+            _ => 256,
+        });
+    }
+    room
+}
+
+/// Writes over the first bytes.
+fn put_front(bytes: &mut [u8], front: &[u8])
+    requires within { length front.now ≤ length bytes.old }
+    ensures { bytes.new ≡ front.now ++ drop (length front.now) bytes.old }
+{
+    bytes[..front.len()].copy_from_slice(front);
+}
+
+/// The body of a block, and behind it the next gate, which is closed.
+pub(crate) fn closed_body(alloc: Global, entries: &[Entry]) -> Result<Vec<u8>, AllocError>
+    ensures { IfOk result (λ bytes. bytes.items ≡ body entries.now ++ 0 ∷ []) }
+{
+    let mut out = Vec::with_capacity(alloc, room_for(entries))?;
+    out.extend_from_slice(&[0; 8])?;
+    put_batch(&mut out, entries)?;
+    let size = out.len() - 8;
+    put_front(&mut out, &word_of(size as u64));
+    out.push(0)?;
+    Ok(out)
+}

@@ -1,0 +1,51 @@
+//! Disks that fail, and crash.
+use crate::logs::{PAIR, entries_of, read};
+use sqlite_disk::{Crash, Fuse, Memory};
+use std::alloc::Global;
+use std::test::Fail;
+use up_log::{Entry, Log, LogFault};
+
+/// A log on a disk that fails from some call on; None if it fails before the log is open.
+fn opened(alloc: Global, calls: u64) -> Option<Log<Fuse<Memory>>> {
+    match read(alloc, Fuse::new(Memory::new(alloc), calls)) {
+        Ok((log, _)) => Some(log),
+        Err(_) => None,
+    }
+}
+
+/// Whether a batch is added. A log that failed takes no more.
+fn is_added(alloc: Global, log: &mut Log<Fuse<Memory>>, entries: &[Entry]) -> Option<bool> {
+    if log.append(alloc, entries).is_ok() {
+        return Some(true);
+    }
+    match log.append(alloc, entries) {
+        Err(LogFault::Broken) => Some(false),
+        _ => None,
+    }
+}
+
+/// How many batches a crash leaves.
+fn left(alloc: Global, log: Log<Fuse<Memory>>) -> Result<u64, LogFault> {
+    let mut disk = log.into_device();
+    disk.crash();
+    let (_, count) = read(alloc, disk)?;
+    Ok(count)
+}
+
+#[test]
+fn a_batch_is_whole_or_not_there(rt: HostRuntime) -> Result<(), Fail> {
+    let alloc = rt.alloc();
+    let entries = entries_of(alloc, &PAIR)?;
+    let mut is_any = false;
+    for calls in 0..30 {
+        let Some(mut log) = opened(alloc, calls) else {
+            continue;
+        };
+        let added = is_added(alloc, &mut log, &entries);
+        let count = left(alloc, log)?;
+        assert_eq!(rt; Some(count > 0), added, "after {calls} calls");
+        is_any = is_any || count > 0;
+    }
+    assert!(rt; is_any);
+    Ok(())
+}

@@ -1,0 +1,148 @@
+//! Files that a crash left, files that are refused, and a file of the system.
+use crate::logs::{PAIR, SETUP, batches_of, disk_of, entries_of, log_of, read};
+use sqlite_std_file::Unknown;
+use std::alloc::Global;
+use std::fs;
+use std::test::Fail;
+use up_log::{LogFault, LogReader, Setup, open_file};
+
+/// How many batches a file has, and how many it has with one more.
+fn counts(alloc: Global, bytes: &[u8]) -> Result<(u64, u64), LogFault> {
+    let (mut log, count) = read(alloc, disk_of(alloc, bytes)?)?;
+    log.append(alloc, &entries_of(alloc, &PAIR)?)?;
+    let (_, again) = read(alloc, log.into_device())?;
+    Ok((count, again))
+}
+
+/// So many of the bytes, and one of them another.
+fn changed(
+    bytes: &[u8],
+    alloc: Global,
+    left: usize,
+    place: usize,
+    byte: u8,
+) -> Result<Vec<u8>, LogFault> {
+    let mut copy = Vec::from_slice(alloc, bytes)?;
+    copy.truncate(left);
+    if place < copy.len() {
+        copy[place] = byte;
+    }
+    Ok(copy)
+}
+
+#[test]
+fn a_crash_leaves_whole_batches(rt: HostRuntime) -> Result<(), Fail> {
+    let alloc = rt.alloc();
+    let three = log_of(alloc, 3)?;
+    let two = log_of(alloc, 2)?.len();
+    let end = three.len();
+    if two == 0 || end == 0 {
+        return Err(Fail::new("no log"));
+    }
+    // So many bytes are left of the file, of which the one at this place is another.
+    let gate = two - 1;
+    for (left, place, byte, want) in [
+        (end, end - 1, 0, 3u64),
+        (end - 1, gate, 1, 3),
+        (end, gate, 0, 2),
+        (end, gate, 7, 2),
+        (gate.min(1000) + 20, gate, 0, 2),
+        (two, gate, 1, 2),
+        (gate, 0, 1, 2),
+        (34, 33, 0, 0),
+        (20, 0, 0, 0),
+        (1, 0, 9, 0),
+        (0, 0, 9, 0),
+    ] {
+        let found = counts(alloc, &changed(&three, alloc, left, place, byte)?)?;
+        assert_eq!(rt;
+            found,
+            (want, want.saturating_add(1)),
+            "{left} bytes, {byte} at {place}"
+        );
+    }
+    let torn = changed(&log_of(alloc, 0)?, alloc, 34, 0, 7)?;
+    assert_eq!(rt; counts(alloc, &torn)?, (0, 1));
+    Ok(())
+}
+
+/// What a file is refused for, where it is left as it was.
+fn refusal(alloc: Global, bytes: &[u8], setup: Setup) -> Result<Option<LogFault>, LogFault> {
+    match LogReader::open(alloc, disk_of(alloc, bytes)?, setup) {
+        Ok(_) => Ok(None),
+        Err(refused) => {
+            if refused.device.bytes() != bytes {
+                return Ok(None);
+            }
+            Ok(Some(refused.fault))
+        }
+    }
+}
+
+/// Whether a file is refused in these words, and left as it was.
+fn is_refused(alloc: Global, bytes: &[u8], setup: Setup, want: &str) -> Result<bool, LogFault> {
+    match refusal(alloc, bytes, setup)? {
+        Some(fault) => Ok(format!(in alloc; "{fault}")?.as_str() == want),
+        None => Ok(false),
+    }
+}
+
+#[test]
+fn another_file_is_left_as_it_is(rt: HostRuntime) -> Result<(), Fail> {
+    let alloc = rt.alloc();
+    let foreign = "the file is no log of up";
+    assert!(rt; is_refused(alloc, b"no log", SETUP, foreign)?);
+    assert!(rt;
+        is_refused(
+            alloc,
+            b"\0, and behind it more than a heading takes",
+            SETUP,
+            foreign
+        )?
+    );
+    let log = log_of(alloc, 1)?;
+    let lanes = Setup { lanes: 3, ..SETUP };
+    let want = "the log was made with 2 lanes, and is opened with 3";
+    assert!(rt; is_refused(alloc, &log, lanes, want)?);
+    let size = Setup {
+        max_size: 1001,
+        ..SETUP
+    };
+    let want = "the log was made for uploads of at most 1000 bytes, and is opened for 1001";
+    assert!(rt; is_refused(alloc, &log, size, want)?);
+    let next = changed(&log, alloc, log.len(), 9, 2)?;
+    let want = "the log has version 2, and this program reads version 1";
+    assert!(rt; is_refused(alloc, &next, SETUP, want)?);
+    Ok(())
+}
+
+/// Makes a log of one batch in a file, and says whether it is `Busy` until it is dropped.
+fn is_busy(rt: &HostRuntime, path: &str) -> Result<bool, LogFault> {
+    let reader = open_file(rt, path, Unknown, SETUP)?;
+    let mut log = match reader.finish() {
+        Ok(log) => log,
+        Err(refused) => return Err(refused.fault),
+    };
+    log.append(rt.alloc(), &entries_of(rt.alloc(), &PAIR)?)?;
+    Ok(matches!(open_file(rt, path, Unknown, SETUP), Err(LogFault::Busy)))
+}
+
+/// How many batches the log in a file has.
+fn count_of(rt: &HostRuntime, path: &str) -> Result<u64, LogFault> {
+    let mut reader = open_file(rt, path, Unknown, SETUP)?;
+    batches_of(rt.alloc(), &mut reader)
+}
+
+#[test]
+fn a_file_is_open_once(rt: HostRuntime) -> Result<(), Fail> {
+    let path = "up_log_tests_file/log";
+    let _ = fs::remove_dir_all(&rt, "up_log_tests_file");
+    fs::create_dir(&rt, "up_log_tests_file")?;
+    assert!(rt; is_busy(&rt, path)?);
+    assert_eq!(rt; count_of(&rt, path)?, 1);
+    fs::write(&rt, path, b"no log".as_slice())?;
+    assert!(rt; matches!(count_of(&rt, path), Err(LogFault::Foreign)));
+    assert_eq!(rt; fs::read(&rt, path)?.as_slice(), b"no log".as_slice());
+    fs::remove_dir_all(&rt, "up_log_tests_file")?;
+    Ok(())
+}

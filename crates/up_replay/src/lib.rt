@@ -1,0 +1,10 @@
+//! A book that is made again from the entries of a log.
+#![tactic(auto)]
+
+mod law;
+mod replaying;
+mod restoring;
+
+pub use law::replays_begin_alike;
+pub use replaying::{Unreplayed, replay};
+pub use restoring::{Unrestored, restore};

@@ -1,0 +1,80 @@
+//! Committing the entries of a log again.
+ghost use Rattle.std.specs.Prelude.{◌≡◌, IfOk, OnOk, OnErr, List, ℕ, take, IsTrue, ◌↔◌};
+ghost use Rattle.up_headers.specs.Table.{FitsWithin};
+ghost use Rattle.up_replay.specs.Replay.{asked_of, replayed, replayed_one};
+
+use std::alloc::Global;
+use thiserror::Error;
+use up_events::MOST_BYTES;
+use up_headers::Request;
+use up_log::{Consent, Entry};
+use up_machine::{Asked, Book, Refusal, Remains};
+use up_message::Sequence;
+
+/// Why entries can't be committed again.
+#[derive(Clone, Copy, Debug, PartialEq, Eq, Error)]
+pub enum Unreplayed {
+    /// Out of memory. More memory, or a smaller log, helps.
+    #[error("out of memory")]
+    Memory,
+    /// An upload is to be made that is longer than any may be: no server wrote this log.
+    #[error("an upload of the log is longer than any may be")]
+    TooLong,
+}
+
+fn asked_of(consent: Consent) -> Asked
+    ensures { result ≡ asked_of consent }
+{
+    match consent {
+        Consent::Skipped => Asked::Skipped,
+        Consent::Allowed => Asked::Allowed,
+        Consent::AllowedFinish => Asked::AllowedFinish,
+    }
+}
+
+/// Whether a request is one of those that a server takes: it makes no upload that is longer than any may be.
+fn fits(request: &Request) -> bool
+    ensures { IsTrue result ↔ FitsWithin MOST_BYTES request.now }
+{
+    match request {
+        Request::Create(new) => match new.length {
+            Some(length) => length <= MOST_BYTES,
+            None => true,
+        },
+        _ => true,
+    }
+}
+
+/// Commits an entry again. What refuses it refused it before, too.
+fn replay_one(alloc: Global, book: &mut Book, entry: Entry) -> Result<(), Unreplayed>
+    ensures ok { OnOk result (book.new ≡ replayed_one book.old entry) }
+    ensures err { OnErr result (book.new ≡ book.old) }
+{
+    let Entry {
+        id,
+        consent,
+        request,
+    } = entry;
+    if !fits(&request) {
+        return Err(Unreplayed::TooLong);
+    }
+    let mut remains = Remains::new();
+    match book.commit(alloc, request, id, &asked_of(consent), &mut remains) {
+        Ok(_) => Ok(()),
+        Err(Refusal::NoMemory) => Err(Unreplayed::Memory),
+        Err(_) => Ok(()),
+    }
+}
+
+/// Commits the entries of a log again, in order: the book is then the one that they define, with the same uploads, changes, events and
+/// refusals. An entry that is refused, as a second creation with one id, changes nothing.
+pub fn replay(alloc: Global, book: &mut Book, entries: Sequence<Entry>) -> Result<(), Unreplayed>
+    ensures { OnOk result (book.new ≡ replayed book.old entries) }
+{
+    let mut rest = entries.into_vec();
+    rest.reverse();
+    while let Some(entry) = rest.pop() {
+        replay_one(alloc, book, entry)?;
+    }
+    Ok(())
+}
