@@ -1,13 +1,21 @@
-"""What `tests/clients` tries with nginx in front of the server. Its lines are those of the part "In front of it" of
-docs/RUNNING.md, with other ports, so what that says is what is tried.
+"""What `tests/clients` tries with nginx in front of the server, and that nginx, which `tests/browser` has too. Its lines are
+those of examples/browser/nginx.conf, with other ports and paths, so what people copy is what is tried.
 """
 import contextlib
+import http.server
 import os
+import ssl
+import subprocess
+import threading
 import time
+import types
 
-from serving import ROOT, Connection, NginxServer, Server, head, patch, same, soon
+from serving import ROOT, Connection, NginxServer, Server, free_port, head, patch, same, soon
 
-PART = "\n## In front of it\n"
+EXAMPLE = os.path.join(ROOT, "examples", "browser")
+
+# What the lines of the example say of whom to ask, and what has nginx do so.
+ASKED, ASKS = "# auth_request /may;", "auth_request /may;"
 
 # How many requests are sent where more than a conversation's 10,000 are to come, and how many a client sends over one
 # connection, which nginx ends behind the 1,000th.
@@ -15,6 +23,9 @@ MANY, AT_A_TIME = 10_500, 500
 
 # The bytes of an upload that is more than sockets hold.
 LARGE = 32 << 20
+
+# The most bytes of a body that the lines let through, which are what `--max-size` may say at most.
+MOST = 1 << 30
 
 # What a page of another origin needs of nginx in each answer, and what it must be let send and read.
 CORS = [f"access-control-{name}" for name in "allow-headers allow-methods allow-origin expose-headers max-age".split()]
@@ -24,32 +35,89 @@ READ = "location tus-extension tus-max-size tus-version upload-length upload-off
 
 def replaced(text, old, new):
     """The text with other words in place of these, which stand in it once."""
-    same(text.count(old), 1, f"how often docs/RUNNING.md says {old!r}")
+    same(text.count(old), 1, f"how often examples/browser/nginx.conf says {old!r}")
     return text.replace(old, new)
 
 
 def documented():
-    """The lines that docs/RUNNING.md has for the `http` block."""
-    with open(os.path.join(ROOT, "docs", "RUNNING.md"), encoding="utf-8") as file:
-        part = file.read().partition(PART)[2].partition("\n## ")[0]
-    return "\n".join(line for line in part.splitlines() if line.startswith("    "))
+    """The lines that the example has for the `http` block."""
+    with open(os.path.join(EXAMPLE, "nginx.conf"), encoding="ascii") as file:
+        return file.read()
 
 
-def nginx(server, *changes):
-    """An nginx in front of this server as the document has it, but for the ports and these changes."""
+def certificate(folder):
+    """The paths of a certificate for the loopback and of its key, which are made in this folder."""
+    made, key = os.path.join(folder, "certificate.pem"), os.path.join(folder, "key.pem")
+    words = "openssl req -x509 -newkey ec -pkeyopt ec_paramgen_curve:prime256v1 -nodes -days 2 -subj /CN=localhost".split()
+    names = ["-addext", "subjectAltName=DNS:localhost,IP:127.0.0.1"]
+    subprocess.run([*words, *names, "-keyout", key, "-out", made], check=True, capture_output=True)
+    return made, key
 
-    def lines_of(port, _):
-        lines = replaced(documented(), "127.0.0.1:1080", f"127.0.0.1:{server.port}")
-        lines = replaced(lines, "listen 80;", f"listen 127.0.0.1:{port};")
-        for old, new in changes:
+
+class Front(NginxServer):
+    """An nginx in front of this server as the example has it, but for ports, paths and these changes. `others` answers lines
+    that stand behind, from the paths of the certificate and of its key. `port` is that of TLS, `plain` the other."""
+
+    def __init__(self, server, *changes, others=lambda certificate, key: ""):
+        super().__init__(self.changed, workers=1)
+        self.server, self.changes, self.others = server, changes, others
+
+    def changed(self, port, folder):
+        made, key = certificate(folder)
+        self.context = ssl.create_default_context(cafile=made)
+        self.plain = free_port()
+        lines = documented()
+        for old, new in (
+            ("server 127.0.0.1:1080;", f"server 127.0.0.1:{self.server.port};"),
+            ("listen 80;", f"listen 127.0.0.1:{self.plain};"),
+            ("listen 443 ssl;", f"listen 127.0.0.1:{port} ssl;"),
+            ("ssl_certificate /etc/nginx/up/certificate.pem;", f"ssl_certificate {made};"),
+            ("ssl_certificate_key /etc/nginx/up/key.pem;", f"ssl_certificate_key {key};"),
+            ("root /var/www/up;", f"root {EXAMPLE};"),
+            *self.changes,
+        ):
             lines = replaced(lines, old, new)
-        return lines
+        return f"include /etc/nginx/mime.types;\n{lines}\n{self.others(made, key)}"
 
-    return NginxServer(lines_of, workers=1)
+
+class Secure(Connection):
+    """A connection over TLS, which believes in the certificate of the front alone."""
+
+    def __init__(self, front):
+        super().__init__(front)
+        self.socket = front.context.wrap_socket(self.socket, server_hostname="127.0.0.1")
+
+
+class Doorman(http.server.BaseHTTPRequestHandler):
+    """What knows who may upload: those whose cookie is `user=known`. The server has a list of who asked for what."""
+
+    def do_GET(self):
+        asked = self.headers["X-Original-Method"], self.headers["X-Original-URI"], self.headers["Cookie"]
+        self.server.asked.append(asked)
+        self.send_response(204 if asked[2] == "user=known" else 401)
+        self.end_headers()
+
+    def log_message(self, *_):
+        pass
+
+
+@contextlib.contextmanager
+def doorman():
+    """A doorman that answers, with its port and what it was asked."""
+    with http.server.ThreadingHTTPServer(("127.0.0.1", 0), Doorman) as server:
+        server.asked = []
+        threading.Thread(target=server.serve_forever, daemon=True).start()
+        yield server
+        server.shutdown()
+
+
+def asking(man):
+    """The changes by which nginx asks this doorman."""
+    return (ASKED, ASKS), ("proxy_pass http://127.0.0.1:1081;", f"proxy_pass http://127.0.0.1:{man.server_port};")
 
 
 def most_of_an_address():
-    """How many requests of one address the document lets in at a time."""
+    """How many requests of one address the example lets in at a time."""
     return int(documented().partition("limit_conn uploads ")[2].partition(";")[0])
 
 
@@ -64,20 +132,21 @@ class Fronted:
     def __init__(self, program):
         self.program = program
         self.cases = [
-            self.nginx_whole, self.nginx_breaks_off, self.nginx_no_file, self.nginx_override, self.nginx_cors,
-            self.nginx_most_of_an_address, self.nginx_keeps_connections, self.nginx_longest_conversation,
+            self.nginx_whole, self.nginx_plain, self.nginx_breaks_off, self.nginx_no_file, self.nginx_largest,
+            self.nginx_override, self.nginx_asks, self.nginx_cors, self.nginx_most_of_an_address,
+            self.nginx_keeps_connections, self.nginx_longest_conversation,
         ]
 
     @contextlib.contextmanager
     def both(self, *words, changes=()):
         """A server with these words, and an nginx in front of it."""
-        with Server(self.program, *words) as server, nginx(server, *changes) as front:
+        with Server(self.program, *words) as server, Front(server, *changes) as front:
             yield server, front
 
     def nginx_whole(self):
         """Through nginx an upload is made at `/files` and at `/files/`, filled, asked for, fetched and removed."""
         body = os.urandom(3_000_001)
-        with self.both() as (_, front), Connection(front) as connection:
+        with self.both() as (_, front), Secure(front) as connection:
             for target in ("/files", "/files/"):
                 reply = connection.ask("POST", target, upload_length=len(body))
                 same(reply.status, 201, f"the status of a POST to {target}")
@@ -89,11 +158,17 @@ class Fronted:
                 same(connection.ask("DELETE", path).status, 204, "the status of a DELETE")
                 same(connection.ask("HEAD", path).status, 404, "the status afterwards")
 
+    def nginx_plain(self):
+        """Without TLS a request is sent to the same place with it, by a status behind which its method stays."""
+        with self.both() as (_, front), Connection(types.SimpleNamespace(port=front.plain)) as connection:
+            reply = connection.ask("POST", "/files", upload_length=3)
+        same((reply.status, reply.fields["location"]), (308, "https://a/files"), "the reply")
+
     def nginx_breaks_off(self):
         """An upload through nginx that breaks off in its body keeps the bytes that came."""
-        with self.both() as (_, front), Connection(front) as other:
+        with self.both() as (_, front), Secure(front) as other:
             path = other.make(1_000_000)
-            with Connection(front) as connection:
+            with Secure(front) as connection:
                 connection.send(patch(path, 0, 1_000_000) + bytes(300_000))
                 # nginx drops what it has read and not handed on yet when its client goes.
                 time.sleep(0.5)
@@ -101,7 +176,7 @@ class Fronted:
 
     def nginx_no_file(self):
         """Of a large upload that a client fetches and doesn't read, nginx makes no file."""
-        with self.both() as (_, front), Connection(front) as connection:
+        with self.both() as (_, front), Secure(front) as connection:
             path = connection.make(LARGE)
             same(connection.append(path, 0, bytes(LARGE)).status, 204, "the status of a PATCH")
             connection.send(head("GET", path, {}))
@@ -109,25 +184,55 @@ class Fronted:
             same(front.open_files("proxy"), [], "the files of answers that nginx has open")
             same(connection.reply().body == bytes(LARGE), True, "whether the bytes came back")
 
+    def nginx_largest(self):
+        """A body of as many bytes as the largest `--max-size` is let through, and one of a byte more is refused."""
+        with self.both() as (_, front), Secure(front) as connection, Secure(front) as other:
+            path = connection.make(MOST)
+            connection.send(patch(path, 0, MOST) + b"abc")
+            other.send(patch(path, 0, MOST + 1))
+            same(other.reply().status, 413, "the status of a body that is larger")
+            time.sleep(0.5)
+            connection.socket.close()
+            with Secure(front) as third:
+                soon(lambda: third.offset(path) == 3, "the offset is that of the bytes that came of the other")
+
     def nginx_override(self):
         """A method in X-HTTP-Method-Override, which the server hears, doesn't get through nginx."""
-        with self.both() as (server, front), Connection(front) as connection, Connection(server) as behind:
+        with self.both() as (server, front), Secure(front) as connection, Connection(server) as behind:
             path = connection.make(3)
             override = {"x_http_method_override": "DELETE"}
             same(connection.ask("POST", path, **override).status, 405, "the status through nginx")
             same(connection.offset(path), 0, "the offset of the upload, which is still there")
             same(behind.ask("POST", path, **override).status, 204, "the status without nginx")
 
+    def nginx_asks(self):
+        """With `auth_request` a program is asked of each request, but for OPTIONS; whom it doesn't know is answered 401."""
+        with doorman() as man, self.both(changes=asking(man)) as (_, front), Secure(front) as connection:
+            reply = connection.ask("POST", "/files", upload_length=3)
+            same([reply.status, *(name for name in CORS if name not in reply.fields)], [401], "the status, and what it hasn't")
+            same(connection.ask("OPTIONS", "/files").status, 204, "the status of OPTIONS")
+            reply = connection.ask("POST", "/files", upload_length=3, cookie="user=known")
+            same(reply.status, 201, "the status of one who is known")
+            path = reply.fields["location"]
+            connection.send(patch(path, 0, 3).replace(b"\r\n\r\n", b"\r\nCookie: user=known\r\n\r\n") + b"abc")
+            same(connection.reply().status, 204, "the status of a PATCH of theirs")
+            same(connection.append(path, 3, b"").status, 401, "the status of a PATCH of another")
+        posts = [("POST", "/files", cookie) for cookie in (None, "user=known")]
+        patches = [("PATCH", path, cookie) for cookie in ("user=known", None)]
+        same(man.asked, posts + patches, "what was asked")
+
     def nginx_cors(self):
         """A page of another origin is told by nginx what it needs, in each answer and refusal."""
-        with self.both() as (_, front), Connection(front) as connection:
+        with self.both() as (_, front), Secure(front) as connection:
             preflight = connection.ask("OPTIONS", "/files/", access_control_request_method="PATCH")
             made = connection.ask("POST", "/files/", upload_length=3)
             path = made.fields["location"]
             connection.send(f"DELETE {path} HTTP/1.1\r\nHost: a\r\n\r\n".encode())
             replies = [preflight, made, connection.reply(), connection.append(path, 1, b"a")]
             replies.append(connection.ask("HEAD", f"/files/{0:032x}"))
-        same([reply.status for reply in replies], [204, 201, 412, 409, 404], "the statuses")
+            connection.send(patch(path, 0, MOST + 1))
+            replies.append(connection.reply())
+        same([reply.status for reply in replies], [204, 201, 412, 409, 404, 413], "the statuses")
         for reply in replies:
             names = sorted(name for name in reply.fields if name.startswith("access-control-"))
             same(names, CORS, f"the fields of a {reply.status}")
@@ -141,11 +246,11 @@ class Fronted:
         """An address that has as many bodies open as `limit_conn` says is answered 503, until one of them ends."""
         most = most_of_an_address()
         with self.both() as (_, front), contextlib.ExitStack() as stack:
-            held = [stack.enter_context(Connection(front)) for _ in range(most)]
+            held = [stack.enter_context(Secure(front)) for _ in range(most)]
             for connection in held:
                 path = connection.make(2)
                 connection.send(patch(path, 0, 2) + b"a")
-            with Connection(front) as other:
+            with Secure(front) as other:
                 soon(lambda: other.ask("OPTIONS", "/files/").status == 503, "the status beyond the most is 503")
                 reply = other.ask("OPTIONS", "/files/")
                 same([name for name in CORS if name not in reply.fields], [], "the fields that it hasn't")
@@ -155,11 +260,11 @@ class Fronted:
 
     def filled_byte_by_byte(self, front):
         """How many PATCHes a second fill an upload with a byte each."""
-        with Connection(front) as connection:
+        with Secure(front) as connection:
             path = connection.make(MANY)
         start = time.monotonic()
         for first in range(0, MANY, AT_A_TIME):
-            with Connection(front) as connection:
+            with Secure(front) as connection:
                 for offset in range(first, first + AT_A_TIME):
                     same(connection.append(path, offset, b"a").status, 204, f"the status of the PATCH at {offset}")
         return f"{MANY / (time.monotonic() - start):,.0f} requests/s"

@@ -55,6 +55,13 @@ def seconds_of(process):
     return (int(fields[11]) + int(fields[12])) / os.sysconf("SC_CLK_TCK")
 
 
+def free_port():
+    """A port of the loopback that nobody listens at."""
+    with socket.socket() as free:
+        free.bind(("127.0.0.1", 0))
+        return free.getsockname()[1]
+
+
 class Server:
     """`up serve` with these words, on a free port of the loopback. It is killed at the end of the `with`. With `unheard` its
     standard output is a pipe whose reader has gone, and with a `sink` it is that file. It has this environment and standard
@@ -150,9 +157,7 @@ class NginxServer:
     def __enter__(self):
         self.files = tempfile.TemporaryDirectory(prefix="up-nginx-", dir=self.place)
         self.folder = self.files.name
-        with socket.socket() as free:
-            free.bind(("127.0.0.1", 0))
-            self.port = free.getsockname()[1]
+        self.port = free_port()
         path, errors = os.path.join(self.folder, "conf"), os.path.join(self.folder, "errors")
         user = "user root;" if os.geteuid() == 0 else ""
         lines = self.lines_of(self.port, self.folder)
@@ -232,9 +237,12 @@ class Connection:
 
     def take(self, size):
         """The next bytes, fewer where the server closes before."""
-        while len(self.read) < size and self.more():
-            pass
-        taken, self.read = self.read[:size], self.read[size:]
+        pieces, left = [self.read], size - len(self.read)
+        while left > 0 and (came := self.socket.recv(1 << 20)):
+            pieces.append(came)
+            left -= len(came)
+        whole = b"".join(pieces)
+        taken, self.read = whole[:size], whole[size:]
         return taken
 
     def reply(self, bare=False):
