@@ -50,6 +50,13 @@ impl Id {
         Id(number)
     }
 
+    /// The number of the id.
+    pub fn number(&self) -> u128
+        ensures { result ≡ self.now }
+    {
+        self.0
+    }
+
     /// The id that has this text: just 32 hexadecimal digits, letters in lower case.
     /// `None` for any other text.
     pub fn parse(text: &[u8]) -> Option<Self>
