@@ -55,8 +55,8 @@ pub record IsAtRest (setup : Setup) (file : List ℕ) (batches : List (List Entr
 abbrev pub IsBeforeOrAfter : Setup → List (List Entry) → List Entry → List ℕ → Type 0
 IsBeforeOrAfter setup batches more file = IsLog setup file batches ⊎ IsLog setup file (batches ++ more ∷ [])
 
--- what a crash may leave of a file whose heading is being written: a closed gate with no more behind it than a heading and a gate,
--- or a gate that isn't open, with all of the heading behind it
+-- what a crash may leave of a file whose heading is being written: a closed gate with no more behind it than a heading
+-- and a gate, or a gate that isn't open, with all of the heading behind it
 abbrev pub IsBegun : Setup → ℕ → List ℕ → Type 0
 IsBegun setup gate behind = ((gate ≡ 0) × (length behind ≤ 33)) ⊎ ((gate ≢ 1) × (behind ≡ heading setup ++ 0 ∷ []))
 

@@ -12,8 +12,8 @@ use Rattle.up_log.specs.declared.entry.Consent.{Consent}
 use Rattle.up_log.specs.declared.entry.Consent.TheVariants.{Skipped, Allowed, AllowedFinish}
 use Rattle.up_log.specs.declared.entry.Entry.{Entry}
 
--- a number in eight cells, the lowest first. Below 2^64 each of them is a byte; the last takes what is above, so that no two numbers
--- have one spelling
+-- a number in eight cells, the lowest first. Below 2^64 each of them is a byte; the last takes what is above, so that
+-- no two numbers have one spelling
 unfoldable pub word : ℕ → List ℕ
 word n =
     let a = n / 256 in

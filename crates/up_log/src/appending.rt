@@ -12,8 +12,8 @@ use crate::writing::closed_body;
 use sqlite_disk::Disk;
 use std::alloc::Global;
 
-/// A log to which batches can be added. Each stands in a block behind a gate, a byte that is opened by a write of its own once the
-/// block is on the disk.
+/// A log to which batches can be added. Each stands in a block behind a gate, a byte that is opened by a write of its
+/// own once the block is on the disk.
 #[derive(Drop)]
 pub struct Log<D: Disk> {
     pub(crate) device: D,
@@ -31,9 +31,9 @@ impl<D: Disk> Log<D> {
         self.device
     }
 
-    /// Adds a batch of entries, and returns once it is on the disk: from `Ok` on each crash leaves a log that has it. A crash in the
-    /// call, or after an error, leaves the log with the whole batch or without it. After `Memory` the log is as it was; after any other
-    /// error it takes no more (`Broken`), and is to be opened again.
+    /// Adds a batch of entries, and returns once it is on the disk: from `Ok` on each crash leaves a log that has it.
+    /// A crash in the call, or after an error, leaves the log with the whole batch or without it. After `Memory` the
+    /// log is as it was; after any other error it takes no more (`Broken`), and is to be opened again.
     pub fn append(&mut self, alloc: Global, entries: &[Entry]) -> Result<(), LogFault>
         ensures durable { (setup : Numbers) (batches : List (List Logged))
             → IsSettled D.Disk self.old setup batches

@@ -13,7 +13,8 @@ pub enum Consent {
     AllowedFinish,
 }
 
-/// All that a commit depends on, apart from the book: the request, the id for a new upload, and what the closures said.
+/// All that a commit depends on, apart from the book: the request, the id for a new upload, and what the closures
+/// said.
 #[derive(Drop)]
 pub struct Entry {
     pub id: Id,

@@ -5,8 +5,9 @@ use crate::setup::Setup;
 use sqlite_disk::{Files, Start};
 use sqlite_std_file::{FileFrom, OpenError, open};
 
-/// Begins to open the log of a server of this setup in the file at this path, which is made if there is none. Until the log is dropped
-/// nobody else opens the file (`Busy`). An empty file with `-wal` at the end of its name stays beside it.
+/// Begins to open the log of a server of this setup in the file at this path, which is made if there is none. Until
+/// the log is dropped nobody else opens the file (`Busy`). An empty file with `-wal` at the end of its name stays
+/// beside it.
 pub fn open_file<S: Start>(
     rt: &HostRuntime,
     path: &str,

@@ -48,7 +48,8 @@ fn begins_with(bytes: &[u8], front: &[u8]) -> bool
     are_same(first, front)
 }
 
-/// Whether a file that is so, or begins so and is longer, has no whole heading yet, where this is to stand behind its gate.
+/// Whether a file that is so, or begins so and is longer, has no whole heading yet, where this is to stand behind its
+/// gate.
 #[tactic(auto, using(crate::proofs::Headings::short_is, crate::proofs::Headings::zero_is, crate::proofs::Headings::whole_is))]
 fn is_unfinished(front: &[u8], closed: &[u8]) -> bool
     ensures { (setup : Numbers) → closed.now ≡ heading setup ++ 0 ∷ [] → IsTrue result
@@ -155,7 +156,8 @@ fn write_heading<D: Disk>(disk: &mut D, closed: &[u8]) -> Result<(), LogFault>
     Ok(())
 }
 
-/// The first bytes of a file, as many as there are and no more than a beginning takes, with the gate behind it, and one.
+/// The first bytes of a file, as many as there are and no more than a beginning takes, with the gate behind it, and
+/// one.
 fn front_of<D: Disk>(alloc: Global, disk: &mut D, len: usize) -> Result<Vec<u8>, LogFault>
     ensures bytes { IfOk result (λ front. IsTrue (D.is_clean disk.new)
         → len ≡ length (D.seen disk.old)
@@ -191,7 +193,8 @@ fn begin_anew<D: Disk>(disk: &mut D, first: u8, closed: &[u8]) -> Result<(), Log
     Ok(())
 }
 
-/// Makes sure that a file is the log of such a server, and begins one on a file that has no heading yet. Gives its length.
+/// Makes sure that a file is the log of such a server, and begins one on a file that has no heading yet. Gives its
+/// length.
 pub(crate) fn begin<D: Disk>(alloc: Global, disk: &mut D, setup: Setup) -> Result<usize, LogFault>
     ensures ours { OnOk result (IsTrue (D.is_clean disk.new) → IsOurs setup (D.seen disk.old)) }
     ensures unchanged { IfErr result (λ fault. IsRefusal fault → (D.seen disk.new ≡ D.seen disk.old)

@@ -34,7 +34,8 @@ pub struct Refused<D: Disk> {
     pub device: D,
 }
 
-/// Puts a closed gate behind the blocks, where a crash left no gate, or a gate and nothing behind it. Anything else is closed already.
+/// Puts a closed gate behind the blocks, where a crash left no gate, or a gate and nothing behind it. Anything else is
+/// closed already.
 fn mend<D: Disk>(disk: &mut D, len: usize, gate: usize) -> Result<(), LogFault>
     ensures mended { (setup : Numbers) (batches : List (List Logged))
         → IsLog setup (D.seen disk.old) batches
@@ -84,7 +85,8 @@ fn end<D: Disk>(disk: &mut D, len: usize, gate: usize) -> Result<(), LogFault>
 }
 
 impl<D: Disk> LogReader<D> {
-    /// Begins to open the log of a server of this setup. On a file with no heading yet, as an empty one, it is written.
+    /// Begins to open the log of a server of this setup. On a file with no heading yet, as an empty one, it is
+    /// written.
     pub fn open(alloc: Global, device: D, setup: Setup) -> Result<LogReader<D>, Refused<D>>
         // What is no log of such a server isn't opened,
         ensures ours { IfOk result (λ reader. IsCleanReader D.Disk reader

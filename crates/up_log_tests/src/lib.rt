@@ -1,4 +1,5 @@
-//! The tests of the log and of what is made again from it, which use them from outside, as a program does: what no contract says of them.
+//! The tests of the log and of what is made again from it, which use them from outside, as a program does: what no
+//! contract says of them.
 #![tactic(auto)]
 
 #[cfg(test)]

@@ -3,8 +3,8 @@ ghost use Rattle.up_replay.specs.Replay.{ChangesBeginAlike, LogsBeginAlike, Repl
 
 use up_events::logs_grow_at_their_end;
 
-/// A longer log defines a book whose changes, and whose events for each lane, begin with those that a shorter log defines. So what was
-/// handed over before a crash is a prefix of what the recovered log defines.
+/// A longer log defines a book whose changes, and whose events for each lane, begin with those that a shorter log
+/// defines. So what was handed over before a crash is a prefix of what the recovered log defines.
 pub fn replays_begin_alike()
     ensures goes_on { ReplaysGoOn }
     ensures changes { ChangesBeginAlike }

@@ -66,8 +66,8 @@ fn replay_one(alloc: Global, book: &mut Book, entry: Entry) -> Result<(), Unrepl
     }
 }
 
-/// Commits the entries of a log again, in order: the book is then the one that they define, with the same uploads, changes, events and
-/// refusals. An entry that is refused, as a second creation with one id, changes nothing.
+/// Commits the entries of a log again, in order: the book is then the one that they define, with the same uploads,
+/// changes, events and refusals. An entry that is refused, as a second creation with one id, changes nothing.
 pub fn replay(alloc: Global, book: &mut Book, entries: Sequence<Entry>) -> Result<(), Unreplayed>
     ensures { OnOk result (book.new ≡ replayed book.old entries) }
 {

@@ -35,8 +35,8 @@ impl From<Unreplayed> for Unrestored {
     }
 }
 
-/// Reads a log to its end and commits each batch again, one after another: besides the book there is one batch in memory. The book is
-/// then the one that the log defines, and the log can take more.
+/// Reads a log to its end and commits each batch again, one after another: besides the book there is one batch in
+/// memory. The book is then the one that the log defines, and the log can take more.
 pub fn restore<D: Disk>(
     alloc: Global,
     reader: LogReader<D>,

@@ -12,7 +12,8 @@ use clap::{Arg, ArgAction, ArgMatches, Command, Error};
 use std::alloc::{AllocError, Global};
 use up_events::{MOST_BYTES, MOST_LANES};
 
-/// What `--version` tells: the version of the program, and the logic of the toolchain by which it is proved, as `rt version` has it.
+/// What `--version` tells: the version of the program, and the logic of the toolchain by which it is proved, as `rt
+/// version` has it.
 pub const VERSION: &str = "1.0.0\nproved by Rattle's logic dac8208d650f15bf";
 
 /// Why the command line asks for nothing.
@@ -282,8 +283,9 @@ fn words_of(
     })
 }
 
-/// Reads the words behind the program's name. Refused comes for words that are not known, for a word that lacks its value or
-/// stands twice, for a number outside its limits, for `--help` and for `--version`; Memory where memory is wanting.
+/// Reads the words behind the program's name. Refused comes for words that are not known, for a word that lacks its
+/// value or stands twice, for a number outside its limits, for `--help` and for `--version`; Memory where memory is
+/// wanting.
 pub fn words(alloc: Global, words: Vec<String>) -> Result<Words, WordsFault> {
     let matches = command(alloc)?.try_get_matches_from(words.as_slice())?;
     match matches.subcommand() {

@@ -1,4 +1,5 @@
-//! The words of the command line: how large the server is that they ask for, which rules it keeps, and which connections it serves.
+//! The words of the command line: how large the server is that they ask for, which rules it keeps, and which
+//! connections it serves.
 #![tactic(auto)]
 
 mod command_line;

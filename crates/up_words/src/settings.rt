@@ -63,11 +63,14 @@ pub struct Serving {
     pub connections: Option<u64>,
     /// How many connections are open at a time, from 1 to 4,096.
     pub open: u64,
-    /// For how many seconds a connection may be silent, from 1 to 86,400; where there is none, for as long as the client likes.
+    /// For how many seconds a connection may be silent, from 1 to 86,400; where there is none, for as long as the
+    /// client likes.
     pub patience: Option<u64>,
-    /// How many bytes a second a request has to come at, from 1 to 2^30; where there is none, as few as the client likes.
+    /// How many bytes a second a request has to come at, from 1 to 2^30; where there is none, as few as the client
+    /// likes.
     pub least_rate: Option<u64>,
-    /// After how many seconds each it is said how the server stands, from 1 to 86,400; where there is none, it isn't said.
+    /// After how many seconds each it is said how the server stands, from 1 to 86,400; where there is none, it isn't
+    /// said.
     pub status: Option<u64>,
     /// Whether each event is written as a line as it is handed over.
     pub events: bool,
@@ -85,7 +88,8 @@ pub struct Words {
     pub settings: Settings,
     /// The key that the metadata of each plain or final upload must have.
     pub require_key: Option<String>,
-    /// The most bytes that an upload may have whose length is known when it is made, beside the most that the settings allow.
+    /// The most bytes that an upload may have whose length is known when it is made, beside the most that the settings
+    /// allow.
     pub max_length: Option<u64>,
     /// Whether nobody may remove an upload.
     pub keep: bool,
