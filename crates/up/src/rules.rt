@@ -1,7 +1,7 @@
 //! The closures of the rules that the words of the command line ask for.
-ghost use Rattle.std.specs.Prelude.{◌≡◌, IsTrue, string_bytes};
+ghost use Rattle.std.specs.Prelude.{◌≡◌, IsTrue};
 ghost use Rattle.up_hooks.specs.Verdicts.{is_lawful};
-ghost use Rattle.up_server.specs.Rules.{at_most, finishes_at_most, keeps, needs_key};
+ghost use Rattle.up_rules.specs.Rules.{judged};
 
 use crate::running::run_with;
 use std::io;
@@ -12,8 +12,9 @@ use std::sync::Wait;
 use std::thread::Threads;
 use std::time::Clock;
 use up_hooks::{PreHook, PreHooks};
-use up_machine::{Ask, Point, Verdict};
-use up_server::{EventLines, ServerFault, at_most, finishes_at_most, keeps, needs_key};
+use up_machine::{Ask, Verdict};
+use up_rules::rules_of;
+use up_server::{EventLines, ServerFault};
 use up_wire::Sink;
 use up_words::Words;
 
@@ -30,34 +31,13 @@ pub fn run_by_rules<
     listener: Option<TcpListener>,
 ) -> io::Result<Result<(), ServerFault>> {
     let mut hooks = Vec::new(rt.alloc());
-    if let Some(key) = &words.require_key {
-        let key = key.clone()?;
+    for rule in rules_of(rt.alloc(), words)? {
+        let point = rule.point();
         let judge = move |ask: &Ask| -> Verdict
-            ensures answer { result ≡ needs_key ask.now (string_bytes key) }
+            ensures answer { result ≡ judged rule ask.now }
             ensures lawful { IsTrue (is_lawful result) }
-        { needs_key(ask, key.as_bytes()) };
-        hooks.push(PreHook::new(Point::Create, Box::new(rt.alloc(), judge)?))?;
-    }
-    if let Some(limit) = words.max_length {
-        let judge = move |ask: &Ask| -> Verdict
-            ensures answer { result ≡ at_most ask.now limit }
-            ensures lawful { IsTrue (is_lawful result) }
-        { at_most(ask, limit) };
-        hooks.push(PreHook::new(Point::Create, Box::new(rt.alloc(), judge)?))?;
-    }
-    if words.keep {
-        let judge = |ask: &Ask| -> Verdict
-            ensures answer { result ≡ keeps ask.now }
-            ensures lawful { IsTrue (is_lawful result) }
-        { keeps(ask) };
-        hooks.push(PreHook::new(Point::Terminate, Box::new(rt.alloc(), judge)?))?;
-    }
-    if let Some(limit) = words.max_finish {
-        let judge = move |ask: &Ask| -> Verdict
-            ensures answer { result ≡ finishes_at_most ask.now limit }
-            ensures lawful { IsTrue (is_lawful result) }
-        { finishes_at_most(ask, limit) };
-        hooks.push(PreHook::new(Point::Finish, Box::new(rt.alloc(), judge)?))?;
+        { rule.judge(ask) };
+        hooks.push(PreHook::new(point, Box::new(rt.alloc(), judge)?))?;
     }
     run_with(rt, words, lines, listener, PreHooks::new(hooks))
 }

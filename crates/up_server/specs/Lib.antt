@@ -3,4 +3,3 @@ pub mod Seats
 pub mod ReportText
 pub mod Reported
 pub mod Run
-pub mod Rules

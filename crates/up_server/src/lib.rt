@@ -8,7 +8,6 @@ mod event_lines;
 mod lanes;
 mod listening;
 mod report;
-mod rules;
 mod runner;
 mod running;
 mod server_fault;
@@ -19,7 +18,7 @@ mod telling;
 
 pub use event_lines::EventLines;
 pub use listening::{keep_serving, serve, serve_with};
-pub use rules::{at_most, finishes_at_most, keeps, needs_key, refuse};
 pub use server_fault::ServerFault;
 pub use serving::replay;
 pub use shown::Shown;
+pub use up_rules::{Rule, at_most, finishes_at_most, keeps, needs_key, refuse, rules_of};

@@ -1,7 +1,7 @@
 //! Runs of the server.
-ghost use Rattle.std.specs.Prelude.{◌≡◌, IsTrue, string_bytes};
+ghost use Rattle.std.specs.Prelude.{◌≡◌, IsTrue};
 ghost use Rattle.up_hooks.specs.Verdicts.{is_lawful};
-ghost use Rattle.up_server.specs.Rules.{at_most, finishes_at_most, keeps, needs_key};
+ghost use Rattle.up_rules.specs.Rules.{judged};
 
 use crate::twin::replies_of_book;
 use std::alloc::{AllocError, Global};
@@ -10,8 +10,9 @@ use std::sync::Wait;
 use std::thread::Threads;
 use up_events::Event;
 use up_hooks::{Outcome, PreHook, PreHooks, new_recorders};
-use up_machine::{Ask, Point, Verdict};
-use up_server::{ServerFault, at_most, finishes_at_most, keeps, needs_key, replay};
+use up_machine::{Ask, Verdict};
+use up_rules::rules_of;
+use up_server::{ServerFault, replay};
 use up_wire::{Input, Output};
 use up_words::{Settings, Words};
 
@@ -67,34 +68,13 @@ pub fn serve<T: Threads + Wait + Sync>(
     asked: &[u8],
 ) -> Result<Served, AllocError> {
     let mut hooks = Vec::new(alloc);
-    if let Some(key) = &words.require_key {
-        let key = key.clone()?;
+    for rule in rules_of(alloc, words)? {
+        let point = rule.point();
         let judge = move |ask: &Ask| -> Verdict
-            ensures answer { result ≡ needs_key ask.now (string_bytes key) }
+            ensures answer { result ≡ judged rule ask.now }
             ensures lawful { IsTrue (is_lawful result) }
-        { needs_key(ask, key.as_bytes()) };
-        hooks.push(PreHook::new(Point::Create, Box::new(alloc, judge)?))?;
-    }
-    if let Some(limit) = words.max_length {
-        let judge = move |ask: &Ask| -> Verdict
-            ensures answer { result ≡ at_most ask.now limit }
-            ensures lawful { IsTrue (is_lawful result) }
-        { at_most(ask, limit) };
-        hooks.push(PreHook::new(Point::Create, Box::new(alloc, judge)?))?;
-    }
-    if words.keep {
-        let judge = |ask: &Ask| -> Verdict
-            ensures answer { result ≡ keeps ask.now }
-            ensures lawful { IsTrue (is_lawful result) }
-        { keeps(ask) };
-        hooks.push(PreHook::new(Point::Terminate, Box::new(alloc, judge)?))?;
-    }
-    if let Some(limit) = words.max_finish {
-        let judge = move |ask: &Ask| -> Verdict
-            ensures answer { result ≡ finishes_at_most ask.now limit }
-            ensures lawful { IsTrue (is_lawful result) }
-        { finishes_at_most(ask, limit) };
-        hooks.push(PreHook::new(Point::Finish, Box::new(alloc, judge)?))?;
+        { rule.judge(ask) };
+        hooks.push(PreHook::new(point, Box::new(alloc, judge)?))?;
     }
     run(rt, alloc, PreHooks::new(hooks), &words.settings, asked)
 }

@@ -1,10 +1,10 @@
-//! The rules that the program's closures keep. Each is asked about a request, and answers what becomes of it.
+//! What the rules answer: each is asked about a request, and says what becomes of it.
 ghost use Rattle.std.specs.Prelude.{◌≡◌, true, IsTrue};
 ghost use Rattle.up_headers.specs.Creations.{is_above};
 ghost use Rattle.up_hooks.specs.Verdicts.{is_lawful};
 ghost use Rattle.up_machine.specs.Reasons.{is_reason};
 ghost use Rattle.up_machine.specs.declared.ask.Verdict.TheVariants.{Refuse};
-ghost use Rattle.up_server.specs.Rules.{at_most, finishes_at_most, keeps, needs_key};
+ghost use Rattle.up_rules.specs.Rules.{at_most, finishes_at_most, keeps, needs_key};
 
 use up_events::Kind;
 use up_machine::{Ask, Reason, Verdict};

@@ -1,0 +1,8 @@
+//! The rules that the words of the command line ask for: what is asked of each, and what it answers.
+#![tactic(auto)]
+
+mod answers;
+mod rule;
+
+pub use answers::{at_most, finishes_at_most, keeps, needs_key, refuse};
+pub use rule::{Rule, rules_of};
