@@ -1,11 +1,24 @@
 -- What a write leaves of a file, also if a crash cuts it short.
-use Rattle.std.proofs.Common.{◌≡◌, ◌≢◌, inl, inr, ℕ, ◌+◌, ◌≤◌, ◌<◌, List, [], ◌∷◌, ◌++◌, length, get_or, take, drop, refl, sym, ◌∙◌, ap, subst, arith, append_assoc, length-append, take-append-drop}
+use mathlib.Core.Bool.{not}
+use Rattle.std.proofs.Common.{◌≡◌, ◌≢◌, ◌⊎◌, Bool, true, false, IsTrue, OnErr, OnOk, Result, Ok, Err, inl, inr, ℕ, ◌+◌, ◌≤◌, ◌<◌, List, [], ◌∷◌, ◌++◌, length, get_or, take, drop, refl, sym, ◌∙◌, ap, subst, arith, append_assoc, length-append, take-append-drop}
 use Rattle.std.proofs.lemmas.Bool.{cases_eq}
 use Rattle.std.proofs.lemmas.List.{take_at, drop_at, drop_more, drop-drop, ext_get_or, get_or-take, get_or-drop, length-take, length-drop, flat_map_more}
 use Rattle.sqlite_disk.specs.Disk.{Holds, Torn}
 use Rattle.up_log.specs.declared.entry.Entry.{Entry}
 use Rattle.up_log.specs.declared.setup.Setup.{Setup}
 use Rattle.up_log.specs.Blocks.{body, block, blocks, beginning, written, IsAtRest, IsClosed, IsLog, IsBeforeOrAfter}
+
+-- what holds anyway holds after an error
+pub on_err : {T E P : Type 0} (result : Result T E) → P → OnErr result P
+on_err (Ok x) p = tt
+on_err (Err e) p = p
+
+pub when_ok : {T E P : Type 0} (result : Result T E) (x : T) → result ≡ Ok x → OnOk result P → P
+when_ok {P = P} result x is p = subst (λ r. OnOk r P) is p
+
+pub either_settled : {P : Type 0} (is_settled : Bool) → (IsTrue is_settled → P) → P ⊎ IsTrue (not is_settled)
+either_settled true p = inl (p refl)
+either_settled false p = inr refl
 
 pub torn_none : (at n : ℕ) (file : List ℕ) → Torn at n file file
 torn_none at n file = record { no_shorter = omega arith; no_longer = omega arith; below = λ i within before. refl; above = λ i within behind. refl }
@@ -97,6 +110,12 @@ pub stage_leaves : (setup : Setup) (batches : List (List Entry)) (gate n : ℕ) 
 stage_leaves setup batches gate n seen c file place torn =
     let torn2 = subst (λ (f : List ℕ). Torn (gate + 1) n f c) file.whole torn in
     record { back = file.gate ∷ drop (gate + 1) c; whole = torn_behind (written setup batches) file.gate file.behind gate place n c torn2; closed = closed_by file.gate (drop (gate + 1) c) file.shut }
+
+-- nor does it open the gate, whatever came of it
+pub stage_rests : (setup : Setup) (batches : List (List Entry)) (gate n : ℕ) (seen c : List ℕ) → IsAtRest setup seen batches → gate ≡ length (written setup batches) → Torn (gate + 1) n seen c → IsAtRest setup c batches
+stage_rests setup batches gate n seen c file place torn =
+    let torn2 = subst (λ (f : List ℕ). Torn (gate + 1) n f c) file.whole torn in
+    record { gate = file.gate; behind = drop (gate + 1) c; whole = torn_behind (written setup batches) file.gate file.behind gate place n c torn2; shut = file.shut }
 
 pub staged : (setup : Setup) (batches : List (List Entry)) (more : List Entry) (gate : ℕ) (seen c bytes : List ℕ) → IsAtRest setup seen batches → gate ≡ length (written setup batches) → bytes ≡ body more ++ 0 ∷ [] → Torn (gate + 1) (length bytes) seen c → Holds c (gate + 1) bytes
     → IsStaged setup c batches more

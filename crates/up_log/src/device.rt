@@ -1,5 +1,5 @@
 //! Reading and writing a part of a file.
-ghost use Rattle.std.specs.Prelude.{◌≡◌, ◌<◌, List, ℕ, length, take, drop, IfOk, IfErr, OnOk, IsTrue};
+ghost use Rattle.std.specs.Prelude.{◌≡◌, ◌≢◌, ◌<◌, List, ℕ, length, take, drop, IfOk, IfErr, OnOk, IsTrue};
 ghost use Rattle.sqlite_disk.specs.Disk.{Holds, Torn, Only};
 ghost use Rattle.up_log.specs.Logs.{IsDamaged, IsRefusal};
 
@@ -65,6 +65,7 @@ pub(crate) fn write_synced<D: Disk>(disk: &mut D, at: usize, bytes: &[u8]) -> Re
     ensures synced { OnOk result (Only (D.seen disk.new) (D.may_leave disk.new)) }
     ensures usable { OnOk result (IsTrue (D.is_usable disk.new)) }
     ensures fault { IfErr result (λ fault. IsRefusal fault → ⊥) }
+    ensures memory { IfErr result (λ fault. fault ≢ LogFault.Memory) }
     ensures calm { D.is_clean disk.new ≡ D.is_clean disk.old }
     ensures crash { (c : List ℕ) → D.may_leave disk.new c
         → (before : List ℕ) × D.may_leave disk.old before × Torn at (length bytes.now) before c }
@@ -75,4 +76,41 @@ pub(crate) fn write_synced<D: Disk>(disk: &mut D, at: usize, bytes: &[u8]) -> Re
     disk.write_at(at, bytes)?;
     disk.sync()?;
     Ok(())
+}
+
+/// Whether all that a file has is on the disk, which is tried after a write that failed.
+fn settles<D: Disk>(disk: &mut D) -> bool
+    ensures synced { IsTrue result → Only (D.seen disk.new) (D.may_leave disk.new)
+        × IsTrue (D.is_usable disk.new) }
+    ensures seen { D.seen disk.new ≡ D.seen disk.old }
+    ensures calm { D.is_clean disk.new ≡ D.is_clean disk.old }
+    ensures crash { (c : List ℕ) → D.may_leave disk.new c → D.may_leave disk.old c }
+{
+    disk.may_be_used() && disk.sync().is_ok()
+}
+
+/// As `write_synced`; it also tells whether all that the file then has is on the disk, also after an error.
+pub(crate) fn write_settled<D: Disk>(
+    disk: &mut D,
+    at: usize,
+    bytes: &[u8],
+) -> (Result<(), LogFault>, bool)
+    requires some { 0 < length bytes.now }
+    ensures written { OnOk result.0 (Holds (D.seen disk.new) at bytes.now) }
+    ensures others { Torn at (length bytes.now) (D.seen disk.old) (D.seen disk.new) }
+    ensures synced { OnOk result.0 (Only (D.seen disk.new) (D.may_leave disk.new)) }
+    ensures settled { IsTrue result.1 → Only (D.seen disk.new) (D.may_leave disk.new)
+        × IsTrue (D.is_usable disk.new) }
+    ensures memory { IfErr result.0 (λ fault. fault ≢ LogFault.Memory) }
+    ensures calm { D.is_clean disk.new ≡ D.is_clean disk.old }
+    ensures crash { (c : List ℕ) → D.may_leave disk.new c
+        → (before : List ℕ) × D.may_leave disk.old before × Torn at (length bytes.now) before c }
+{
+    match write_synced(disk, at, bytes) {
+        Ok(()) => (Ok(()), true),
+        Err(fault) => {
+            let is_settled = settles(disk);
+            (Err(fault), is_settled)
+        }
+    }
 }

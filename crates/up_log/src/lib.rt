@@ -11,6 +11,7 @@ mod heading;
 mod reader;
 mod reading;
 mod setup;
+mod spelled;
 mod writing;
 
 pub use appending::Log;
@@ -18,6 +19,5 @@ pub use entry::{Consent, Entry};
 pub use fault::{LogFault, Unread};
 pub use file::open_file;
 pub use reader::{LogReader, Refused};
-pub use reading::read_batch;
 pub use setup::Setup;
-pub use writing::spell_batch;
+pub use spelled::Spelled;

@@ -318,7 +318,7 @@ pub(crate) fn whole_batch(alloc: Global, bytes: &[u8]) -> Result<Sequence<Entry>
 
 /// The entries that bytes begin with, and the bytes after them.
 #[tactic(auto, unfolding(crate::specs::Reading::batch_at, crate::specs::Reading::many_at))]
-pub fn read_batch(alloc: Global, bytes: &[u8]) -> Result<(Sequence<Entry>, &[u8]), Unread>
+fn read_batch(alloc: Global, bytes: &[u8]) -> Result<(Sequence<Entry>, &[u8]), Unread>
     // What they are.
     ensures exact { Gives (λ x. (x.0, x.1.now)) result (batch_at bytes.now) }
 {

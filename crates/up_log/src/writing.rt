@@ -5,6 +5,7 @@ ghost use Rattle.up_log.specs.Blocks.{body};
 ghost use Rattle.up_log.specs.Spelling.{word, id, text, maybe, many, flag, kind, consent, declared, pair, new_upload, patch, asked_for, entry, batch};
 
 use crate::entry::{Consent, Entry};
+use crate::spelled::Spelled;
 use std::alloc::{AllocError, Global};
 use up_events::{Id, Kind};
 use up_headers::{NewUpload, NotDigits, Pairs, Patch, Request};
@@ -200,7 +201,7 @@ fn put_request(out: &mut Vec<u8>, request: &Request) -> Result<(), AllocError>
     }
 }
 
-fn put_entry(out: &mut Vec<u8>, logged: &Entry) -> Result<(), AllocError>
+pub(crate) fn put_entry(out: &mut Vec<u8>, logged: &Entry) -> Result<(), AllocError>
     ensures { OnOk result (out.new.items ≡ out.old.items ++ entry logged.now) }
 {
     put_id(out, logged.id)?;
@@ -208,33 +209,29 @@ fn put_entry(out: &mut Vec<u8>, logged: &Entry) -> Result<(), AllocError>
     put_request(out, &logged.request)
 }
 
-fn put_batch(out: &mut Vec<u8>, entries: &[Entry]) -> Result<(), AllocError>
+fn put_batch(out: &mut Vec<u8>, entries: &[Spelled]) -> Result<(), AllocError>
     ensures { OnOk result (out.new.items ≡ out.old.items ++ batch entries.now) }
 {
     put_word(out, entries.len() as u64)?;
     for logged in entries {
-        put_entry(out, logged)?;
+        out.extend_from_slice(logged.bytes())?;
     }
     Ok(())
 }
 
-/// The one spelling of a batch of entries.
-pub fn spell_batch(alloc: Global, entries: &[Entry]) -> Result<Vec<u8>, AllocError>
-    ensures { IfOk result (λ bytes. bytes.items ≡ batch entries.now) }
-{
-    let mut out = Vec::new(alloc);
-    put_batch(&mut out, entries)?;
-    Ok(out)
+/// About how many bytes an entry takes: what is spelled into so much room is mostly not moved.
+pub(crate) fn room_of(logged: &Entry) -> usize {
+    match &logged.request {
+        Request::Patch(sent) => sent.bytes.len().saturating_add(64),
+        _ => 256,
+    }
 }
 
-/// About how many bytes a batch takes: what is spelled into so much room is mostly not moved.
-fn room_for(entries: &[Entry]) -> usize {
+/// How many bytes the body of a block takes, with the gate behind it.
+fn room_for(entries: &[Spelled]) -> usize {
     let mut room: usize = 17;
     for logged in entries {
-        room = room.saturating_add(match &logged.request {
-            Request::Patch(sent) => sent.bytes.len().saturating_add(64),
-            _ => 256,
-        });
+        room = room.saturating_add(logged.size());
     }
     room
 }
@@ -248,7 +245,7 @@ fn put_front(bytes: &mut [u8], front: &[u8])
 }
 
 /// The body of a block, and behind it the next gate, which is closed.
-pub(crate) fn closed_body(alloc: Global, entries: &[Entry]) -> Result<Vec<u8>, AllocError>
+pub(crate) fn closed_body(alloc: Global, entries: &[Spelled]) -> Result<Vec<u8>, AllocError>
     ensures { IfOk result (λ bytes. bytes.items ≡ body entries.now ++ 0 ∷ []) }
 {
     let mut out = Vec::with_capacity(alloc, room_for(entries))?;

@@ -1,9 +1,9 @@
 //! Disks that fail, and crash.
-use crate::logs::{PAIR, entries_of, read};
+use crate::logs::{PAIR, spelled_of, read};
 use sqlite_disk::{Crash, Fuse, Memory};
 use std::alloc::Global;
 use std::test::Fail;
-use up_log::{Entry, Log, LogFault};
+use up_log::{Log, LogFault, Spelled};
 
 /// A log on a disk that fails from some call on; None if it fails before the log is open.
 fn opened(alloc: Global, calls: u64) -> Option<Log<Fuse<Memory>>> {
@@ -14,7 +14,7 @@ fn opened(alloc: Global, calls: u64) -> Option<Log<Fuse<Memory>>> {
 }
 
 /// Whether a batch is added. A log that failed takes no more.
-fn is_added(alloc: Global, log: &mut Log<Fuse<Memory>>, entries: &[Entry]) -> Option<bool> {
+fn is_added(alloc: Global, log: &mut Log<Fuse<Memory>>, entries: &[Spelled]) -> Option<bool> {
     if log.append(alloc, entries).is_ok() {
         return Some(true);
     }
@@ -35,7 +35,7 @@ fn left(alloc: Global, log: Log<Fuse<Memory>>) -> Result<u64, LogFault> {
 #[test]
 fn a_batch_is_whole_or_not_there(rt: HostRuntime) -> Result<(), Fail> {
     let alloc = rt.alloc();
-    let entries = entries_of(alloc, &PAIR)?;
+    let entries = spelled_of(alloc, &PAIR)?;
     let mut is_any = false;
     for calls in 0..30 {
         let Some(mut log) = opened(alloc, calls) else {

@@ -1,5 +1,5 @@
 //! Files that a crash left, files that are refused, and a file of the system.
-use crate::logs::{PAIR, SETUP, batches_of, disk_of, entries_of, log_of, read};
+use crate::logs::{PAIR, SETUP, batches_of, disk_of, spelled_of, log_of, read};
 use sqlite_std_file::Unknown;
 use std::alloc::Global;
 use std::fs;
@@ -9,7 +9,7 @@ use up_log::{LogFault, LogReader, Setup, open_file};
 /// How many batches a file has, and how many it has with one more.
 fn counts(alloc: Global, bytes: &[u8]) -> Result<(u64, u64), LogFault> {
     let (mut log, count) = read(alloc, disk_of(alloc, bytes)?)?;
-    log.append(alloc, &entries_of(alloc, &PAIR)?)?;
+    log.append(alloc, &spelled_of(alloc, &PAIR)?)?;
     let (_, again) = read(alloc, log.into_device())?;
     Ok((count, again))
 }
@@ -123,7 +123,7 @@ fn is_busy(rt: &HostRuntime, path: &str) -> Result<bool, LogFault> {
         Ok(log) => log,
         Err(refused) => return Err(refused.fault),
     };
-    log.append(rt.alloc(), &entries_of(rt.alloc(), &PAIR)?)?;
+    log.append(rt.alloc(), &spelled_of(rt.alloc(), &PAIR)?)?;
     Ok(matches!(open_file(rt, path, Unknown, SETUP), Err(LogFault::Busy)))
 }
 

@@ -4,7 +4,7 @@ use std::alloc::{AllocError, Global};
 use std::io;
 use up_events::{Id, Kind};
 use up_headers::{NewUpload, Patch, Request};
-use up_log::{Consent, Entry, Log, LogFault, LogReader, Setup};
+use up_log::{Consent, Entry, Log, LogFault, LogReader, Setup, Spelled};
 use up_message::{Piece, Sequence};
 
 pub const SETUP: Setup = Setup {
@@ -68,6 +68,15 @@ pub fn entries_of(alloc: Global, rows: &[Row]) -> Result<Vec<Entry>, AllocError>
     Ok(entries)
 }
 
+/// The same, spelled.
+pub fn spelled_of(alloc: Global, rows: &[Row]) -> Result<Vec<Spelled>, AllocError> {
+    let mut spelled = Vec::new(alloc);
+    for entry in &entries_of(alloc, rows)? {
+        spelled.push(Spelled::new(alloc, entry)?)?;
+    }
+    Ok(spelled)
+}
+
 /// A file that has these bytes.
 pub fn disk_of(alloc: Global, bytes: &[u8]) -> io::Result<Memory> {
     let mut disk = Memory::new(alloc);
@@ -108,7 +117,7 @@ where
 
 /// The bytes of a log of so many batches.
 pub fn log_of(alloc: Global, batches: u64) -> Result<Vec<u8>, LogFault> {
-    let entries = entries_of(alloc, &PAIR)?;
+    let entries = spelled_of(alloc, &PAIR)?;
     let (mut log, _) = read(alloc, Memory::new(alloc))?;
     for _ in 0..batches {
         log.append(alloc, &entries)?;

@@ -1,5 +1,5 @@
 //! Books that are made again: from a log on a disk, and from entries that no server writes.
-use crate::logs::{Row, SETUP, What, entries_of, read};
+use crate::logs::{Row, SETUP, What, entries_of, read, spelled_of};
 use sqlite_disk::Memory;
 use std::alloc::Global;
 use std::test::Fail;
@@ -54,8 +54,8 @@ fn what_was_refused_changes_nothing(rt: HostRuntime) -> Result<(), Fail> {
 /// The file of a log of these two batches.
 fn file_of(alloc: Global, first: &[Row], second: &[Row]) -> Result<Memory, LogFault> {
     let (mut log, _) = read(alloc, Memory::new(alloc))?;
-    log.append(alloc, &entries_of(alloc, first)?)?;
-    log.append(alloc, &entries_of(alloc, second)?)?;
+    log.append(alloc, &spelled_of(alloc, first)?)?;
+    log.append(alloc, &spelled_of(alloc, second)?)?;
     Ok(log.into_device())
 }
 

@@ -1,0 +1,108 @@
+//! A seat of a board whose changes are written to a log before they are made.
+ghost use Rattle.std.specs.Prelude.{◌≡◌};
+
+use crate::notices::StoreNotices;
+use crate::store::Store;
+use sqlite_disk::Disk;
+use std::alloc::Global;
+use std::sync::Wait;
+use up_dispatch::{Board, Keeper, Naming, Seat};
+use up_events::Id;
+use up_headers::Request;
+use up_log::{Consent, Entry, Spelled};
+use up_machine::{Asked, Done, Plan, Refusal};
+
+/// A board, by one of its seats, and a log. Each change is on the disk before the board hears of it.
+#[derive(Drop)]
+pub struct Stored<'a, B: Naming, D: Disk, N, R: Wait> {
+    rt: &'a R,
+    board: &'a Board<B>,
+    store: &'a Store<D, N>,
+    seat: &'a mut Seat<B>,
+}
+
+/// What the closures said, unless one of them refuses.
+fn consent_of(asked: &Asked) -> Option<Consent> {
+    match asked {
+        Asked::Skipped => Some(Consent::Skipped),
+        Asked::Allowed => Some(Consent::Allowed),
+        Asked::AllowedFinish => Some(Consent::AllowedFinish),
+        Asked::Refused { .. } => None,
+    }
+}
+
+impl<'a, B: Naming, D: Disk, N: StoreNotices, R: Wait> Stored<'a, B, D, N, R> {
+    /// Takes the seat.
+    pub fn new(
+        rt: &'a R,
+        board: &'a Board<B>,
+        store: &'a Store<D, N>,
+        seat: &'a mut Seat<B>,
+    ) -> Stored<'a, B, D, N, R>
+        ensures state { ⟦<Stored<'a, B, D, N, R> as Keeper>⟧.state result ≡ seat.old }
+        ensures lender { ⟦<Stored<'a, B, D, N, R> as Keeper>⟧.lender result ≡ seat.entry.ghost_name }
+    {
+        Stored {
+            rt,
+            board,
+            store,
+            seat,
+        }
+    }
+}
+
+impl<B: Naming, D: Disk, N: StoreNotices, R: Wait> Keeper for Stored<'_, B, D, N, R> {
+    ghost use Rattle.std.specs.Prelude.{◌≡◌, ℕ};
+    ghost use Rattle.up_dispatch.specs.Keepers.{SeatPlans};
+    ghost use Rattle.up_store.specs.Stored.{StoredCommits};
+
+    ghost State = { ℕ };
+
+    ghost state = { λ k. k.seat.now };
+
+    ghost lender = { λ k. k.seat.ghost_name };
+
+    ghost plans = { SeatPlans B.queue B.lanes B.max_size };
+
+    ghost commits = { StoredCommits B.queue B.lanes B.max_size };
+
+    fn plan(&mut self, alloc: Global, request: &Request) -> Result<Plan, Refusal> {
+        self.board.plan(self.rt, alloc, self.seat, request)
+    }
+
+    fn commit(
+        &mut self,
+        alloc: Global,
+        request: Request,
+        id: Id,
+        asked: &Asked,
+    ) -> Result<Done, Refusal> {
+        let Some(consent) = consent_of(asked) else {
+            return self
+                .board
+                .commit(self.rt, alloc, self.seat, request, id, asked);
+        };
+        let entry = Entry {
+            id,
+            consent,
+            request,
+        };
+        let Ok(change) = Spelled::new(alloc, &entry) else {
+            return Err(Refusal::NoMemory);
+        };
+        let Ok(number) = self.store.draw(self.rt, change) else {
+            return Err(Refusal::NoMemory);
+        };
+        let Entry { request, .. } = entry;
+        if !self.store.await_turn(self.rt, alloc, number) {
+            self.store.end_turn(self.rt, true);
+            return Err(Refusal::NoMemory);
+        }
+        let result = self
+            .board
+            .commit(self.rt, alloc, self.seat, request, id, asked);
+        let is_made = !matches!(result, Err(Refusal::NoMemory));
+        self.store.end_turn(self.rt, is_made);
+        result
+    }
+}
