@@ -6,5 +6,5 @@ mod replaying;
 mod restoring;
 
 pub use law::replays_begin_alike;
-pub use replaying::{Unreplayed, replay};
+pub use replaying::{Unreplayed, asked_of, fits, replay};
 pub use restoring::{Unrestored, restore};

@@ -22,7 +22,8 @@ pub enum Unreplayed {
     TooLong,
 }
 
-fn asked_of(consent: Consent) -> Asked
+/// What the closures said, as a commit is told it.
+pub fn asked_of(consent: Consent) -> Asked
     ensures { result ≡ asked_of consent }
 {
     match consent {
@@ -33,7 +34,7 @@ fn asked_of(consent: Consent) -> Asked
 }
 
 /// Whether a request is one of those that a server takes: it makes no upload that is longer than any may be.
-fn fits(request: &Request) -> bool
+pub fn fits(request: &Request) -> bool
     ensures { IsTrue result ↔ FitsWithin MOST_BYTES request.now }
 {
     match request {

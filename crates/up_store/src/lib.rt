@@ -3,10 +3,14 @@
 
 mod line;
 mod notices;
+mod restoring;
 mod store;
 mod stored;
+mod voids;
 
 pub use line::{Line, Next};
 pub use notices::StoreNotices;
+pub use restoring::{Logs, restore_on};
 pub use store::Store;
 pub use stored::Stored;
+pub use voids::Voids;

@@ -46,6 +46,8 @@ pub struct Line {
     /// The first of those that could not be written, and the first behind these.
     lost: u64,
     kept: u64,
+    /// How many entries of the log had their turn: the place there of the next.
+    place: u64,
 }
 
 impl Model for Line {
@@ -82,8 +84,8 @@ fn fill(waiting: &mut VecDeque<Spelled>, batch: &mut Vec<Spelled>) {
 }
 
 impl Line {
-    /// No change was drawn.
-    pub fn new(alloc: Global) -> Result<Line, AllocError>
+    /// No change was drawn, and the log has so many entries.
+    pub fn new(alloc: Global, place: u64) -> Result<Line, AllocError>
         ensures new { IfOk result (λ line. (line.drawn ≡ 0) × (line.known ≡ 0) × (line.done ≡ 0)) }
     {
         Ok(Line {
@@ -96,6 +98,7 @@ impl Line {
             done: 0,
             lost: 0,
             kept: 0,
+            place,
         })
     }
 
@@ -196,13 +199,21 @@ impl Line {
         self.is_writing = false;
     }
 
-    /// The change whose turn it was has had it.
-    pub fn end_turn(&mut self)
+    /// The change whose turn it was has had it. It has a place in the log, or it could not be written.
+    pub fn end_turn(&mut self, is_on_disk: bool)
         ensures { self.old.done < self.old.known → self.new ≡ has_had_turn self.old }
     {
         if self.done < self.known {
             self.done += 1;
         }
+        if is_on_disk {
+            self.place = self.place.saturating_add(1);
+        }
+    }
+
+    /// The place in the log of the change whose turn it is, if it is on the disk.
+    pub fn place(&self) -> u64 {
+        self.place
     }
 
     /// The number of the change whose turn comes next, and of the first of which it isn't known whether it is on the

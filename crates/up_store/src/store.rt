@@ -1,14 +1,27 @@
 //! What seats share whose changes are written to a log first.
 use crate::line::{Line, Next};
 use crate::notices::StoreNotices;
+use crate::restoring::Logs;
+use crate::voids::Voids;
 use sqlite_disk::Disk;
 use std::alloc::{AllocError, Global};
 use std::sync::atomic::{AtomicBool, Ordering};
 use std::sync::{Condvar, Mutex, Wait};
-use up_log::{Log, LogFault, Spelled};
+use up_log::{Log, Spelled};
 
 /// How many bells there are: more connections than these share them.
 const BELLS: u64 = 64;
+
+/// What became of a change whose turn it was.
+#[derive(Clone, Copy, PartialEq, Eq)]
+pub(crate) enum Turn {
+    /// It is on the disk, and was decided on.
+    Decided,
+    /// It is on the disk, and memory for it was refused.
+    Void,
+    /// It could not be written.
+    Lost,
+}
 
 /// A log, and the line of the changes that wait to be written to it and to be made. Whoever waits writes those that
 /// wait, if nobody else does, with no lock held but the log's, which nobody else wants.
@@ -16,6 +29,7 @@ const BELLS: u64 = 64;
 pub struct Store<D: Disk, N> {
     line: Mutex<Line>,
     log: Mutex<Log<D>>,
+    voids: Mutex<Voids<D>>,
     /// Each wakes those that wait whose number has its place for a remainder.
     bells: Vec<Condvar>,
     /// Whether the last batch could not be written.
@@ -24,8 +38,8 @@ pub struct Store<D: Disk, N> {
 }
 
 impl<D: Disk, N> Store<D, N> {
-    /// Over a log to which nobody else writes. An error is want of memory.
-    pub fn new(alloc: Global, log: Log<D>, notices: N) -> Result<Store<D, N>, AllocError>
+    /// Over logs to which nobody else writes. An error is want of memory.
+    pub fn new(alloc: Global, logs: Logs<D>, notices: N) -> Result<Store<D, N>, AllocError>
     where
         D: Drop,
         N: Drop,
@@ -34,21 +48,27 @@ impl<D: Disk, N> Store<D, N> {
         for _ in 0..BELLS {
             bells.push(Condvar::new())?;
         }
+        let line = Line::new(alloc, logs.count)?;
         Ok(Store {
-            line: Mutex::new(Line::new(alloc)?),
-            log: Mutex::new(log),
+            line: Mutex::new(line),
+            log: Mutex::new(logs.changes),
+            voids: Mutex::new(logs.voids),
             bells,
             is_failing: AtomicBool::new(false),
             notices,
         })
     }
 
-    /// The log.
-    pub fn into_log(self) -> Log<D>
+    /// The logs, with all that was written to them.
+    pub fn into_logs(self) -> Logs<D>
     where
         N: Drop,
     {
-        self.log.into_inner()
+        Logs {
+            changes: self.log.into_inner(),
+            voids: self.voids.into_inner(),
+            count: self.line.into_inner().place(),
+        }
     }
 
     /// Draws the next number for a change. The error is want of memory.
@@ -110,15 +130,24 @@ impl<D: Disk, N: StoreNotices> Store<D, N> {
         false
     }
 
-    /// The change whose turn it was has had it. Where it was written and could not be made, no other can be made: they
+    /// Says that the change whose turn it is is void. If that can't be written no other change can be made, since each
     /// would be decided otherwise once the log is read again.
-    pub(crate) fn end_turn<R: Wait>(&self, rt: &R, is_made: bool) {
-        let mut line = self.line.lock(rt);
-        if !is_made {
-            line.stop();
-            self.notices.fails(LogFault::Memory);
+    fn note_void<R: Wait>(&self, rt: &R, alloc: Global) {
+        let place = self.line.lock(rt).place();
+        let written = self.voids.lock(rt).add(alloc, place);
+        if let Err(fault) = written {
+            self.line.lock(rt).stop();
+            self.notices.stops(fault);
         }
-        line.end_turn();
+    }
+
+    /// The change whose turn it was has had it.
+    pub(crate) fn end_turn<R: Wait>(&self, rt: &R, alloc: Global, turn: Turn) {
+        if turn == Turn::Void {
+            self.note_void(rt, alloc);
+        }
+        let mut line = self.line.lock(rt);
+        line.end_turn(turn != Turn::Lost);
         self.go_on(line.first_two());
     }
 }

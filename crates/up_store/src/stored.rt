@@ -2,7 +2,7 @@
 ghost use Rattle.std.specs.Prelude.{◌≡◌};
 
 use crate::notices::StoreNotices;
-use crate::store::Store;
+use crate::store::{Store, Turn};
 use sqlite_disk::Disk;
 use std::alloc::Global;
 use std::sync::Wait;
@@ -95,14 +95,17 @@ impl<B: Naming, D: Disk, N: StoreNotices, R: Wait> Keeper for Stored<'_, B, D, N
         };
         let Entry { request, .. } = entry;
         if !self.store.await_turn(self.rt, alloc, number) {
-            self.store.end_turn(self.rt, true);
+            self.store.end_turn(self.rt, alloc, Turn::Lost);
             return Err(Refusal::NoMemory);
         }
         let result = self
             .board
             .commit(self.rt, alloc, self.seat, request, id, asked);
-        let is_made = !matches!(result, Err(Refusal::NoMemory));
-        self.store.end_turn(self.rt, is_made);
+        let turn = match &result {
+            Err(Refusal::NoMemory) => Turn::Void,
+            _ => Turn::Decided,
+        };
+        self.store.end_turn(self.rt, alloc, turn);
         result
     }
 }

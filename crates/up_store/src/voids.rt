@@ -1,0 +1,66 @@
+//! The entries of a log that were not carried out.
+use sqlite_disk::Disk;
+use std::alloc::{AllocError, Global};
+use std::collections::BTreeSet;
+use up_events::Id;
+use up_headers::Request;
+use up_log::{Consent, Entry, Log, LogFault, LogReader, Spelled};
+
+/// The places of those entries of a log that are on the disk and were not carried out, since memory was wanting then. They
+/// stand in a log of their own, each as an entry that asks for nothing and has the place for its id.
+#[derive(Drop)]
+pub struct Voids<D: Disk> {
+    log: Log<D>,
+}
+
+/// The entry that says it of this place.
+fn void_of(place: u64) -> Entry {
+    Entry {
+        id: Id::new(u128::from(place)),
+        consent: Consent::Skipped,
+        request: Request::Options,
+    }
+}
+
+/// Adds the places that these entries say.
+fn take_places(places: &mut BTreeSet<u64>, entries: &[Entry]) -> Result<(), AllocError> {
+    for entry in entries {
+        if let Ok(place) = u64::try_from(entry.id.number()) {
+            places.insert(place)?;
+        }
+    }
+    Ok(())
+}
+
+impl<D: Disk> Voids<D> {
+    /// Reads them to the end.
+    pub fn read(alloc: Global, reader: LogReader<D>) -> Result<(Voids<D>, BTreeSet<u64>), LogFault>
+    where
+        D: Drop,
+    {
+        let mut reader = reader;
+        let mut places = BTreeSet::new(alloc);
+        for _ in 0..u64::MAX {
+            let Some(entries) = reader.next_batch(alloc)? else {
+                break;
+            };
+            take_places(&mut places, entries.as_slice())?;
+        }
+        match reader.finish() {
+            Ok(log) => Ok((Voids { log }, places)),
+            Err(refused) => Err(refused.fault),
+        }
+    }
+
+    /// The file, which takes no more.
+    pub fn into_device(self) -> D {
+        self.log.into_device()
+    }
+
+    /// Says it of one place more. It is on the disk at `Ok`.
+    pub fn add(&mut self, alloc: Global, place: u64) -> Result<(), LogFault> {
+        let mut batch = Vec::new(alloc);
+        batch.push(Spelled::new(alloc, &void_of(place))?)?;
+        self.log.append(alloc, &batch)
+    }
+}
