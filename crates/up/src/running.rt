@@ -124,7 +124,7 @@ fn run_on<
     requires new { All (λ t. ⟦<Teller<F> as PostHook>⟧.is_sound t × (⟦<Teller<F> as PostHook>⟧.handed t ≡ [])) tellers.items }
 {
     let mut sink = Output::new(BufWriter::new(rt.alloc(), io::writer(rt))?);
-    let ids = Drawn::new(rt)?;
+    let ids = Drawn::new(rt, words.shard())?;
     Ok(keep_serving(
         rt,
         rt.alloc(),
@@ -169,7 +169,7 @@ fn run_over<
             &mut sink,
         ));
     };
-    let ids = Drawn::new(rt)?;
+    let ids = Drawn::new(rt, words.shard())?;
     Ok(serve(
         rt, alloc, hooks, recorders, settings, listener, &visits, ids, &mut sink,
     ))

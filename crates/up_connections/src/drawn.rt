@@ -1,4 +1,7 @@
 //! Ids that nobody can guess.
+ghost use Rattle.std.specs.Prelude.{◌≡◌, IfOk, IfSome};
+ghost use Rattle.up_connections.specs.Shards.{TextsTellTheirByte, first_byte, in_shard};
+
 use rand::make_rng;
 use rand::rngs::StdRng;
 use rand_core::Rng;
@@ -11,27 +14,57 @@ use up_events::Id;
 #[derive(Drop)]
 pub struct Drawn {
     rng: StdRng,
+    /// The byte that each id begins with; where there is none, all of an id is drawn.
+    pub shard: Option<u8>,
 }
 
 impl Drawn {
-    /// A source with a seed of its own. An error is one of the system's source of random bytes.
-    pub fn new<R: RandomSource>(rt: &R) -> io::Result<Drawn> {
-        Ok(Drawn { rng: make_rng(rt)? })
+    /// A source with a seed of its own, whose ids begin with this byte, where there is one. An error is one of the system's
+    /// source of random bytes.
+    pub fn new<R: RandomSource>(rt: &R, shard: Option<u8>) -> io::Result<Drawn>
+        ensures { IfOk result (λ drawn. drawn.shard ≡ shard) }
+    {
+        Ok(Drawn {
+            rng: make_rng(rt)?,
+            shard,
+        })
+    }
+}
+
+/// The number with the byte of a shard in place of its first one, where there is one.
+fn in_shard(shard: Option<u8>, number: u128) -> u128
+    ensures number { result ≡ in_shard shard number }
+    ensures first { IfSome shard (λ byte. first_byte result ≡ byte) }
+{
+    match shard {
+        Some(byte) => u128::from(byte) * (1 << 120) + number % (1 << 120),
+        None => number,
     }
 }
 
 impl Ids for Drawn {
-    ghost use Rattle.std.specs.Prelude.{◌≡◌, ◌+◌, ◌*◌, ◌^◌};
+    ghost use Rattle.std.specs.Prelude.{◌≡◌, ◌+◌, ◌*◌, ◌^◌, IfSome};
     ghost use Rattle.rand_core.specs.Stream.{next_u64};
+    ghost use Rattle.up_connections.specs.Shards.{first_byte, in_shard};
 
+    // The first fact is what a shard promises.
     ghost draws = { λ old id new.
         let high = next_u64 (⟦<StdRng as Rng>⟧.stream old.rng) in
         let low = next_u64 high.1 in
-        (id ≡ high.0 * 2 ^ 64 + low.0) × (⟦<StdRng as Rng>⟧.stream new.rng ≡ low.1) };
+        (IfSome old.shard (λ byte. first_byte id ≡ byte))
+        × (new.shard ≡ old.shard)
+        × (id ≡ in_shard old.shard (high.0 * 2 ^ 64 + low.0))
+        × (⟦<StdRng as Rng>⟧.stream new.rng ≡ low.1) };
 
     fn next_id(&mut self) -> Id {
         let high = u128::from(self.rng.next_u64());
         let low = u128::from(self.rng.next_u64());
-        Id::new(high * (1 << 64) + low)
+        Id::new(in_shard(self.shard, high * (1 << 64) + low))
     }
 }
+
+/// The first two digits of an id's text are those of its first byte. So whoever has the text, as a proxy has the path of an
+/// upload, has the shard.
+pub fn texts_tell_their_byte()
+    ensures { TextsTellTheirByte }
+{}

@@ -18,7 +18,7 @@ mod watch;
 
 pub use accept::{Visits, serve_connections};
 pub use door::Door;
-pub use drawn::Drawn;
+pub use drawn::{Drawn, texts_tell_their_byte};
 pub use ending::Ending;
 pub use notices::{Entrance, Notices, Silent, Want};
 pub use patience::{Patience, milliseconds};

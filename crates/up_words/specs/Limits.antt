@@ -12,3 +12,7 @@ most_connections = 65536
 -- how many connections may be open at a time
 abbrev pub most_open : ℕ
 most_open = 4096
+
+-- the greatest shard that there can be
+abbrev pub most_shard : ℕ
+most_shard = 255

@@ -3,8 +3,8 @@ ghost use Rattle.std.specs.Prelude.{◌≡◌, ◌≤◌, IfOk, IfSome, option_m
 ghost use Rattle.clap.specs.Words.{first_value, found_of};
 
 use crate::settings::{
-    MOST_CAPACITY, MOST_CONNECTIONS, MOST_GRACE, MOST_OPEN, MOST_PATIENCE, MOST_STATUS, Serving,
-    Settings, Words,
+    MOST_CAPACITY, MOST_CONNECTIONS, MOST_GRACE, MOST_OPEN, MOST_PATIENCE, MOST_SHARD, MOST_STATUS,
+    Serving, Settings, Words,
 };
 use clap::builder::ValueParser;
 use clap::error::ErrorKind;
@@ -109,7 +109,7 @@ const COMMON: [Word<'static>; 7] = [
 ];
 
 /// The words that say which connections are served, and what is told meanwhile.
-const CONNECTIONS: [Word<'static>; 9] = [
+const CONNECTIONS: [Word<'static>; 10] = [
     Word {
         name: "address",
         kind: Kind::Text("HOST:PORT"),
@@ -163,6 +163,12 @@ const CONNECTIONS: [Word<'static>; 9] = [
         kind: Kind::Number(1, MOST_GRACE),
         default: Some("10"),
         help: "How many seconds the events that are left have then, from 1 to 86400",
+    },
+    Word {
+        name: "shard",
+        kind: Kind::Number(0, MOST_SHARD),
+        default: None,
+        help: "Begin the ids of new uploads with the byte N, from 0 to 255, by which a proxy finds this server",
     },
 ];
 
@@ -238,6 +244,12 @@ fn number_of(matches: &ArgMatches<'_>, id: &str, most: u64) -> Option<u64>
     Some(number.clamp(1, most))
 }
 
+/// The byte of a shard, where it is given. `clap` has seen to its limits.
+fn shard_of(serve: &ArgMatches<'_>) -> Option<u8> {
+    let number = serve.get_one::<u64>("shard")?;
+    Some(number.min(MOST_SHARD) as u8)
+}
+
 /// A text of the command line, where it is given.
 fn text_of(alloc: Global, matches: &ArgMatches<'_>, id: &str) -> Result<Option<String>, AllocError>
     ensures { IfOk result (λ text. option_map string_bytes text ≡ first_value (found_of matches.now) id.now) }
@@ -260,6 +272,7 @@ fn serving_of(alloc: Global, serve: &ArgMatches<'_>) -> Result<Serving, AllocErr
         events: serve.get_flag("events"),
         until_eof: serve.get_flag("until-eof"),
         grace: value_of(serve, "grace", MOST_GRACE),
+        shard: shard_of(serve),
     })
 }
 

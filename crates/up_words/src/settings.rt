@@ -1,7 +1,7 @@
 //! What a run of the server is given.
-ghost use Rattle.std.specs.Prelude.{◌≡◌, ℕ, ◌≤◌, Some};
+ghost use Rattle.std.specs.Prelude.{◌≡◌, ℕ, ◌≤◌, Some, option_and_then};
 ghost use Rattle.up_events.specs.declared.limits.TheConstants.{MOST_BYTES, MOST_LANES};
-ghost use Rattle.up_words.specs.Limits.{most_capacity, most_connections, most_open};
+ghost use Rattle.up_words.specs.Limits.{most_capacity, most_connections, most_open, most_shard};
 ghost use Rattle.up_words.specs.declared.settings.TheConstants.{MOST_CAPACITY, MOST_CONNECTIONS, MOST_OPEN};
 
 /// The most items that the queue of a lane holds.
@@ -13,11 +13,15 @@ pub const MOST_CONNECTIONS: u64 = 65_536;
 /// The most connections that are open at a time.
 pub const MOST_OPEN: u64 = 4096;
 
+/// The greatest shard that there can be: a byte.
+pub const MOST_SHARD: u64 = 255;
+
 /// The limits are exactly the numbers of `specs/Limits.antt`.
 pub fn limits_are_exact()
     ensures capacity { MOST_CAPACITY ≡ most_capacity }
     ensures connections { MOST_CONNECTIONS ≡ most_connections }
     ensures at_a_time { MOST_OPEN ≡ most_open }
+    ensures shard { MOST_SHARD ≡ most_shard }
 {}
 
 /// The most seconds for which a connection may be silent: a day.
@@ -78,6 +82,8 @@ pub struct Serving {
     pub until_eof: bool,
     /// How many seconds the lanes have then, from 1 to 86,400.
     pub grace: u64,
+    /// The byte that the ids of new uploads begin with; where there is none, all of an id is drawn.
+    pub shard: Option<u8>,
     ghost connections_within: { (count : ℕ) → connections ≡ Some count → (1 ≤ count) × (count ≤ MOST_CONNECTIONS) },
     ghost open_within: { (1 ≤ «open») × («open» ≤ MOST_OPEN) },
 }
@@ -97,4 +103,13 @@ pub struct Words {
     pub max_finish: Option<u64>,
     /// Where connections are served. Where there is none, standard input is.
     pub serve: Option<Serving>,
+}
+
+impl Words {
+    /// The byte that the ids of new uploads begin with, where the words ask for one.
+    pub fn shard(&self) -> Option<u8>
+        ensures { result ≡ option_and_then (λ serving. serving.shard) self.now.serve }
+    {
+        self.serve.as_ref()?.shard
+    }
 }

@@ -190,6 +190,23 @@ fn reads_how_long_it_waits_for_clients(rt: HostRuntime) -> Result<(), Fail> {
     Ok(())
 }
 
+/// Words, and the byte that ids are to begin with.
+const SHARDS: [(&[&str], Option<u8>); 4] = [
+    (&["serve"], None),
+    (&["serve", "--shard", "0"], Some(0)),
+    (&["serve", "--shard=255"], Some(255)),
+    (&["replay"], None),
+];
+
+#[test]
+fn reads_the_shard(rt: HostRuntime) -> Result<(), Fail> {
+    for (i, (line, wanted)) in SHARDS.iter().enumerate() {
+        let found = read(rt.alloc(), line)?;
+        assert_eq!(rt; found.shard(), *wanted, "at {i}");
+    }
+    Ok(())
+}
+
 #[test]
 fn reads_sizes_and_rules_of_connections(rt: HostRuntime) -> Result<(), Fail> {
     let given = [
