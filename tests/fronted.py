@@ -34,8 +34,8 @@ READ = "location tus-extension tus-max-size tus-version upload-length upload-off
 
 
 def replaced(text, old, new):
-    """The text with other words in place of these, which stand in it once."""
-    same(text.count(old), 1, f"how often examples/browser/nginx.conf says {old!r}")
+    """The text of an example with other words in place of these, which stand in it once."""
+    same(text.count(old), 1, f"how often the example says {old!r}")
     return text.replace(old, new)
 
 

@@ -138,7 +138,7 @@ class Server:
 
 NGINX = """
 daemon off; worker_processes {workers}; pid {folder}/pid; error_log {folder}/errors; {user}
-events {{ worker_connections 4096; }}
+events {{ worker_connections {connections}; }}
 http {{
     access_log off; client_body_temp_path {folder}/bodies; proxy_temp_path {folder}/proxy;
     fastcgi_temp_path {folder}/fastcgi; uwsgi_temp_path {folder}/uwsgi; scgi_temp_path {folder}/scgi;
@@ -148,11 +148,12 @@ http {{
 
 
 class NginxServer:
-    """nginx on a free port of the loopback, with so many workers. `lines_of` answers the lines of its `http` block, from the
-    port and a folder for its files. It is ended at the end of the `with`, and the folder, which stands in `place`, with it."""
+    """nginx on a free port of the loopback, with so many workers, each with so many connections. `lines_of` answers the lines
+    of its `http` block, from the port and a folder for its files. It is ended at the end of the `with`, and the folder, which
+    stands in `place`, with it."""
 
-    def __init__(self, lines_of, workers, place=None):
-        self.lines_of, self.workers, self.place = lines_of, workers, place
+    def __init__(self, lines_of, workers, place=None, connections=4096):
+        self.lines_of, self.workers, self.place, self.connections = lines_of, workers, place, connections
 
     def __enter__(self):
         self.files = tempfile.TemporaryDirectory(prefix="up-nginx-", dir=self.place)
@@ -162,7 +163,8 @@ class NginxServer:
         user = "user root;" if os.geteuid() == 0 else ""
         lines = self.lines_of(self.port, self.folder)
         with open(path, "w", encoding="ascii") as file:
-            file.write(NGINX.format(workers=self.workers, folder=self.folder, user=user, lines=lines))
+            words = {"workers": self.workers, "connections": self.connections, "folder": self.folder}
+            file.write(NGINX.format(**words, user=user, lines=lines))
         self.process = subprocess.Popen(["nginx", "-c", path, "-e", errors])
         soon(lambda: self.listens() or self.process.poll() is not None, "nginx listens")
         if self.process.poll() is not None:
@@ -213,10 +215,12 @@ def patch(path, offset, length):
 
 
 class Connection:
-    """A connection to a server. What is read waits `MOST_WAIT` seconds at most."""
+    """A connection to a server, from this address of the loopback if there is one. What is read waits `MOST_WAIT` seconds at
+    most."""
 
-    def __init__(self, server):
-        self.socket = socket.create_connection(("127.0.0.1", server.port), MOST_WAIT)
+    def __init__(self, server, address=None):
+        source = (address, 0) if address else None
+        self.socket = socket.create_connection(("127.0.0.1", server.port), MOST_WAIT, source)
         self.socket.setsockopt(socket.IPPROTO_TCP, socket.TCP_NODELAY, 1)
         self.read = b""
 
