@@ -395,7 +395,7 @@ def try_all(cases, names, passed_over=()):
             passed += 1
             front = f"{told}, " if told else ""
             print(f"passed: {case.__name__}: {case.__doc__} ({front}{time.monotonic() - start:.1f} s)", flush=True)
-        except (AssertionError, OSError, subprocess.SubprocessError, LookupError, ValueError) as fault:
+        except Exception as fault:
             failed += 1
             print(f"failed: {case.__name__}: {case.__doc__} {type(fault).__name__}: {fault}", flush=True)
     for what in passed_over:
