@@ -12,6 +12,7 @@ use std::sync::Wait;
 use std::thread::Threads;
 use std::time::Clock;
 use up_connections::{Drawn, Ending, Notices, Patience, Visits, Watch};
+use up_dispatch::AtOnce;
 use up_events::Event;
 use up_hooks::{Outcome, PostHook, PreHooks, Recorder, Teller, new_recorders, new_tellers};
 use up_server::{EventLines, ServerFault, keep_serving, replay, serve};
@@ -44,7 +45,7 @@ fn visits_of<'a, N>(
     watch: Option<&'a Watch>,
     ending: Option<&'a Ending>,
     notices: &'a N,
-) -> Option<Visits<'a, N>> {
+) -> Option<Visits<'a, N, AtOnce>> {
     let serving = words.serve.as_ref()?;
     Some(Visits {
         connections: serving.connections,
@@ -56,6 +57,7 @@ fn visits_of<'a, N>(
         watch,
         ending,
         notices,
+        service: &AtOnce,
     })
 }
 
@@ -115,7 +117,7 @@ fn run_on<
 >(
     rt: &R,
     words: &Words,
-    visits: &Visits<'_, N>,
+    visits: &Visits<'_, N, AtOnce>,
     listener: TcpListener,
     hooks: PreHooks,
     tellers: Vec<Teller<F>>,
@@ -146,7 +148,7 @@ fn run_over<
 >(
     rt: &R,
     words: &Words,
-    visits: Option<Visits<'_, N>>,
+    visits: Option<Visits<'_, N, AtOnce>>,
     listener: Option<TcpListener>,
     hooks: PreHooks,
     recorders: Vec<Recorder<F>>,

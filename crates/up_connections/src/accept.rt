@@ -17,7 +17,7 @@ use std::net::{TcpListener, TcpStream};
 use std::sync::{Mutex, Wait};
 use std::thread;
 use std::thread::{Builder, Scope, Threads};
-use up_dispatch::{Board, Ids, Naming, Seat};
+use up_dispatch::{Board, Ids, Naming, Seat, Service};
 use up_hooks::PreHooks;
 
 /// How many bytes the stack of a connection's thread has.
@@ -25,7 +25,7 @@ const STACK: usize = 1 << 18;
 
 /// Which connections are served.
 #[derive(Clone, Copy)]
-pub struct Visits<'a, N> {
+pub struct Visits<'a, N, S> {
     /// How many; where there is none, as many as come.
     pub connections: Option<u64>,
     /// How many may be open at a time, at least 1.
@@ -38,14 +38,17 @@ pub struct Visits<'a, N> {
     pub ending: Option<&'a Ending>,
     /// Who is told where none can be let in.
     pub notices: &'a N,
+    /// How their conversations are held.
+    pub service: &'a S,
 }
 
 /// Serves a connection, and then others as they are handed over. The door is told when each has ended.
-fn serve_in_turn<B: Naming, I: Ids, T: Wait>(
+fn serve_in_turn<B: Naming, I: Ids, S: Service, T: Wait>(
     rt: &T,
     alloc: Global,
     hall: &Hall<'_, B, I>,
     hooks: &PreHooks,
+    service: &S,
     first: TcpStream,
 ) {
     let mut next = Some(first);
@@ -54,7 +57,7 @@ fn serve_in_turn<B: Naming, I: Ids, T: Wait>(
             break;
         };
         hall.begin();
-        attend(rt, alloc, hall, hooks, stream);
+        attend(rt, alloc, hall, hooks, service, stream);
         hall.end(rt);
         next = hall.pool.next(rt);
     }
@@ -62,19 +65,27 @@ fn serve_in_turn<B: Naming, I: Ids, T: Wait>(
 
 /// Hands a connection to a thread that waits for one, or starts a thread for it, and for others that are handed over when it has ended.
 /// Where none can be started the connection is closed.
-fn let_in<'s, E, B: Naming + Send + Sync + 's, I: Ids + Send + 's, T: Wait + Sync + 's>(
+fn let_in<
+    's,
+    E,
+    B: Naming + Send + Sync + 's,
+    I: Ids + Send + 's,
+    S: Service + 's,
+    T: Wait + Sync + 's,
+>(
     scope: &Scope<'s, E>,
     rt: &'s T,
     alloc: Global,
     hall: &'s Hall<'s, B, I>,
     hooks: &'s PreHooks,
+    service: &'s S,
     stream: TcpStream,
 ) -> Result<(), Failed> {
     let Some(stream) = hall.pool.hand(rt, stream) else {
         return Ok(());
     };
     let visit = move || {
-        serve_in_turn(rt, alloc, hall, hooks, stream);
+        serve_in_turn(rt, alloc, hall, hooks, service, stream);
     };
     match Builder::new().stack_size(STACK).spawn_scoped(scope, visit) {
         Ok(_) => Ok(()),
@@ -128,6 +139,7 @@ fn accept_all<
     B: Naming + Send + Sync + 's,
     I: Ids + Send + 's,
     N: Notices,
+    S: Service + 's,
     T: Wait + Sync + 's,
 >(
     scope: &Scope<'s, E>,
@@ -136,7 +148,7 @@ fn accept_all<
     hall: &'s Hall<'s, B, I>,
     hooks: &'s PreHooks,
     listener: &TcpListener,
-    visits: &Visits<'_, N>,
+    visits: &Visits<'s, N, S>,
 ) {
     let mut gate = Gate::new(listener, visits.notices, hall.ending.is_some());
     for _ in 0..visits.connections.unwrap_or(u64::MAX) {
@@ -145,7 +157,7 @@ fn accept_all<
             break;
         };
         let came = match gate.accept(rt, hall) {
-            Ok(stream) => let_in(scope, rt, alloc, hall, hooks, stream),
+            Ok(stream) => let_in(scope, rt, alloc, hall, hooks, visits.service, stream),
             Err(failed) => Err(failed),
         };
         match came {
@@ -171,21 +183,43 @@ fn accept_all<
 }
 
 /// Accepts so many connections in a scope, and returns when the last of them has ended.
-fn serve_in<'x, B: Naming + Send + Sync, I: Ids + Send, N: Notices, T: Threads + Wait + Sync>(
+fn serve_in<
+    'x,
+    B: Naming + Send + Sync,
+    I: Ids + Send,
+    N: Notices,
+    S: Service,
+    T: Threads + Wait + Sync,
+>(
     rt: &'x T,
     alloc: Global,
     hall: &'x Hall<'x, B, I>,
     hooks: &'x PreHooks,
     listener: &'x TcpListener,
-    visits: &'x Visits<'x, N>,
+    visits: &'x Visits<'x, N, S>,
 ) {
     thread::scope(thread::scope_env(), rt, |scope| {
         accept_all(scope, rt, alloc, hall, hooks, listener, visits);
     });
 }
 
+/// Makes the board ready for the first conversation, and tells whether it is.
+fn is_ready<B: Naming, I, S: Service, T: Wait>(
+    rt: &T,
+    alloc: Global,
+    hall: &Hall<'_, B, I>,
+    service: &S,
+) -> bool {
+    let Some(seat) = hall.seats.take(rt, hall.board) else {
+        return false;
+    };
+    let (seat, is_ready) = service.begin(rt, alloc, hall.board, seat);
+    hall.seats.put_back(rt, seat);
+    is_ready
+}
+
 /// Serves the connections of a listener from seats of the board, each in a thread of its own, and returns when the last has ended, with
-/// all seats. An accept that fails, and a connection for which no thread can be started, count as a connection that has ended. Where
+/// all seats. If the service can't make the board ready none is accepted. An accept that fails, and a connection for which no thread can be started, count as a connection that has ended. Where
 /// descriptors, memory or threads are wanting it is tried again after 100 ms, or when a connection has ended, whichever is first. Where
 /// the listener is gone no other is accepted, as if so many had been served. An error is want of memory for the seats; nothing was
 /// accepted then.
@@ -193,6 +227,7 @@ pub fn serve_connections<
     B: Naming + Send + Sync,
     I: Ids + Send + Drop,
     N: Notices,
+    S: Service,
     T: Threads + Wait + Sync,
 >(
     rt: &T,
@@ -201,7 +236,7 @@ pub fn serve_connections<
     hooks: &PreHooks,
     ids: I,
     listener: &TcpListener,
-    visits: &Visits<'_, N>,
+    visits: &Visits<'_, N, S>,
 ) -> Result<Vec<Seat<B>>, AllocError> {
     let hall = Hall {
         board,
@@ -213,6 +248,8 @@ pub fn serve_connections<
         ids: Mutex::new(ids),
         seats: Seats::new(alloc, visits.open)?,
     };
-    serve_in(rt, alloc, &hall, hooks, listener, visits);
+    if is_ready(rt, alloc, &hall, visits.service) {
+        serve_in(rt, alloc, &hall, hooks, listener, visits);
+    }
     Ok(hall.seats.into_inner())
 }

@@ -24,5 +24,4 @@ pub use notices::{Entrance, Notices, Silent, Want};
 pub use patience::{Patience, milliseconds};
 pub use said::{Due, Said};
 pub use seats::Seats;
-pub use visit::converse_at;
 pub use watch::Watch;

@@ -1,9 +1,4 @@
 //! One connection.
-ghost use Rattle.up_hooks.specs.Gives.{ClosuresGive};
-ghost use Rattle.up_dispatch.specs.Answering.{Serves, course};
-ghost use Rattle.up_dispatch.specs.Keepers.{by_seat};
-ghost use Rattle.up_dispatch.specs.Turn.{Converses, stand};
-
 use crate::hall::Hall;
 use crate::patience::{Pace, Reading, Writing, milliseconds};
 use std::alloc::Global;
@@ -11,10 +6,10 @@ use std::io::{self, BufReader, BufWriter, Read};
 use std::net::{Shutdown, TcpStream};
 use std::sync::Wait;
 use std::time::Duration;
-use up_dispatch::{Board, Ended, Ids, Naming, Seat, Seated, SharedIds, converse};
+use up_dispatch::{Ended, Ids, Naming, Seat, Service, SharedIds};
 use up_events::MOST_BYTES;
 use up_hooks::PreHooks;
-use up_wire::{Input, Output, Sink, Source};
+use up_wire::{Input, Output};
 
 /// How many bytes the buffer of a connection holds that is read into. Heads are read through it, and small bodies; the bytes of
 /// larger ones are read straight to their places.
@@ -32,34 +27,14 @@ const LINGERING: u64 = 2000;
 /// How many times bytes are read and dropped of a connection that is being closed.
 const MOST_DROPPED: usize = MOST_BYTES as usize / DROPPED;
 
-/// Serves one conversation from a seat of the board, with ids of this source. No body may be larger than an upload of the board.
-pub fn converse_at<B: Naming, I: Ids, R: Source, W: Sink, T: Wait>(
-    rt: &T,
-    alloc: Global,
-    board: &Board<B>,
-    seat: &mut Seat<B>,
-    hooks: &PreHooks,
-    ids: &mut I,
-    source: &mut R,
-    sink: &mut W,
-) -> Ended
-    ensures served { Converses
-        (Serves (by_seat B.queue B.lanes B.max_size (ClosuresGive hooks.now)) I.draws) B.max_size
-        (stand (course seat.old ids.old) (R.device source.old) (W.device sink.old))
-        (stand (course seat.new ids.new) (R.device source.new) (W.device sink.new)) result }
-{
-    let max_size = board.max_size();
-    let mut seated = Seated::new(rt, board, seat);
-    converse(alloc, &mut seated, hooks, ids, max_size, source, sink)
-}
-
 /// Serves a connection from a seat. An error is a connection that can't be set up, or want of memory for its buffers; nothing was served
 /// then.
-fn talk<B: Naming, I: Ids, T: Wait>(
+fn talk<B: Naming, I: Ids, S: Service, T: Wait>(
     rt: &T,
     alloc: Global,
     hall: &Hall<'_, B, I>,
     hooks: &PreHooks,
+    service: &S,
     seat: &mut Seat<B>,
     stream: &TcpStream,
 ) -> io::Result<Ended> {
@@ -75,7 +50,7 @@ fn talk<B: Naming, I: Ids, T: Wait>(
     let mut source = Input::new(BufReader::with_capacity(alloc, READ_BUFFER, reading)?);
     let mut sink = Output::new(BufWriter::with_capacity(alloc, WRITE_BUFFER, writing)?);
     let mut ids = SharedIds { rt, ids: &hall.ids };
-    Ok(converse_at(
+    Ok(service.converse(
         rt,
         alloc,
         hall.board,
@@ -111,16 +86,17 @@ fn close(stream: &TcpStream) -> io::Result<()> {
 
 /// Serves a connection from a seat that it takes and puts back, and closes it. Where no seat is free, or the connection can't be set up,
 /// it is closed with no answer, which changes nothing for others.
-pub fn attend<B: Naming, I: Ids, T: Wait>(
+pub fn attend<B: Naming, I: Ids, S: Service, T: Wait>(
     rt: &T,
     alloc: Global,
     hall: &Hall<'_, B, I>,
     hooks: &PreHooks,
+    service: &S,
     stream: TcpStream,
 ) {
     if let Some(mut seat) = hall.seats.take(rt, hall.board) {
         hall.begin_reading(rt, &stream);
-        let ended = talk(rt, alloc, hall, hooks, &mut seat, &stream);
+        let ended = talk(rt, alloc, hall, hooks, service, &mut seat, &stream);
         hall.end_reading(rt, &stream);
         hall.seats.put_back(rt, seat);
         if matches!(ended, Ok(Ended::Closed)) {

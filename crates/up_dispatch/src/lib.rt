@@ -16,6 +16,7 @@ mod naming;
 mod parts;
 mod reply;
 mod seat;
+mod service;
 
 pub use answering::answer;
 pub use board::Board;
@@ -31,3 +32,4 @@ pub use lending::{converse_by_book, lent_answer_is_exact, lent_conversation_is_e
 pub use naming::Naming;
 pub use parts::{BoardParts, MOST_SEATS};
 pub use seat::Seat;
+pub use service::{AtOnce, Service, converse_at};

@@ -21,7 +21,7 @@ use std::sync::Wait;
 use std::thread;
 use std::thread::{Scope, Threads};
 use up_connections::{Notices, Visits, serve_connections};
-use up_dispatch::{Board, BoardParts, Ids, Naming, Report, Seat};
+use up_dispatch::{Board, BoardParts, Ids, Naming, Report, Seat, Service};
 use up_events::{Event, NoMemory};
 use up_hooks::{Outcome, PostHook, PreHooks, Recorder, Teller};
 use up_lanes::{Lane, LaneEnd};
@@ -36,6 +36,7 @@ fn attend_in<
     H: PostHook + Drop + 's,
     I: Ids + Send + Drop,
     N: Notices,
+    S: Service,
     T: Threads + Wait + Eprint + Sync,
 >(
     scope: &Scope<'s, E>,
@@ -45,7 +46,7 @@ fn attend_in<
     lanes: Vec<Lane<H>>,
     hooks: &PreHooks,
     listener: &TcpListener,
-    visits: &Visits<'s, N>,
+    visits: &Visits<'s, N, S>,
     ids: I,
 ) -> Result<(Vec<Seat<B>>, Vec<LaneEnd<H>>), AllocError>
     requires lanes { EachAt (λ k l. (l.lane ≡ k) × (l.queue ≡ B.queue k)) lanes.items }
@@ -66,6 +67,7 @@ fn attend<
     H: PostHook + Drop,
     I: Ids + Send + Drop,
     N: Notices,
+    S: Service,
     T: Threads + Wait + Eprint + Sync,
 >(
     rt: &T,
@@ -74,7 +76,7 @@ fn attend<
     lanes: Vec<Lane<H>>,
     hooks: &PreHooks,
     listener: &TcpListener,
-    visits: &Visits<'_, N>,
+    visits: &Visits<'_, N, S>,
     ids: I,
 ) -> Result<(Vec<Seat<B>>, Vec<LaneEnd<H>>), AllocError>
     requires lanes { EachAt (λ k l. (l.lane ≡ k) × (l.queue ≡ B.queue k)) lanes.items }
@@ -106,6 +108,7 @@ fn run<
     H: PostHook + Drop,
     I: Ids + Send + Drop,
     N: Notices,
+    S: Service,
     T: Threads + Wait + Eprint + Sync,
 >(
     rt: &T,
@@ -115,7 +118,7 @@ fn run<
     post_hooks: Vec<H>,
     settings: &Settings,
     listener: &TcpListener,
-    visits: &Visits<'_, N>,
+    visits: &Visits<'_, N, S>,
     ids: I,
 ) -> Result<Report<H>, NoMemory>
     requires named { IsNamed B.name B.parts B.queue B.lanes parts }
@@ -143,6 +146,7 @@ pub fn serve_with<
     H: PostHook + Drop,
     I: Ids + Send + Drop,
     N: Notices,
+    S: Service,
     T: Threads + Wait + Eprint + Sync,
 >(
     rt: &T,
@@ -151,7 +155,7 @@ pub fn serve_with<
     post_hooks: Vec<H>,
     settings: &Settings,
     listener: TcpListener,
-    visits: &Visits<'_, N>,
+    visits: &Visits<'_, N, S>,
     ids: I,
 ) -> Result<Report<H>, NoMemory>
     requires one_for_each { vec_len post_hooks ≡ settings.now.lanes }
@@ -160,7 +164,7 @@ pub fn serve_with<
     ensures sound { IfOk result (λ r. All (λ x. H.is_sound x.hook) r.lanes.items) }
 {
     let parts = BoardParts::new(alloc, settings.lanes, settings.capacity)?;
-    run::<Brand, _, _, _, _>(
+    run::<Brand, _, _, _, _, _>(
         rt, alloc, parts, &hooks, post_hooks, settings, &listener, visits, ids,
     )
 }
@@ -174,6 +178,7 @@ pub fn serve<
     F: Fn(&Event) -> Outcome + Send + Drop,
     I: Ids + Send + Drop,
     N: Notices,
+    S: Service,
     W: Sink,
     T: Threads + Wait + Eprint + Sync,
 >(
@@ -183,7 +188,7 @@ pub fn serve<
     recorders: Vec<Recorder<F>>,
     settings: &Settings,
     listener: TcpListener,
-    visits: &Visits<'_, N>,
+    visits: &Visits<'_, N, S>,
     ids: I,
     sink: &mut W,
 ) -> Result<(), ServerFault>
@@ -206,6 +211,7 @@ pub fn keep_serving<
     F: Fn(&Event) -> Outcome + Send + Drop,
     I: Ids + Send + Drop,
     N: Notices,
+    S: Service,
     W: Sink,
     T: Threads + Wait + Eprint + Sync,
 >(
@@ -215,7 +221,7 @@ pub fn keep_serving<
     tellers: Vec<Teller<F>>,
     settings: &Settings,
     listener: TcpListener,
-    visits: &Visits<'_, N>,
+    visits: &Visits<'_, N, S>,
     ids: I,
     sink: &mut W,
 ) -> Result<(), ServerFault>

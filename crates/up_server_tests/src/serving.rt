@@ -12,7 +12,7 @@ use std::net::TcpListener;
 use std::sync::Wait;
 use std::thread::Threads;
 use up_connections::{Notices, Visits};
-use up_dispatch::Counting;
+use up_dispatch::{AtOnce, Counting};
 use up_events::Event;
 use up_hooks::{Outcome, PostHook, PreHooks, Recorder, new_recorders};
 use up_server::{ServerFault, serve};
@@ -31,7 +31,7 @@ pub fn reported<
     answer: F,
     settings: &Settings,
     listener: TcpListener,
-    visits: &Visits<'_, N>,
+    visits: &Visits<'_, N, AtOnce>,
 ) -> Result<Vec<u8>, ServerFault>
     requires callable { F.IsAlwaysCallable answer }
     requires codes { GivesCodes F.Fn answer }

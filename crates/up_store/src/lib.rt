@@ -1,6 +1,7 @@
 //! A seat of a board whose changes are written to a log before they are made.
 #![tactic(auto)]
 
+mod keeping;
 mod line;
 mod notices;
 mod restoring;
@@ -8,6 +9,7 @@ mod store;
 mod stored;
 mod voids;
 
+pub use keeping::{Keeping, converse_stored};
 pub use line::{Line, Next};
 pub use notices::StoreNotices;
 pub use restoring::{Logs, restore_on};

@@ -12,7 +12,7 @@ use std::sync::Wait;
 use std::test::Fail;
 use std::thread::Threads;
 use up_connections::{Entrance, Notices, Patience, Silent, Visits, serve_connections};
-use up_dispatch::{Board, BoardParts, Counting, Naming};
+use up_dispatch::{AtOnce, Board, BoardParts, Counting, Naming};
 use up_hooks::PreHooks;
 
 const ASKED: &[u8] = b"POST /files/ HTTP/1.1\r\nHost: a\r\nTus-Resumable: 1.0.0\r\n\
@@ -35,7 +35,7 @@ fn counts<B: Naming + Send + Sync, N: Notices, T: Threads + Wait + Sync>(
     alloc: Global,
     parts: BoardParts,
     listener: &TcpListener,
-    visits: &Visits<'_, N>,
+    visits: &Visits<'_, N, AtOnce>,
 ) -> Result<Vec<u64>, Fail>
     requires named { IsNamed B.name B.parts B.queue B.lanes parts }
     requires lanes { length parts.queues ≡ 1 }
@@ -58,6 +58,7 @@ fn serves_three_from_one_seat(rt: HostRuntime) -> Result<(), Fail> {
     let address = listener.local_addr()?;
     let mut clients = ask_each(&rt, address, &[ASKED; 3])?;
     let visits = Visits {
+        service: &AtOnce,
         connections: Some(3),
         open: 1,
         patience: Patience::default(),
@@ -87,6 +88,7 @@ fn ends_where_the_listener_is_gone(rt: HostRuntime) -> Result<(), Fail> {
     assert_eq!(rt; status, 0);
     let last = Last(Cell::new(None));
     let visits = Visits {
+        service: &AtOnce,
         connections: None,
         open: 2,
         patience: Patience::default(),

@@ -12,6 +12,7 @@ use std::test::Fail;
 use std::thread;
 use up_board_tests::{Gate, HEAD, POST};
 use up_connections::{Patience, Silent, Visits};
+use up_dispatch::AtOnce;
 use up_events::Event;
 use up_hooks::{Outcome, PreHook, PreHooks};
 use up_machine::{Ask, Point, Verdict};
@@ -49,6 +50,7 @@ fn a_closure_waits_for_another_connection(rt: HostRuntime) -> Result<(), Fail> {
     let hooks = PreHooks::new(hooks);
     let shared = &*gate;
     let visits = Visits {
+        service: &AtOnce,
         connections: Some(2),
         open: 2,
         patience: Patience::default(),

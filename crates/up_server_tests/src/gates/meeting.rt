@@ -10,6 +10,7 @@ use std::sync::atomic::{AtomicBool, Ordering};
 use std::test::Fail;
 use up_board_tests::{POST, is_set_in_time};
 use up_connections::{Patience, Silent, Visits};
+use up_dispatch::AtOnce;
 use up_events::Event;
 use up_hooks::{Outcome, PreHooks};
 use up_wire::Input;
@@ -97,6 +98,7 @@ fn post_hooks_meet_by_two_connections(rt: HostRuntime) -> Result<(), Fail> {
     let hooks = PreHooks::new(Vec::new(rt.alloc()));
     let settings = Settings::default();
     let visits = Visits {
+        service: &AtOnce,
         connections: Some(2),
         open: 1,
         patience: Patience::default(),

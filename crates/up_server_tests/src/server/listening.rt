@@ -4,6 +4,7 @@ use crate::serving::reported;
 use std::net::TcpListener;
 use std::test::Fail;
 use up_connections::{Patience, Silent, Visits};
+use up_dispatch::AtOnce;
 use up_events::Event;
 use up_hooks::{Outcome, PreHooks};
 use up_words::Settings;
@@ -30,6 +31,7 @@ fn reports_what_each_connection_did(rt: HostRuntime) -> Result<(), Fail> {
     let address = listener.local_addr()?;
     let mut clients = ask_each(&rt, address, &ASKED)?;
     let visits = Visits {
+        service: &AtOnce,
         connections: Some(3),
         open: 1,
         patience: Patience::default(),

@@ -13,7 +13,7 @@ use std::thread;
 use std::thread::Threads;
 use std::time::Duration;
 use up_connections::{Patience, Silent, Visits};
-use up_dispatch::{Counting, Report};
+use up_dispatch::{AtOnce, Counting, Report};
 use up_events::{Event, Hook, Id, NoMemory};
 use up_hooks::{Outcome, PostHook, PreHooks};
 use up_lanes::How;
@@ -104,6 +104,7 @@ fn served<'a, T: Threads + Wait + Eprint + Sync>(
         max_size: 1024,
     };
     let visits = Visits {
+        service: &AtOnce,
         connections: Some(connections),
         open: 1,
         patience: Patience::default(),

@@ -1,0 +1,97 @@
+//! How conversations are held.
+ghost use Rattle.std.specs.Prelude.{◌≡◌};
+ghost use Rattle.up_hooks.specs.Gives.{ClosuresGive};
+ghost use Rattle.up_dispatch.specs.Answering.{Serves, course};
+ghost use Rattle.up_dispatch.specs.Keepers.{by_seat};
+ghost use Rattle.up_dispatch.specs.Turn.{Converses, stand};
+
+use crate::board::Board;
+use crate::conversation::{Ended, converse};
+use crate::ids::Ids;
+use crate::keeper::Seated;
+use crate::naming::Naming;
+use crate::seat::Seat;
+use std::alloc::Global;
+use std::marker::Sync;
+use std::sync::Wait;
+use up_hooks::PreHooks;
+use up_wire::{Sink, Source};
+
+/// Serves one conversation from a seat of the board, with ids of this source. No body may be larger than an upload of the board.
+pub fn converse_at<B: Naming, I: Ids, R: Source, W: Sink, T: Wait>(
+    rt: &T,
+    alloc: Global,
+    board: &Board<B>,
+    seat: &mut Seat<B>,
+    hooks: &PreHooks,
+    ids: &mut I,
+    source: &mut R,
+    sink: &mut W,
+) -> Ended
+    ensures served { Converses
+        (Serves (by_seat B.queue B.lanes B.max_size (ClosuresGive hooks.now)) I.draws) B.max_size
+        (stand (course seat.old ids.old) (R.device source.old) (W.device sink.old))
+        (stand (course seat.new ids.new) (R.device source.new) (W.device sink.new)) result }
+{
+    let max_size = board.max_size();
+    let mut seated = Seated::new(rt, board, seat);
+    converse(alloc, &mut seated, hooks, ids, max_size, source, sink)
+}
+
+/// How the conversations of a server are held.
+pub trait Service: Sync {
+    /// Makes a new board ready for the first of them, from this seat, which comes back. Tells whether it is ready: if it
+    /// isn't, no conversation is to be held on it.
+    fn begin<B: Naming, T: Wait>(
+        &self,
+        rt: &T,
+        alloc: Global,
+        board: &Board<B>,
+        seat: Seat<B>,
+    ) -> (Seat<B>, bool);
+
+    /// Holds one conversation from a seat of the board, with ids of this source.
+    fn converse<B: Naming, I: Ids, R: Source, W: Sink, T: Wait>(
+        &self,
+        rt: &T,
+        alloc: Global,
+        board: &Board<B>,
+        seat: &mut Seat<B>,
+        hooks: &PreHooks,
+        ids: &mut I,
+        source: &mut R,
+        sink: &mut W,
+    ) -> Ended;
+}
+
+/// Each change is made at once, and is in memory alone.
+#[derive(Clone, Copy, Drop)]
+pub struct AtOnce;
+
+impl Service for AtOnce {
+    fn begin<B: Naming, T: Wait>(
+        &self,
+        _rt: &T,
+        _alloc: Global,
+        _board: &Board<B>,
+        seat: Seat<B>,
+    ) -> (Seat<B>, bool)
+        ensures { result.0 ≡ seat }
+    {
+        (seat, true)
+    }
+
+    fn converse<B: Naming, I: Ids, R: Source, W: Sink, T: Wait>(
+        &self,
+        rt: &T,
+        alloc: Global,
+        board: &Board<B>,
+        seat: &mut Seat<B>,
+        hooks: &PreHooks,
+        ids: &mut I,
+        source: &mut R,
+        sink: &mut W,
+    ) -> Ended {
+        converse_at(rt, alloc, board, seat, hooks, ids, source, sink)
+    }
+}

@@ -1,0 +1,115 @@
+//! Conversations whose changes are written to a log before they are made.
+ghost use Rattle.std.specs.Prelude.{◌≡◌};
+ghost use Rattle.up_hooks.specs.Gives.{ClosuresGive};
+ghost use Rattle.up_dispatch.specs.Answering.{Serves, course};
+ghost use Rattle.up_dispatch.specs.Turn.{Converses, stand};
+ghost use Rattle.up_store.specs.Stored.{by_stored_seat};
+
+use crate::notices::StoreNotices;
+use crate::restoring::restore_on;
+use crate::store::Store;
+use crate::stored::Stored;
+use sqlite_disk::Disk;
+use std::alloc::Global;
+use std::marker::{Send, Sync};
+use std::sync::{Mutex, OnceLock, Wait};
+use up_dispatch::{Board, Ended, Ids, Naming, Seat, Service, converse};
+use up_hooks::PreHooks;
+use up_log::LogReader;
+use up_replay::{Unreplayed, Unrestored};
+use up_wire::{Sink, Source};
+
+/// The logs of a server, from before they are read on.
+#[derive(Drop)]
+pub struct Keeping<D: Disk, N> {
+    /// That of the changes, and that of the voids, until they are read.
+    readers: Mutex<Option<(LogReader<D>, LogReader<D>)>>,
+    store: OnceLock<Store<D, N>>,
+    notices: N,
+}
+
+impl<D: Disk, N> Keeping<D, N> {
+    /// Over the log of the changes and that of the voids, of which nothing is read yet.
+    pub fn new(changes: LogReader<D>, voids: LogReader<D>, notices: N) -> Keeping<D, N> {
+        Keeping {
+            readers: Mutex::new(Some((changes, voids))),
+            store: OnceLock::new(),
+            notices,
+        }
+    }
+}
+
+/// Holds one conversation from a seat of the board, with ids of this source. Each change is in the log before the board
+/// hears of it.
+pub fn converse_stored<B: Naming, D: Disk, N: StoreNotices, I: Ids, R: Source, W: Sink, T: Wait>(
+    rt: &T,
+    alloc: Global,
+    board: &Board<B>,
+    store: &Store<D, N>,
+    seat: &mut Seat<B>,
+    hooks: &PreHooks,
+    ids: &mut I,
+    source: &mut R,
+    sink: &mut W,
+) -> Ended
+    ensures served { Converses
+        (Serves (by_stored_seat B.queue B.lanes B.max_size (ClosuresGive hooks.now)) I.draws) B.max_size
+        (stand (course seat.old ids.old) (R.device source.old) (W.device sink.old))
+        (stand (course seat.new ids.new) (R.device source.new) (W.device sink.new)) result }
+{
+    let max_size = board.max_size();
+    let mut stored = Stored::new(rt, board, store, seat);
+    converse(alloc, &mut stored, hooks, ids, max_size, source, sink)
+}
+
+impl<D: Disk + Drop + Send, N: StoreNotices + Copy + Drop + Send + Sync> Service for Keeping<D, N> {
+    /// Carries out the changes of the log again. If that fails the notices are told why.
+    fn begin<B: Naming, T: Wait>(
+        &self,
+        rt: &T,
+        alloc: Global,
+        board: &Board<B>,
+        seat: Seat<B>,
+    ) -> (Seat<B>, bool) {
+        let mut seat = seat;
+        let Some((changes, voids)) = self.readers.lock(rt).take() else {
+            return (seat, false);
+        };
+        let notices = self.notices;
+        match restore_on(rt, alloc, board, &mut seat, changes, voids) {
+            Ok(logs) => match Store::new(alloc, logs, notices) {
+                Ok(store) => {
+                    let is_set = self.store.set(rt, store).is_ok();
+                    (seat, is_set)
+                }
+                Err(_) => {
+                    notices.is_not_restored(Unrestored::Entry(Unreplayed::Memory));
+                    (seat, false)
+                }
+            },
+            Err(why) => {
+                notices.is_not_restored(why);
+                (seat, false)
+            }
+        }
+    }
+
+    fn converse<B: Naming, I: Ids, R: Source, W: Sink, T: Wait>(
+        &self,
+        rt: &T,
+        alloc: Global,
+        board: &Board<B>,
+        seat: &mut Seat<B>,
+        hooks: &PreHooks,
+        ids: &mut I,
+        source: &mut R,
+        sink: &mut W,
+    ) -> Ended {
+        match self.store.get() {
+            Some(store) => {
+                converse_stored(rt, alloc, board, store, seat, hooks, ids, source, sink)
+            }
+            None => Ended::Closed,
+        }
+    }
+}
