@@ -1,4 +1,5 @@
-/* The client of bench/serve: does one kind of work on the server at a port of the loopback, and says what it took.
+/* The client of bench/serve and bench/shards: does one kind of work on the server at a port of the loopback, and says what
+ * it took.
  *
  *     client PORT tus|put append CONNECTIONS REQUESTS BYTES   seconds, and the name of what came first
  *     client PORT tus|put check NAME BYTES                    nothing; fetches the bytes and looks at them
@@ -8,18 +9,22 @@
  *     client PORT tus|put stay CONNECTIONS                    "open", and then waits for the end of its input
  *     client PORT tus lanes TURNS REQUESTS EVENTS             seconds for requests on an upload of lane 1, and for as
  *                                                             many while events of lane 0 wait for their hook
+ *     client PORT tus together CONNECTIONS BYTES              "open" once as many PATCHes have half of their bytes; and
+ *                                                             behind the end of its input seconds until all are answered
  *
- * `tus` makes uploads and appends to them by PATCH, `put` writes files by PUT. A connection has a thread and waits for
- * each reply before the next request. It needs a C compiler on Linux, and ends with 1 where a reply is a wrong one.
+ * `tus` makes uploads and appends to them by PATCH, `put` writes files by PUT, and `apart` is `tus` with each connection
+ * from an address of its own. PORT may be several with a comma between, which the connections take by turns. A
+ * connection has a thread, but those that are together, and waits for each reply before the next request. It needs a C
+ * compiler on Linux, and ends with 1 where a reply is a wrong one.
  */
 #include "talk.h"
 #include <pthread.h>
 #include <sys/uio.h>
 
-enum { PIECE = 1 << 20, NUMBERS = 3 };
+enum { PIECE = 1 << 20, NUMBERS = 3, PORTS = 16 };
 
-static int port;
-static int speaks_tus;
+static int ports[PORTS], port_count;
+static int speaks_tus, is_apart;
 static char piece[PIECE]; /* of which all bodies are made */
 
 /* Reads a whole reply without a body to speak of, and connects anew where the server closes after it. */
@@ -39,7 +44,8 @@ static void read_reply(struct talk *talk, int status, int other)
 static void make(struct talk *talk, int number, size_t length)
 {
     char head[HEAD];
-    talk->port = port;
+    talk->port = ports[number % port_count];
+    talk->from = is_apart ? number + 1 : 0;
     open_talk(talk);
     if (!speaks_tus) {
         snprintf(talk->path, NAME, "/%d", number);
@@ -178,7 +184,7 @@ static void fetch(struct talk *talk, const char *name, size_t bytes, int looks)
 
 static void work_fetch(const char *name, size_t bytes, int times, int looks)
 {
-    struct talk talk = {.port = port};
+    struct talk talk = {.port = ports[0]};
     open_talk(&talk);
     double start = now();
     for (int time = 0; time < times; time++) {
@@ -214,8 +220,7 @@ static void work_visit(const char *name, int connections)
     int size = snprintf(head, HEAD, "HEAD %s HTTP/1.1\r\nHost: a\r\nConnection: close\r\n\r\n", name);
     double start = now();
     for (int visit = 0; visit < connections; visit++) {
-        struct talk talk;
-        talk.port = port;
+        struct talk talk = {.port = ports[0]};
         open_talk(&talk);
         send_all(&talk, head, size);
         read_head(&talk, 200, 200);
@@ -277,6 +282,30 @@ static void work_stay(int connections)
     }
 }
 
+/* Bodies of less than a piece that are all under way at once, and are then brought to their ends. */
+static void work_together(int connections, size_t bytes)
+{
+    struct talk *talks = calloc(connections, sizeof *talks);
+    char head[HEAD];
+    for (int number = 0; number < connections; number++) {
+        make(&talks[number], number, bytes);
+        send_all(&talks[number], head, append_head(&talks[number], head, 0, bytes));
+        send_all(&talks[number], piece, bytes / 2);
+    }
+    printf("open\n");
+    fflush(stdout);
+    while (getchar() != EOF) {
+    }
+    double start = now();
+    for (int number = 0; number < connections; number++) {
+        send_all(&talks[number], piece + bytes / 2, bytes - bytes / 2);
+    }
+    for (int number = 0; number < connections; number++) {
+        read_head(&talks[number], 204, 204);
+    }
+    printf("%f\n", now() - start);
+}
+
 /* Does the work that the words name; whether there is such a work. */
 static int work_on(const char *work, const char *name, const size_t *numbers)
 {
@@ -294,6 +323,8 @@ static int work_on(const char *work, const char *name, const size_t *numbers)
         work_stay(numbers[0]);
     } else if (strcmp(work, "lanes") == 0) {
         work_lanes(numbers[0], numbers[1], numbers[2]);
+    } else if (strcmp(work, "together") == 0) {
+        work_together(numbers[0], numbers[1]);
     } else {
         return 0;
     }
@@ -306,8 +337,11 @@ int main(int count, char **words)
     if (count < 5) {
         stop("usage: client PORT tus|put WORK WORD..");
     }
-    port = atoi(words[1]);
-    speaks_tus = strcmp(words[2], "tus") == 0;
+    for (char *word = strtok(words[1], ","); word != NULL && port_count < PORTS; word = strtok(NULL, ",")) {
+        ports[port_count++] = atoi(word);
+    }
+    is_apart = strcmp(words[2], "apart") == 0;
+    speaks_tus = is_apart || strcmp(words[2], "tus") == 0;
     for (int word = 4; word < count && word < 4 + NUMBERS; word++) {
         numbers[word - 4] = strtoull(words[word], NULL, 10);
     }

@@ -20,6 +20,7 @@ enum { HEAD = 4096, NAME = 128 };
 /* A connection, and the upload or file that its requests are about. */
 struct talk {
     int port;
+    int from; /* which address of the loopback it comes from; 0 leaves that to the system */
     int socket;
     char path[NAME];
     char read[HEAD + 1];
@@ -50,9 +51,17 @@ static double now(void)
 static void open_talk(struct talk *talk)
 {
     struct sockaddr_in address = {.sin_family = AF_INET, .sin_port = htons(talk->port)};
+    struct sockaddr_in own = {.sin_family = AF_INET};
     int on = 1;
     address.sin_addr.s_addr = htonl(INADDR_LOOPBACK);
+    own.sin_addr.s_addr = htonl(INADDR_LOOPBACK + talk->from);
     talk->socket = socket(AF_INET, SOCK_STREAM, 0);
+    if (talk->from != 0) {
+        setsockopt(talk->socket, IPPROTO_IP, IP_BIND_ADDRESS_NO_PORT, &on, sizeof on);
+    }
+    if (talk->from != 0 && bind(talk->socket, (struct sockaddr *)&own, sizeof own) != 0) {
+        stop("cannot bind: %m");
+    }
     if (talk->socket < 0 || connect(talk->socket, (struct sockaddr *)&address, sizeof address) != 0) {
         stop("cannot connect: %m");
     }

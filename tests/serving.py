@@ -148,9 +148,8 @@ http {{
 
 
 class NginxServer:
-    """nginx on a free port of the loopback, with so many workers, each with so many connections. `lines_of` answers the lines
-    of its `http` block, from the port and a folder for its files. It is ended at the end of the `with`, and the folder, which
-    stands in `place`, with it."""
+    """nginx on a free port of the loopback, with so many workers, and connections of each. `lines_of` answers the lines of its
+    `http` block, from the port and a folder for its files, which stands in `place`. Both end with the `with`."""
 
     def __init__(self, lines_of, workers, place=None, connections=4096):
         self.lines_of, self.workers, self.place, self.connections = lines_of, workers, place, connections
@@ -163,8 +162,7 @@ class NginxServer:
         user = "user root;" if os.geteuid() == 0 else ""
         lines = self.lines_of(self.port, self.folder)
         with open(path, "w", encoding="ascii") as file:
-            words = {"workers": self.workers, "connections": self.connections, "folder": self.folder}
-            file.write(NGINX.format(**words, user=user, lines=lines))
+            file.write(NGINX.format(**vars(self), user=user, lines=lines))
         self.process = subprocess.Popen(["nginx", "-c", path, "-e", errors])
         soon(lambda: self.listens() or self.process.poll() is not None, "nginx listens")
         if self.process.poll() is not None:
@@ -215,12 +213,10 @@ def patch(path, offset, length):
 
 
 class Connection:
-    """A connection to a server, from this address of the loopback if there is one. What is read waits `MOST_WAIT` seconds at
-    most."""
+    """A connection to a server, from an address of the loopback. What is read waits `MOST_WAIT` seconds at most."""
 
     def __init__(self, server, address=None):
-        source = (address, 0) if address else None
-        self.socket = socket.create_connection(("127.0.0.1", server.port), MOST_WAIT, source)
+        self.socket = socket.create_connection(("127.0.0.1", server.port), MOST_WAIT, address and (address, 0))
         self.socket.setsockopt(socket.IPPROTO_TCP, socket.TCP_NODELAY, 1)
         self.read = b""
 

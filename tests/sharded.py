@@ -1,5 +1,6 @@
 """What `tests/shards` and `bench/shards` share: servers that are shards, and the proxies of examples/shards in front of them.
-The proxies have the lines that stand there, with other ports, so what people copy is what is tried.
+The proxies have the lines that stand there, with other ports, so what people copy is what is tried. And the clients of
+`tests/shards`, which keep a count.
 """
 import contextlib
 import os
@@ -10,7 +11,7 @@ import subprocess
 import tempfile
 
 from fronted import replaced
-from serving import ROOT, NginxServer, Server, events_of, free_port, same, soon
+from serving import ROOT, Connection, NginxServer, Server, events_of, free_port, head, patch, same, soon
 
 EXAMPLE = os.path.join(ROOT, "examples", "shards")
 
@@ -20,14 +21,20 @@ SHARDS, FIRST_PORT = 4, 1080
 # The most seconds that an end in order may take.
 MOST_END = 40
 
+# What a shard answers that is ending, and what a proxy does for one that is gone.
+CLOSED, GONE = (503, b"20 Closed\n"), 502
 
-def quiet_port():
-    """A free port of those that the system gives to no client: nobody else takes it while a shard is away."""
-    while True:
-        port = random.randrange(10_000, 30_000)
-        with contextlib.suppress(OSError), socket.socket() as free:
-            free.bind(("127.0.0.1", port))
-            return port
+
+def quiet_ports(count):
+    """So many free ports, of those that the system gives to no client: nobody else takes them while a shard is away."""
+    ports = []
+    with contextlib.ExitStack() as stack:
+        while len(ports) < count:
+            port, free = random.randrange(10_000, 30_000), stack.enter_context(socket.socket())
+            with contextlib.suppress(OSError):
+                free.bind(("127.0.0.1", port))
+                ports.append(port)
+    return ports
 
 
 def shard_of(path):
@@ -69,7 +76,7 @@ class Shards:
 
     def __init__(self, program, *words, count=SHARDS, **how):
         self.program, self.words, self.how = program, words, how
-        self.ports = [quiet_port() for _ in range(count)]
+        self.ports = quiet_ports(count)
         self.told = []
 
     def __enter__(self):
@@ -188,3 +195,106 @@ class HaproxyOfShards:
 
     def processes(self):
         return [self.process.pid]
+
+
+class Client:
+    """A client of a proxy, from an address of its own and with these fields in each of its requests. It notes the events that
+    it was acknowledged of, and those of changes that had no answer."""
+
+    def __init__(self, front, number, **fields):
+        self.front, self.address, self.fields = front, f"127.0.1.{1 + number}", fields
+        self.connection = None
+        self.told, self.unanswered = {}, []
+
+    def hear(self, method, target, body=b"", **fields):
+        """The reply to a message, over the connection that there is, or a new one; None where it ends without one."""
+        if self.connection is None:
+            self.connection = Connection(self.front, self.address)
+        named = {name.replace("_", "-"): value for name, value in {**self.fields, **fields}.items()}
+        message = head(method, target, named)
+        if method == "PATCH":
+            message = patch(target, fields.pop("at"), len(body)) + body
+        reply = None
+        with contextlib.suppress(OSError):
+            self.connection.send(message)
+            if self.connection.read or self.connection.more():
+                reply = self.connection.reply(method == "HEAD")
+        if reply is None or reply.fields.get("connection", "").lower() == "close":
+            self.close()
+        return reply
+
+    def close(self):
+        if self.connection:
+            self.connection.socket.close()
+        self.connection = None
+
+    def change(self, method, path, *events, **more):
+        """The status of a change of this upload, or of one that is made; it is noted what was told of it."""
+        reply = self.hear(method, path or "/files/", **more)
+        if reply is None or reply.status == GONE:
+            self.unanswered.append((path, list(events)))
+            return GONE
+        if reply.status in (201, 204):
+            self.path = path or reply.fields["location"]
+            self.told.setdefault(self.path, []).extend(events)
+        elif reply.status == CLOSED[0]:
+            same(reply.body, CLOSED[1], "what a shard says that refuses a change")
+        return reply.status
+
+    def make(self, size, **fields):
+        """The path of a new upload."""
+        same(self.change("POST", None, f"post-create 0/{size}", upload_length=size, **fields), 201, "the status of a POST")
+        return self.path
+
+    def append(self, path, offset, body, size):
+        """The status of a PATCH that brings these bytes."""
+        reached = offset + len(body)
+        events = [f"post-receive {reached}/{size}", f"post-finish {size}/{size}"][: 1 + (reached == size)]
+        return self.change("PATCH", path, *events, body=body, at=offset)
+
+    def fill(self, body, **fields):
+        """The path of a new upload with these bytes, which come in two bodies."""
+        path, half = self.make(len(body), **fields), len(body) // 2
+        same(self.append(path, 0, body[:half], len(body)), 204, "the status of a PATCH")
+        same(self.append(path, half, body[half:], len(body)), 204, "the status of the second PATCH")
+        return path
+
+    def join(self, paths, size):
+        """The status of a POST that joins these parts, and makes `path` the final upload."""
+        events = [f"post-create {size}/{size}", f"post-finish {size}/{size}"]
+        return self.change("POST", None, *events, upload_concat="final;" + " ".join(paths))
+
+    def remove(self, path, size):
+        return self.change("DELETE", path, f"post-terminate {size}/{size}")
+
+    def status(self, path, method="HEAD"):
+        reply = self.hear(method, path)
+        return reply and reply.status
+
+    def holds(self, path, body):
+        """Sees that a GET brings these bytes."""
+        reply = self.hear("GET", path)
+        same((reply.status, reply.body == body), (200, True), f"the status of a GET of {path}, and whether the bytes came")
+
+
+def numbered(events):
+    """The events of an upload as lines tell of them."""
+    return [f"{number} {event} done" for number, event in enumerate(events, 1)]
+
+
+def hold(events, clients, killed=()):
+    """Holds the events of all uploads to what the clients were told. Of those that were killed the first ones are enough. An
+    upload that no client knows was made by a POST that had no answer of its shard; how many such there are."""
+    events = dict(events)
+    for client in clients:
+        maybe = dict(client.unanswered)
+        for path, told in client.told.items():
+            came, wanted = events.pop(path, []), [numbered(told), numbered(told + maybe.get(path, []))]
+            if path in killed:
+                same(wanted[1][: len(came)], came, f"the first events of {path}")
+            else:
+                same(came in wanted, True, f"whether {came} of {path} are {wanted[0]}, or behind these what had no answer")
+    for path, came in events.items():
+        only_made = came[0].startswith("1 post-create ") and len(came) == 1
+        same(only_made, True, f"whether {path}, of which no client knows, was only made")
+    return len(events)
