@@ -1,5 +1,5 @@
 //! Disks that fail, and crash.
-use crate::logs::{PAIR, spelled_of, read};
+use crate::logs::{PAIR, read, spelled_of};
 use sqlite_disk::{Crash, Fuse, Memory};
 use std::alloc::Global;
 use std::test::Fail;

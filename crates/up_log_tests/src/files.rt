@@ -1,5 +1,5 @@
 //! Files that a crash left, files that are refused, and a file of the system.
-use crate::logs::{PAIR, SETUP, batches_of, disk_of, spelled_of, log_of, read};
+use crate::logs::{PAIR, SETUP, batches_of, disk_of, log_of, read, spelled_of};
 use sqlite_std_file::Unknown;
 use std::alloc::Global;
 use std::fs;

@@ -1,11 +1,15 @@
-//! The tests of the log and of what is made again from it, which use them from outside, as a program does: what no
-//! contract says of them.
+//! The tests of the log, of what is made again from it, and of lanes that go on where earlier runs ended. They use
+//! these from outside, as a program does: what no contract says of them.
 #![tactic(auto)]
 
 #[cfg(test)]
 mod failing;
 #[cfg(test)]
 mod files;
+#[cfg(test)]
+mod full_once;
+#[cfg(test)]
+mod handing;
 #[cfg(test)]
 mod logs;
 #[cfg(test)]

@@ -1,0 +1,41 @@
+-- What contracts say of a post-hook that goes on where earlier runs ended.
+use Rattle.std.specs.Prelude.{◌≡◌, ℕ, max, List, length, drop}
+use Rattle.sqlite_disk.specs.declared.Disk.{Ghosts}
+use Rattle.up_events.specs.declared.event.Event.{Event}
+use Rattle.up_handed.specs.declared.continued.Continued.{Continued}
+use Rattle.up_handed.specs.declared.handed.Handed.{Handed}
+use Rattle.up_handed.specs.declared.fault.HandedFault.{HandedFault}
+use Rattle.up_handed.specs.Faults.{StopsAt}
+use Rattle.up_handed.specs.OnDisk.{IsOnDisk}
+use Rattle.up_hooks.specs.declared.post_hook.PostHook as post_hook
+
+module _ {H D : Type 0} {g : Ghosts D} where
+  -- how many events earlier runs handed over
+  abbrev pub before_of : Continued H D g → ℕ
+  before_of continued = continued.before
+
+  -- the events that all runs together handed over, in order
+  abbrev pub events_of : Continued H D g → List Event
+  events_of continued = continued.told.items
+
+  -- the post-hook within
+  abbrev pub hook_of : Continued H D g → H
+  hook_of continued = continued.hook
+
+  -- the count
+  abbrev pub handed_of : Continued H D g → Handed D g
+  handed_of continued = continued.handed
+
+  -- the post-hook within can be called, and was handed all events but those that earlier runs handed over
+  pub record GoesOn (h : post_hook.Ghosts H) (continued : Continued H D g) : Type 0 where
+    pub sound : h.is_sound continued.hook
+    pub further : h.handed continued.hook ≡ drop continued.before continued.told.items
+
+module _ {H D : Type 0} (g : Ghosts D) where
+  -- the number of all events that were handed over, or of those of earlier runs if these are more, is on the disk
+  abbrev pub IsAllCounted : Continued H D g → Type 0
+  IsAllCounted continued = IsOnDisk g continued.handed.device (max continued.before (length continued.told.items))
+
+  -- the count had a fault, as it has where one is added
+  abbrev pub IsStopped : Continued H D g → Continued H D g → Type 0
+  IsStopped old new = (fault : HandedFault) × StopsAt g old.handed.count old.handed.device new.handed.device fault

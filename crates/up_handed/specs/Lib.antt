@@ -1,0 +1,4 @@
+pub mod OnDisk
+pub mod Faults
+pub mod Counts
+pub mod Continues

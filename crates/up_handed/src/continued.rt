@@ -1,0 +1,136 @@
+//! A post-hook that goes on where earlier runs ended.
+ghost use Rattle.std.specs.Prelude.{◌≡◌, ◌⊎◌, ◌+◌, ◌<◌, ◌&&◌, [], List, length, min, max, not, true, false, OnOk, OnErr, IsTrue};
+ghost use Rattle.up_events.specs.declared.event.Event.{Event as Told};
+ghost use Rattle.up_handed.specs.Counts.{count_of, device_of};
+ghost use Rattle.up_handed.specs.OnDisk.{IsOnDisk, CountsAllButOne};
+ghost use Rattle.up_hooks.specs.declared.post_hook.Outcome.{Outcome as Answer};
+ghost use Rattle.up_hooks.specs.declared.post_hook.Outcome.TheVariants.{Done};
+
+use crate::handed::Handed;
+use sqlite_disk::Disk;
+use up_events::{Event, NoMemory, Trace};
+use up_hooks::{Outcome, PostHook};
+
+/// A post-hook of a run before which others have handed over the first events of the lane. The lane hands it all of
+/// its events, from the first on. It passes over those that earlier runs handed over, hands each further one to the
+/// post-hook within, and then adds one to the count. So the count is that of all events or of all but the last, and
+/// after a crash at most that one comes again. While an event isn't counted yet there is no room for another.
+#[derive(Drop)]
+pub struct Continued<H, D: Disk> {
+    hook: H,
+    handed: Handed<D>,
+    told: Trace<Event>,
+    /// How many events earlier runs handed over.
+    before: u64,
+    /// How many of them were passed over.
+    passed: u64,
+    /// Whether the last event was handed over, and isn't counted yet.
+    is_owed: bool,
+    ghost passes: { passed ≡ min (length told.items) before },
+    ghost all: { is_owed ≡ false → count_of handed ≡ max before (length told.items) },
+    ghost on_disk: { is_owed ≡ false → IsOnDisk D.Disk (device_of handed) (count_of handed) },
+    ghost last: { is_owed ≡ true → before < length told.items },
+    ghost all_but_one: { is_owed ≡ true → count_of handed + 1 ≡ length told.items },
+    pub ghost counted: { CountsAllButOne D.Disk (device_of handed) before (length told.items) },
+}
+
+impl<H: PostHook, D: Disk + Send> PostHook for Continued<H, D> {
+    ghost use Rattle.up_handed.specs.Continues.{GoesOn, IsAllCounted, IsStopped, events_of};
+
+    ghost is_sound = { GoesOn H.PostHook };
+
+    ghost handed = { λ c. c.told.items };
+
+    ghost has_room = { λ c. not c.is_owed && H.has_room c.hook };
+
+    ghost may_answer = { λ c event outcome.
+        ((c.passed < c.before) × (outcome ≡ Done)) ⊎ H.may_answer c.hook event outcome };
+
+    fn ready(&mut self) -> Result<(), NoMemory>
+        requires { GoesOn H.PostHook self.old }
+        ensures sound { GoesOn H.PostHook self.new }
+        ensures same { events_of self.new ≡ events_of self.old }
+        ensures alike { (event : Told) (outcome : Answer)
+            → ⟦<Continued<H, D> as PostHook>⟧.may_answer self.new event outcome
+            → ⟦<Continued<H, D> as PostHook>⟧.may_answer self.old event outcome }
+        ensures room { OnOk result (⟦<Continued<H, D> as PostHook>⟧.has_room self.new ≡ true) }
+        // Behind `Ok` each event that was handed over is counted. Behind an error it is so too, or the disk has failed.
+        ensures counted { OnOk result (IsAllCounted D.Disk self.new) }
+        ensures cause { OnErr result
+            (IsAllCounted D.Disk self.new ⊎ IsStopped D.Disk self.old self.new) }
+    {
+        if self.is_owed {
+            if self.handed.add(&self.hook, self.before).is_err() {
+                return Err(NoMemory);
+            }
+            self.is_owed = false;
+        }
+        self.hook.ready()
+    }
+
+    fn hand(&mut self, event: &Event) -> Outcome {
+        self.told.push(event);
+        if self.passed < self.before {
+            self.passed += 1;
+            return Outcome::Done;
+        }
+        let outcome = self.hook.hand(event);
+        self.is_owed = self.handed.add(&self.hook, self.before).is_err();
+        outcome
+    }
+}
+
+impl<H: PostHook, D: Disk + Send> Continued<H, D> {
+    ghost use Rattle.up_handed.specs.Continues.{before_of, hook_of, handed_of};
+
+    /// A post-hook that was handed nothing, of a run that goes on behind this number of events. The number is on the
+    /// disk, as that of a count which was just opened.
+    pub fn new(hook: H, handed: Handed<D>) -> Self
+        requires sound { H.is_sound hook }
+        requires handed { H.handed hook ≡ [] }
+        requires on_disk { IsOnDisk D.Disk (device_of handed) (count_of handed) }
+        ensures hook { hook_of result ≡ hook }
+        ensures before { before_of result ≡ count_of handed }
+        ensures handed { handed_of result ≡ handed }
+        ensures sound { ⟦<Continued<H, D> as PostHook>⟧.is_sound result }
+        ensures events { ⟦<Continued<H, D> as PostHook>⟧.handed result ≡ [] }
+    {
+        let before = handed.count();
+        Continued {
+            hook,
+            handed,
+            told: Trace::new(),
+            before,
+            passed: 0,
+            is_owed: false,
+        }
+    }
+}
+
+impl<H, D: Disk> Continued<H, D> {
+    ghost use Rattle.up_handed.specs.Continues.{before_of, events_of, hook_of, handed_of};
+
+    /// How many events earlier runs handed over.
+    pub fn before(&self) -> u64
+        ensures { result ≡ before_of self.now }
+    {
+        self.before
+    }
+
+    /// The post-hook within, which was handed what earlier runs didn't hand over.
+    pub fn hook(&self) -> &H
+        ensures { result.now ≡ hook_of self.now }
+    {
+        &self.hook
+    }
+
+    /// The post-hook within, and the count, which is of all events that were handed over, or of all but the last.
+    pub fn into_parts(self) -> (H, Handed<D>)
+        ensures hook { result.0 ≡ hook_of self }
+        ensures handed { result.1 ≡ handed_of self }
+        ensures counted { CountsAllButOne D.Disk (device_of result.1)
+            (before_of self) (length (events_of self)) }
+    {
+        (self.hook, self.handed)
+    }
+}

@@ -1,0 +1,32 @@
+//! The count of a lane in a file of the system.
+ghost use Rattle.std.specs.Prelude.{IfOk};
+ghost use Rattle.up_handed.specs.Counts.{count_of, device_of};
+ghost use Rattle.up_handed.specs.OnDisk.{IsOnDisk};
+
+use crate::fault::HandedFault;
+use crate::handed::Handed;
+use sqlite_disk::{Disk, Files, Start};
+use sqlite_std_file::{FileFrom, OpenError, open};
+
+/// Opens the count of a lane in the file at this path, which is made if there is none, and then tells 0. Each lane has
+/// a file of its own, as `handed.0` and `handed.1`. Until the count is dropped nobody else opens the file (`Busy`). An
+/// empty file with `-wal` at the end of its name stays beside it.
+pub fn open_handed<S: Start>(
+    rt: &HostRuntime,
+    path: &str,
+    start: S,
+) -> Result<Handed<FileFrom<S>>, HandedFault>
+    ensures { IfOk result (λ handed.
+        IsOnDisk ⟦<FileFrom<S> as Disk>⟧ (device_of handed) (count_of handed)) }
+{
+    match open(rt, path, start) {
+        Ok(Files { log: _wal, db }) => match Handed::open(db) {
+            Ok(handed) => Ok(handed),
+            Err(refused) => Err(refused.fault),
+        },
+        Err(OpenError::Io(error)) => Err(HandedFault::Disk(error)),
+        Err(OpenError::OutOfMemory) => Err(HandedFault::Memory),
+        Err(OpenError::Busy) => Err(HandedFault::Busy),
+        Err(OpenError::HotJournal) => Err(HandedFault::Foreign),
+    }
+}

@@ -1,0 +1,18 @@
+//! How many events of a lane were handed over by all runs of a server, on a disk, and a post-hook that goes on where
+//! earlier runs ended.
+#![tactic(auto)]
+
+mod continued;
+mod device;
+mod fault;
+mod file;
+mod handed;
+mod handed_to;
+mod restarting;
+
+pub use continued::Continued;
+pub use fault::HandedFault;
+pub use file::open_handed;
+pub use handed::{Handed, Refused};
+pub use handed_to::HandedTo;
+pub use restarting::restart;

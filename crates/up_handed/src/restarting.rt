@@ -1,0 +1,23 @@
+//! What a run finds after one that crashed.
+ghost use Rattle.std.specs.Prelude.{length, IfOk, IsTrue};
+ghost use Rattle.up_handed.specs.Continues.{before_of, events_of};
+ghost use Rattle.up_handed.specs.Counts.{count_of, device_of};
+ghost use Rattle.up_handed.specs.OnDisk.{IsAllButOne, IsOnDisk};
+
+use crate::continued::Continued;
+use crate::handed::{Handed, Refused};
+use sqlite_disk::Crash;
+
+/// Has the machine crash, and opens the count again, as the next run does: it is that of all events that were handed
+/// over, or of all but the last, and no less than earlier runs'. For tests, and for what is to hold of two runs.
+pub fn restart<H: Drop, D: Crash>(earlier: Continued<H, D>) -> Result<Handed<D>, Refused<D>>
+    ensures count { IfOk result (λ handed. IsTrue (D.Disk.is_clean (device_of handed))
+        → IsAllButOne (before_of earlier) (length (events_of earlier)) (count_of handed)) }
+    ensures on_disk { IfOk result (λ handed.
+        IsOnDisk D.Disk (device_of handed) (count_of handed)) }
+{
+    let (_, handed) = earlier.into_parts();
+    let mut device = handed.into_device();
+    device.crash();
+    Handed::open(device)
+}
