@@ -3,7 +3,7 @@ ghost use Rattle.std.specs.Prelude.{◌≡◌};
 ghost use Rattle.up_hooks.specs.Gives.{ClosuresGive};
 ghost use Rattle.up_dispatch.specs.Answering.{Serves, course};
 ghost use Rattle.up_dispatch.specs.Turn.{Converses, stand};
-ghost use Rattle.up_store.specs.Stored.{by_stored_seat};
+ghost use Rattle.up_store.specs.StoredCommits.{by_stored_seat};
 
 use crate::notices::StoreNotices;
 use crate::restoring::restore_on;

@@ -54,7 +54,7 @@ impl<'a, B: Naming, D: Disk, N: StoreNotices, R: Wait> Stored<'a, B, D, N, R> {
 impl<B: Naming, D: Disk, N: StoreNotices, R: Wait> Keeper for Stored<'_, B, D, N, R> {
     ghost use Rattle.std.specs.Prelude.{◌≡◌, ℕ};
     ghost use Rattle.up_dispatch.specs.Keepers.{SeatPlans};
-    ghost use Rattle.up_store.specs.Stored.{StoredCommits};
+    ghost use Rattle.up_store.specs.StoredCommits.{StoredCommits};
 
     ghost State = { ℕ };
 
