@@ -1,0 +1,4 @@
+pub mod Beginnings
+pub mod Meeting
+pub mod Adding
+pub mod Following

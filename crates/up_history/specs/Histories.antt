@@ -1,0 +1,17 @@
+-- What contracts say of histories and of the places in them.
+use Rattle.std.specs.Prelude.{ℕ, ◌≡◌, ◌≢◌, ◌+◌, ◌<◌, List, length, Some, slice_get}
+use mathlib.Core.List.{IsPrefix}
+
+-- a place in a history, and the entry that stands there
+pub record Place (E : Type 0) : Type 0 where
+  pub number : ℕ
+  pub entry : E
+
+-- ys begins with xs, and goes on
+abbrev pub IsLonger : {E : Type 0} → List E → List E → Type 0
+IsLonger xs ys = IsPrefix xs ys × (length xs < length ys)
+
+-- one of the places hasn't the number that is next, where the first is to have this one
+abbrev pub IsOutOfOrder : {E : Type 0} → List (Place E) → ℕ → Type 0
+IsOutOfOrder {E} places first =
+    (k : ℕ) × (place : Place E) × (slice_get places k ≡ Some place) × (place.number ≢ first + k)

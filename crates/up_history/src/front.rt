@@ -1,0 +1,126 @@
+//! Beginnings of a history.
+ghost use Rattle.std.specs.Prelude.{◌≡◌, ◌<◌, ◌≤◌, ◌⊎◌, ℕ, ◌++◌, ◌∷◌, [], length, take, MatchBool};
+ghost use mathlib.Core.List.{IsPrefix};
+ghost use Rattle.up_history.specs.Histories.{IsLonger};
+
+use crate::chronicle::Chronicle;
+use crate::history::History;
+use crate::rule::{Add, Counted, Look, Nothing};
+use logbook::{Offer, Seen};
+use std::marker::{Model, PhantomData};
+
+/// A beginning of a history that was seen. Contracts see it as its entries.
+#[derive(Drop)]
+pub struct Front<E, J: Chronicle> {
+    pub(crate) count: u64,
+    pub(crate) seen: Seen<Option<E>, u64, Counted>,
+    pub(crate) of: PhantomData<J>,
+}
+
+impl<E, J: Chronicle> Model for Front<E, J> {
+    ghost use Rattle.std.specs.Prelude.{◌≡◌, List, length};
+    ghost use Rattle.up_history.specs.Rules.{entries_in};
+
+    ghost Value = { List E };
+
+    ghost view = { λ f. entries_in f.seen.log };
+
+    ghost invariant = { λ f. (f.count ≡ length (entries_in f.seen.log)) × (f.seen.book ≡ J.history) };
+}
+
+impl<E, J: Chronicle> Front<E, J> {
+    /// How many entries it has.
+    pub fn len(&self) -> u64
+        ensures { result ≡ length self.now }
+    {
+        self.count
+    }
+
+    /// A copy.
+    pub fn again(&self) -> Front<E, J>
+        ensures { result ≡ self.now }
+    {
+        Front {
+            count: self.count,
+            seen: self.seen.again(),
+            of: PhantomData,
+        }
+    }
+
+    /// Of two fronts of one history one begins with the other. A law: it does nothing.
+    pub fn meets(&self, other: &Front<E, J>)
+        ensures shorter { length self.now ≤ length other.now → IsPrefix self.now other.now }
+        ensures longer { length other.now ≤ length self.now → IsPrefix other.now self.now }
+        ensures same { length self.now ≡ length other.now → self.now ≡ other.now }
+        ensures alike { (n : ℕ) → n ≤ length self.now → n ≤ length other.now
+            → take n self.now ≡ take n other.now }
+    {
+        let _ = self.count;
+        let _ = other.count;
+        let mut both = self.seen.again();
+        both.learn(&other.seen);
+    }
+
+    /// The longer of two fronts, which the other begins.
+    pub fn longer(&self, other: &Front<E, J>) -> Front<E, J>
+        ensures one { (result ≡ self.now) ⊎ (result ≡ other.now) }
+        ensures this { IsPrefix self.now result }
+        ensures that { IsPrefix other.now result }
+    {
+        self.meets(other);
+        if self.count < other.count {
+            other.again()
+        } else {
+            self.again()
+        }
+    }
+
+    /// Sees the history as it is. It waits for nobody.
+    pub fn observe(&mut self, history: &History<E, J>)
+        ensures { IsPrefix self.old self.new }
+    {
+        let mut offer: Offer<Option<E>, u64, Counted, Nothing> = self
+            .seen
+            .plain::<Nothing, (), Look>(&());
+        self.count = history
+            .word
+            .load::<Look, Nothing>(&mut self.seen, &mut offer);
+    }
+
+    /// Adds an entry behind all that was seen, and says whether it did. It did not where the history is longer: that was
+    /// seen then.
+    pub fn add(&mut self, history: &History<E, J>, entry: &E) -> bool
+        requires room { length self.old < u64.MAX }
+        ensures { MatchBool result (self.new ≡ self.old ++ entry.now ∷ []) (IsLonger self.old self.new) }
+    {
+        let mut offer: Offer<Option<E>, u64, Counted, Nothing> = self
+            .seen
+            .plain::<Nothing, E, Add>(entry);
+        let mut pen = self.seen.no_pen();
+        let count = self.count;
+        let found = history
+            .word
+            .compare_exchange::<Add, Nothing>(
+                count,
+                count + 1,
+                &mut self.seen,
+                &mut offer,
+                &mut pen,
+            );
+        self.count = if found == count { count + 1 } else { found };
+        found == count
+    }
+
+    /// Adds a row of entries behind all that was seen, and says whether it did. It did not where the history is longer, or
+    /// can take no more; it may then have added the first of them.
+    pub fn add_all(&mut self, history: &History<E, J>, entries: &[E]) -> bool
+        ensures { MatchBool result (self.new ≡ self.old ++ entries.now) (IsPrefix self.old self.new) }
+    {
+        for entry in entries {
+            if self.len() == u64::MAX || !self.add(history, entry) {
+                return false;
+            }
+        }
+        true
+    }
+}

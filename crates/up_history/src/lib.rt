@@ -1,0 +1,14 @@
+//! A history that exists in proofs alone: one order of entries for all threads. They share a word that counts the
+//! entries, and each of them knows a beginning of the history.
+#![tactic(auto)]
+
+mod chronicle;
+mod front;
+mod history;
+mod receipt;
+mod rule;
+
+pub use chronicle::Chronicle;
+pub use front::Front;
+pub use history::{History, Opened};
+pub use receipt::Receipt;

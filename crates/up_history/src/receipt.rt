@@ -1,0 +1,125 @@
+//! What a thread keeps of an entry.
+ghost use Rattle.std.specs.Prelude.{◌≡◌, ◌<◌, ◌≤◌, ◌+◌, ◌++◌, ◌∷◌, [], length, map, take, Some, IfSome, IfNone, OnSome, slice_get};
+ghost use mathlib.Core.List.{IsPrefix};
+ghost use Rattle.up_history.specs.Histories.{IsLonger, IsOutOfOrder};
+
+use crate::chronicle::Chronicle;
+use crate::front::Front;
+use crate::history::History;
+use std::marker::Model;
+use std::snapshot::Snapshot;
+
+/// What a thread keeps of an entry of a history: the number of its place, counted from 0. Contracts see the number and
+/// the entry.
+#[derive(Drop)]
+pub struct Receipt<E, J: Chronicle> {
+    number: u64,
+    front: Front<E, J>,
+    entry: Snapshot<E>,
+}
+
+impl<E, J: Chronicle> Model for Receipt<E, J> {
+    ghost use Rattle.std.specs.Prelude.{◌≡◌, Some, slice_get};
+    ghost use Rattle.up_history.specs.Histories.{Place};
+
+    ghost Value = { Place E };
+
+    ghost view = { λ r. record { number = r.number; entry = r.entry.value } };
+
+    ghost invariant = { λ r. slice_get r.front r.number ≡ Some r.entry.value };
+}
+
+impl<E, J: Chronicle> Receipt<E, J> {
+    /// A receipt for the entry at a place of a front.
+    pub fn of(front: &Front<E, J>, number: u64, entry: &E) -> Receipt<E, J>
+        requires there { slice_get front.now number ≡ Some entry.now }
+        ensures number { result.number ≡ number }
+        ensures entry { result.entry ≡ entry.now }
+    {
+        Receipt {
+            number,
+            front: front.again(),
+            entry: Snapshot::of(entry),
+        }
+    }
+
+    /// Adds an entry behind all that the front has seen, and gives its receipt. None where the history is longer: the
+    /// front has seen that then.
+    pub fn draw(
+        front: &mut Front<E, J>,
+        history: &History<E, J>,
+        entry: &E,
+    ) -> Option<Receipt<E, J>>
+        requires room { length front.old < u64.MAX }
+        ensures added { OnSome result (front.new ≡ front.old ++ entry.now ∷ []) }
+        ensures receipt { IfSome result (λ r. (r.number ≡ length front.old) × (r.entry ≡ entry.now)) }
+        ensures longer { IfNone result (IsLonger front.old front.new) }
+    {
+        let number = front.len();
+        if !front.add(history, entry) {
+            return None;
+        }
+        Some(Receipt::of(front, number, entry))
+    }
+
+    /// The number of the entry's place.
+    pub fn number(&self) -> u64
+        ensures { result ≡ self.now.number }
+    {
+        self.number
+    }
+
+    /// A front that has the entry.
+    pub fn front(&self) -> Front<E, J>
+        ensures { slice_get result self.now.number ≡ Some self.now.entry }
+    {
+        self.front.again()
+    }
+
+    /// The entry stands at its place in each front that is long enough. A law: it does nothing.
+    pub fn is_in(&self, front: &Front<E, J>)
+        ensures { self.now.number < length front.now
+            → slice_get front.now self.now.number ≡ Some self.now.entry }
+    {
+        let _ = self.number;
+        self.front.meets(front);
+    }
+
+    /// A front that goes on with the receipt's entry, behind all that stands before that.
+    pub fn follow(&self, front: &Front<E, J>) -> Front<E, J>
+        requires there { self.now.number ≤ length front.now }
+        ensures begins { IsPrefix front.now result }
+        ensures goes_on { take (self.now.number + 1) result
+            ≡ take self.now.number front.now ++ self.now.entry ∷ [] }
+        ensures long { self.now.number + 1 ≤ length result }
+    {
+        let _ = self.number;
+        front.longer(&self.front)
+    }
+
+    /// A front that goes on behind its first `count` entries with those of a row of receipts. None if one of them hasn't
+    /// the next number.
+    pub fn follow_all(
+        receipts: &[Receipt<E, J>],
+        front: &Front<E, J>,
+        count: u64,
+    ) -> Option<Front<E, J>>
+        requires there { count ≤ length front.now }
+        ensures goes_on { IfSome result (λ f. take (count + length receipts.now) f
+            ≡ take count front.now ++ map (λ r. r.entry) receipts.now) }
+        ensures long { IfSome result (λ f. count + length receipts.now ≤ length f) }
+        ensures other { IfNone result (IsOutOfOrder receipts.now count) }
+    {
+        let mut reached = front.again();
+        let mut next = count;
+        for receipt in receipts {
+            if receipt.number() != next {
+                return None;
+            }
+            reached = receipt.follow(&reached);
+            let _ = reached.len();
+            next += 1;
+        }
+        Some(reached)
+    }
+}
