@@ -1,7 +1,7 @@
 //! Adding batches of entries at the end of a log.
 ghost use Rattle.std.specs.Prelude.{◌≡◌, ◌⊎◌, ◌++◌, ◌∷◌, [], List, ℕ, OnOk, IsErr, OnErr, IsTrue, Err};
 ghost use Rattle.up_log.specs.Blocks.{IsBeforeOrAfter};
-ghost use Rattle.up_log.specs.Logs.{IsSettled};
+ghost use Rattle.up_log.specs.Logs.{IsCleanLog, IsSettled};
 ghost use Rattle.up_log.specs.declared.entry.Entry.{Entry as Logged};
 ghost use Rattle.up_log.specs.declared.setup.Setup.{Setup as Numbers};
 
@@ -48,6 +48,7 @@ impl<D: Disk> Log<D> {
             → OnErr result (IsSettled D.Disk self.new setup batches ⊎ IsTrue self.new.is_broken) }
         ensures memory { result ≡ Err LogFault.Memory → self.new ≡ self.old }
         ensures broken { IsTrue self.old.is_broken → IsErr result × (self.new ≡ self.old) }
+        ensures calm { IsCleanLog D.Disk self.new → IsCleanLog D.Disk self.old }
     {
         if self.is_broken {
             return Err(LogFault::Broken);

@@ -1,0 +1,35 @@
+//! What is known of a log and of a book, out of their locks.
+ghost use Rattle.std.specs.Prelude.{◌≡◌, ◌≤◌, length, take};
+ghost use Rattle.up_tie.specs.Ties.{IsWritten, IsTied, book_of};
+
+use crate::committed::Committed;
+use crate::site::Site;
+use crate::written::Written;
+use sqlite_disk::Disk;
+use up_log::Log;
+use up_machine::Book;
+
+/// Of the entries that were written and of those that were committed, the ones begin with the others. A law: it does
+/// nothing.
+pub fn agree<D: Disk, J: Site>(written: &Written<D, J>, committed: &Committed<J>)
+    ensures behind { length committed.now ≤ length written.now
+        → committed.now ≡ take (length committed.now) written.now }
+    ensures ahead { length written.now ≤ length committed.now
+        → written.now ≡ take (length written.now) committed.now }
+    ensures same { length committed.now ≡ length written.now → committed.now ≡ written.now }
+{
+    let _ = written.count;
+    let _ = committed.count;
+    written.front.meets(&committed.front);
+}
+
+/// The log and the book. If as many entries were committed as were written, the book is the one that the log defines.
+pub fn taken_apart<D: Disk, J: Site>(
+    written: Written<D, J>,
+    committed: Committed<J>,
+) -> (Log<D>, Book)
+    ensures tied { length committed ≡ length written → IsTied D.Disk result.0 J.setup J.premise result.1 }
+{
+    agree(&written, &committed);
+    (written.into_log(), committed.into_book())
+}
