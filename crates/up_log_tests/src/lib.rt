@@ -1,5 +1,5 @@
-//! The tests of the log, of what is made again from it, and of lanes that go on where earlier runs ended. They use
-//! these from outside, as a program does: what no contract says of them.
+//! The tests of the log, of what is made again from it, of lanes that go on where earlier runs ended, and of boards whose
+//! changes are written to a log first. They use these from outside, as a program does: what no contract says of them.
 #![tactic(auto)]
 
 #[cfg(test)]
@@ -14,3 +14,5 @@ mod handing;
 mod logs;
 #[cfg(test)]
 mod replays;
+#[cfg(test)]
+mod stores;

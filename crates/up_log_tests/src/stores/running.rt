@@ -1,0 +1,362 @@
+//! Boards whose changes are written to a store first, and boards that are made again from its logs.
+ghost use Rattle.std.specs.Prelude.{◌≡◌, length};
+ghost use Rattle.up_dispatch.specs.Parts.{IsNamed};
+ghost use Rattle.up_events.specs.declared.limits.TheConstants.{MOST_BYTES};
+ghost use Rattle.up_headers.specs.Table.{FitsWithin};
+
+use crate::logs::{Row, SETUP, entries_of, read, spelled_of};
+use sqlite_disk::{Disk, Memory};
+use std::alloc::Global;
+use std::marker::{Brand, Send, Sync};
+use std::sync::Wait;
+use std::sync::atomic::{AtomicU64, Ordering};
+use std::test::Fail;
+use std::thread;
+use std::thread::Threads;
+use up_board_tests::append;
+use up_dispatch::{Board, BoardParts, Counts, Keeper, Naming, Seat, Seated, answer};
+use up_events::{Accepted, Id, NoMemory};
+use up_headers::Request;
+use up_hooks::PreHooks;
+use up_log::{LogFault, LogReader};
+use up_machine::{Asked, Done, Refusal};
+use up_replay::{Unrestored, asked_of, fits};
+use up_store::{Logs, Store, StoreNotices, Stored, restore_on};
+use up_wire::{Output, write_response};
+
+/// How many uploads are looked at.
+const UPLOADS: u64 = 400;
+
+/// What came of a change: the status and what changed, or why it was refused.
+pub type Told = Result<(u16, Option<Accepted>), Refusal>;
+
+/// What a board counts, and what it answers of each upload.
+pub type Seen = (Counts, Vec<u8>);
+
+/// How often it was told that changes can't be written, that they can again, and that none is made any more.
+#[derive(Drop)]
+pub struct Tally {
+    fails: AtomicU64,
+    works: AtomicU64,
+    stops: AtomicU64,
+}
+
+impl Tally {
+    pub fn new() -> Tally {
+        Tally {
+            fails: AtomicU64::new(0),
+            works: AtomicU64::new(0),
+            stops: AtomicU64::new(0),
+        }
+    }
+
+    pub fn counts(&self) -> [u64; 3] {
+        [
+            self.fails.load(Ordering::SeqCst),
+            self.works.load(Ordering::SeqCst),
+            self.stops.load(Ordering::SeqCst),
+        ]
+    }
+}
+
+impl StoreNotices for &Tally {
+    fn fails(&self, _fault: LogFault) {
+        self.fails.fetch_add(1, Ordering::SeqCst);
+    }
+
+    fn works(&self) {
+        self.works.fetch_add(1, Ordering::SeqCst);
+    }
+
+    fn is_not_restored(&self, _why: Unrestored) {}
+
+    fn stops(&self, _fault: LogFault) {
+        self.stops.fetch_add(1, Ordering::SeqCst);
+    }
+}
+
+/// Has a change made, and tells what came of it.
+pub fn told_of<K: Keeper>(
+    alloc: Global,
+    keeper: &mut K,
+    request: Request,
+    id: Id,
+    asked: &Asked,
+) -> Told
+    requires { FitsWithin MOST_BYTES request }
+{
+    let Done { response, change } = keeper.commit(alloc, request, id, asked)?;
+    Ok((response.status, change))
+}
+
+/// Has the changes of these rows made.
+pub fn change<K: Keeper>(
+    alloc: Global,
+    keeper: &mut K,
+    rows: &[Row],
+) -> Result<Vec<Told>, NoMemory> {
+    let mut told = Vec::new(alloc);
+    for entry in entries_of(alloc, rows)? {
+        if !fits(&entry.request) {
+            return Err(NoMemory);
+        }
+        let asked = asked_of(entry.consent);
+        told.push(told_of(alloc, keeper, entry.request, entry.id, &asked))?;
+    }
+    Ok(told)
+}
+
+/// Puts this byte at the end of the upload 0 so many times, wherever others leave its end, and tells how many changes it
+/// took.
+fn append_each<K: Keeper>(
+    alloc: Global,
+    keeper: &mut K,
+    byte: u8,
+    times: u64,
+) -> Result<u64, NoMemory> {
+    let mut offset: u64 = 0;
+    let mut put: u64 = 0;
+    for count in 0..10_000u64 {
+        if put == times {
+            return Ok(count);
+        }
+        let request = append(alloc, Id::new(0), offset, &[byte])?;
+        match told_of(alloc, keeper, request, Id::new(0), &Asked::AllowedFinish) {
+            Ok(_) => put = put.saturating_add(1),
+            Err(Refusal::WrongOffset) => {}
+            Err(_) => return Ok(count),
+        }
+        offset = offset.saturating_add(1);
+    }
+    Ok(10_000)
+}
+
+/// What is asked from one seat: the changes of these rows, and then so many times this byte for the upload 0.
+#[derive(Drop)]
+pub struct Job {
+    pub rows: Vec<Row>,
+    pub byte: u8,
+    pub times: u64,
+}
+
+/// What was told of the rows of a job, and how many changes its bytes took.
+pub type Outcome = (Vec<Told>, u64);
+
+fn work<K: Keeper>(alloc: Global, keeper: &mut K, job: &Job) -> Result<Outcome, NoMemory> {
+    let told = change(alloc, keeper, &job.rows)?;
+    Ok((told, append_each(alloc, keeper, job.byte, job.times)?))
+}
+
+/// What the board counts, and what it answers to HEAD and GET of each upload.
+fn seen<B: Naming, R: Wait>(
+    rt: &R,
+    alloc: Global,
+    board: &Board<B>,
+    seat: &mut Seat<B>,
+) -> Result<Seen, Fail> {
+    let hooks = PreHooks::new(Vec::new(alloc));
+    let mut sink = Output::new(Vec::new(alloc));
+    let mut keeper = Seated::new(rt, board, seat);
+    for number in 0..UPLOADS {
+        let id = Id::new(u128::from(number));
+        let response = answer(alloc, &mut keeper, &hooks, Request::Head(id), id);
+        write_response(&mut sink, &response, false, false)?;
+        let response = answer(alloc, &mut keeper, &hooks, Request::Get(id), id);
+        write_response(&mut sink, &response, false, false)?;
+    }
+    Ok((board.counts(rt), sink.into_inner()))
+}
+
+/// A new board of two lanes, which don't run, and a seat.
+pub fn board_of<B: Naming, R: Wait>(
+    rt: &R,
+    alloc: Global,
+    parts: BoardParts,
+) -> Result<(Board<B>, Seat<B>), Fail>
+    requires named { IsNamed B.name B.parts B.queue B.lanes parts }
+    requires lanes { length parts.queues ≡ 2 }
+    requires sized { B.max_size ≡ 1000 }
+{
+    let (board, _takes) = Board::<B>::new(alloc, parts, 1000)?;
+    match board.seat(rt) {
+        Some(seat) => Ok((board, seat)),
+        None => Err("a seat".into()),
+    }
+}
+
+/// What a plain board of these parts tells of a job, and how it then stands.
+fn plain_of<B: Naming, R: Wait>(
+    rt: &R,
+    alloc: Global,
+    parts: BoardParts,
+    job: &Job,
+) -> Result<(Outcome, Seen), Fail>
+    requires named { IsNamed B.name B.parts B.queue B.lanes parts }
+    requires lanes { length parts.queues ≡ 2 }
+    requires sized { B.max_size ≡ 1000 }
+{
+    let (board, mut seat) = board_of::<B, R>(rt, alloc, parts)?;
+    let outcome = work(alloc, &mut Seated::new(rt, &board, &mut seat), job)?;
+    Ok((outcome, seen(rt, alloc, &board, &mut seat)?))
+}
+
+/// The file of a log of these batches.
+pub fn file_of(alloc: Global, batches: &[&[Row]]) -> Result<Memory, LogFault> {
+    let (mut log, _) = read(alloc, Memory::new(alloc))?;
+    for rows in batches {
+        log.append(alloc, &spelled_of(alloc, rows)?)?;
+    }
+    Ok(log.into_device())
+}
+
+/// Begins to open a log.
+pub fn reader_of<D: Disk>(alloc: Global, device: D) -> Result<LogReader<D>, LogFault>
+where
+    D: Drop,
+{
+    match LogReader::open(alloc, device, SETUP) {
+        Ok(reader) => Ok(reader),
+        Err(refused) => Err(refused.fault),
+    }
+}
+
+/// How many entries the log in a file has.
+pub fn count_in(alloc: Global, file: Memory) -> Result<(u64, Memory), LogFault> {
+    let mut reader = reader_of(alloc, file)?;
+    let mut count: u64 = 0;
+    for _ in 0..10_000u64 {
+        let Some(entries) = reader.next_batch(alloc)? else {
+            break;
+        };
+        count = count.saturating_add(entries.len() as u64);
+    }
+    match reader.finish() {
+        Ok(log) => Ok((count, log.into_device())),
+        Err(refused) => Err(refused.fault),
+    }
+}
+
+/// The logs of a store on these disks, whose changes are made again on a board.
+pub fn logs_on<B: Naming, D: Disk, R: Wait>(
+    rt: &R,
+    alloc: Global,
+    board: &Board<B>,
+    seat: &mut Seat<B>,
+    disks: (D, D),
+) -> Result<Logs<D>, Unrestored>
+where
+    D: Drop,
+{
+    let changes = reader_of(alloc, disks.0)?;
+    let voids = reader_of(alloc, disks.1)?;
+    restore_on(rt, alloc, board, seat, changes, voids)
+}
+
+/// How a board of these parts stands that is made from the logs on these disks, and the logs.
+fn made_again<B: Naming, D: Disk, R: Wait>(
+    rt: &R,
+    alloc: Global,
+    parts: BoardParts,
+    disks: (D, D),
+) -> Result<(Seen, Logs<D>), Fail>
+where
+    D: Drop,
+    requires named { IsNamed B.name B.parts B.queue B.lanes parts }
+    requires lanes { length parts.queues ≡ 2 }
+    requires sized { B.max_size ≡ 1000 }
+{
+    let (board, mut seat) = board_of::<B, R>(rt, alloc, parts)?;
+    let logs = logs_on(rt, alloc, &board, &mut seat, disks)?;
+    Ok((seen(rt, alloc, &board, &mut seat)?, logs))
+}
+
+/// What was told of each job, how the board then stood, and the logs.
+#[derive(Drop)]
+pub struct Ran<D: Disk> {
+    pub outcomes: Vec<Outcome>,
+    pub seen: Seen,
+    pub logs: Logs<D>,
+}
+
+/// Does each job in a thread of its own, from a seat of its own, by a store whose logs are on these disks.
+fn work_each<B: Naming + Send + Sync, D: Disk + Send + Drop, R: Threads + Wait + Sync>(
+    rt: &R,
+    alloc: Global,
+    board: &Board<B>,
+    store: &Store<D, &Tally>,
+    jobs: Vec<Job>,
+) -> Result<Vec<Outcome>, Fail> {
+    let given = thread::map_vec(
+        rt,
+        jobs,
+        &|job: Job| -> Result<Outcome, NoMemory> {
+            let Some(mut seat) = board.seat(rt) else {
+                return Err(NoMemory);
+            };
+            work(alloc, &mut Stored::new(rt, board, store, &mut seat), &job)
+        },
+    )?;
+    let mut outcomes = Vec::new(alloc);
+    for outcome in given {
+        outcomes.push(outcome?)?;
+    }
+    Ok(outcomes)
+}
+
+/// Does each job in a thread of its own, from a seat of its own, by a store whose logs are on these disks. None where
+/// the logs aren't opened.
+fn run_by<B: Naming + Send + Sync, D: Disk + Send + Drop, R: Threads + Wait + Sync>(
+    rt: &R,
+    alloc: Global,
+    parts: BoardParts,
+    disks: (D, D),
+    tally: &Tally,
+    jobs: Vec<Job>,
+) -> Result<Option<Ran<D>>, Fail>
+    requires named { IsNamed B.name B.parts B.queue B.lanes parts }
+    requires lanes { length parts.queues ≡ 2 }
+    requires sized { B.max_size ≡ 1000 }
+{
+    let (board, mut seat) = board_of::<B, R>(rt, alloc, parts)?;
+    let Ok(logs) = logs_on(rt, alloc, &board, &mut seat, disks) else {
+        return Ok(None);
+    };
+    let store = Store::new(alloc, logs, tally)?;
+    let outcomes = work_each(rt, alloc, &board, &store, jobs)?;
+    Ok(Some(Ran {
+        outcomes,
+        seen: seen(rt, alloc, &board, &mut seat)?,
+        logs: store.into_logs(),
+    }))
+}
+
+/// What a plain board tells of a job, and how it then stands.
+pub fn plainly<R: Wait>(rt: &R, alloc: Global, job: &Job) -> Result<(Outcome, Seen), Fail> {
+    let parts = BoardParts::new(alloc, 2, 4)?;
+    plain_of::<Brand, R>(rt, alloc, parts, job)
+}
+
+/// How a board stands that is made from the logs on these disks, and the logs.
+pub fn restored<D: Disk, R: Wait>(
+    rt: &R,
+    alloc: Global,
+    disks: (D, D),
+) -> Result<(Seen, Logs<D>), Fail>
+where
+    D: Drop,
+{
+    let parts = BoardParts::new(alloc, 2, 4)?;
+    made_again::<Brand, D, R>(rt, alloc, parts, disks)
+}
+
+/// Does each job in a thread of its own, by a store whose logs are on these disks. None where the logs aren't opened.
+pub fn run_on<D: Disk + Send + Drop, R: Threads + Wait + Sync>(
+    rt: &R,
+    alloc: Global,
+    disks: (D, D),
+    tally: &Tally,
+    jobs: Vec<Job>,
+) -> Result<Option<Ran<D>>, Fail> {
+    let parts = BoardParts::new(alloc, 2, 4)?;
+    run_by::<Brand, D, R>(rt, alloc, parts, disks, tally, jobs)
+}

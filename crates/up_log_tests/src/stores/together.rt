@@ -1,0 +1,108 @@
+//! Changes from several seats at once.
+use super::running::{Job, Outcome, Ran, Tally, count_in, file_of, plainly, restored, run_on};
+use crate::logs::{Row, What};
+use sqlite_disk::Memory;
+use std::alloc::{AllocError, Global};
+use std::process::Abort;
+use std::sync::Wait;
+use std::test::Fail;
+use up_log::LogFault;
+
+/// How many uploads are made from each seat.
+const UPLOADS: u64 = 30;
+
+/// How many bytes each seat puts at the end of the upload 0.
+const BYTES: u64 = 60;
+
+/// Makes an upload, puts its bytes, puts them again, and removes each third upload, twice.
+fn rows_of(alloc: Global, first: u64) -> Result<Vec<Row>, AllocError> {
+    let mut rows = Vec::new(alloc);
+    for number in 0..UPLOADS {
+        let id = u128::from(first.saturating_add(number));
+        rows.push((What::Make, id, 2))?;
+        rows.push((What::Put, id, 2))?;
+        rows.push((What::Put, id, 2))?;
+        if number % 3 == 0 {
+            rows.push((What::Remove, id, 0))?;
+            rows.push((What::Remove, id, 0))?;
+        }
+    }
+    Ok(rows)
+}
+
+/// What is asked from the seat of this number.
+fn job_of(alloc: Global, number: u8, times: u64) -> Result<Job, AllocError> {
+    Ok(Job {
+        rows: rows_of(alloc, u64::from(number).saturating_mul(100))?,
+        byte: b"abcd"[usize::from(number % 4)],
+        times,
+    })
+}
+
+/// The jobs of three seats.
+pub fn jobs_of(alloc: Global) -> Result<Vec<Job>, AllocError> {
+    let mut jobs = Vec::new(alloc);
+    for number in 1..4u8 {
+        jobs.push(job_of(alloc, number, BYTES)?)?;
+    }
+    Ok(jobs)
+}
+
+/// What a plain board tells of the rows of these jobs.
+pub fn told_plainly<R: Wait>(rt: &R, alloc: Global) -> Result<Vec<Outcome>, Fail> {
+    let mut outcomes = Vec::new(alloc);
+    for number in 1..4u8 {
+        let job = job_of(alloc, number, 0)?;
+        outcomes.push(plainly(rt, alloc, &job)?.0)?;
+    }
+    Ok(outcomes)
+}
+
+/// The file of a log in which the upload 0 was made, for the bytes of three seats.
+pub fn shared_file(alloc: Global) -> Result<Memory, LogFault> {
+    file_of(alloc, &[&[(What::Make, 0, 3 * BYTES)]])
+}
+
+/// Holds that so much was told of the rows as a plain board tells, and gives how many changes there were.
+fn count_of<R: Wait + Abort>(rt: &R, alloc: Global, outcomes: &[Outcome]) -> Result<u64, Fail> {
+    let mut count: u64 = 0;
+    let plain = told_plainly(rt, alloc)?;
+    assert_eq!(rt; outcomes.len(), plain.len());
+    for ((told, tries), (want, _)) in outcomes.iter().zip(&plain) {
+        assert_eq!(rt; told.as_slice(), want.as_slice());
+        count = count
+            .saturating_add(told.len() as u64)
+            .saturating_add(*tries);
+    }
+    Ok(count)
+}
+
+#[test]
+fn changes_made_at_once_come_back(rt: HostRuntime) -> Result<(), Fail> {
+    let alloc = rt.alloc();
+    let tally = Tally::new();
+    let disks = (shared_file(alloc)?, Memory::new(alloc));
+    let run = run_on(&rt, alloc, disks, &tally, jobs_of(alloc)?)?;
+    let Some(
+        Ran {
+            outcomes,
+            seen,
+            logs,
+        },
+    ) = run
+    else {
+        return Err("an open log".into());
+    };
+    // Before these, the upload 0 was made. Of the rows a third is refused, and half of the removals.
+    let count = count_of(&rt, alloc, &outcomes)?.saturating_add(1);
+    assert_eq!(rt; seen.0.changes, 1 + 3 * (30 + 30 + 10 + 60));
+    assert_eq!(rt; (seen.0.uploads, seen.0.bytes), (61, 300));
+    assert_eq!(rt; (tally.counts(), logs.count), ([0, 0, 0], count));
+    let (entries, file) = count_in(alloc, logs.changes.into_device())?;
+    assert_eq!(rt; entries, count);
+    let disks = (file, logs.voids.into_device());
+    let (again, logs) = restored(&rt, alloc, disks)?;
+    assert_eq!(rt; (again.0, logs.count), (seen.0, count));
+    assert_eq!(rt; again.1.as_slice(), seen.1.as_slice());
+    Ok(())
+}

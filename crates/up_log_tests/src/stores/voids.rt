@@ -1,0 +1,88 @@
+//! Entries that are on the disk and were not carried out.
+use super::running::{Job, Seen, file_of, plainly, restored};
+use crate::logs::{Row, What, read};
+use sqlite_disk::Memory;
+use std::alloc::Global;
+use std::process::Abort;
+use std::sync::Wait;
+use std::test::Fail;
+use up_events::Id;
+use up_headers::Request;
+use up_log::{Consent, Entry, LogFault, Spelled};
+
+/// The file of a log that says of each of these places that it is void.
+fn void_file(alloc: Global, places: &[u128]) -> Result<Memory, LogFault> {
+    let (mut log, _) = read(alloc, Memory::new(alloc))?;
+    for place in places {
+        let entry = Entry {
+            id: Id::new(*place),
+            consent: Consent::Skipped,
+            request: Request::Options,
+        };
+        let mut batch = Vec::new(alloc);
+        batch.push(Spelled::new(alloc, &entry)?)?;
+        log.append(alloc, &batch)?;
+    }
+    Ok(log.into_device())
+}
+
+/// Two batches of two entries each.
+const FIRST: [Row; 2] = [(What::Make, 5, 4), (What::Put, 5, 3)];
+
+const SECOND: [Row; 2] = [(What::Put, 5, 2), (What::Make, 6, 1)];
+
+/// Holds that with these places void the board has these changes alone; and that one more place may be void then.
+fn hold<R: Wait + Abort>(
+    rt: &R,
+    alloc: Global,
+    places: &[u128],
+    rows: &[Row],
+    more: (u64, &[Row]),
+) -> Result<(), Fail> {
+    let disks = (
+        file_of(alloc, &[&FIRST, &SECOND])?,
+        void_file(alloc, places)?,
+    );
+    let (seen, logs) = restored(rt, alloc, disks)?;
+    assert!(rt; seen == standing(rt, alloc, rows)?, "{places:?}");
+    assert_eq!(rt; logs.count, 4);
+    let mut voids = logs.voids;
+    voids.add(alloc, more.0)?;
+    let disks = (logs.changes.into_device(), voids.into_device());
+    let (seen, _) = restored(rt, alloc, disks)?;
+    assert!(rt;
+        seen == standing(rt, alloc, more.1)?,
+        "{places:?}, and more"
+    );
+    Ok(())
+}
+
+/// How a plain board stands after these changes.
+fn standing<R: Wait>(rt: &R, alloc: Global, rows: &[Row]) -> Result<Seen, Fail> {
+    let job = Job {
+        rows: Vec::from_slice(alloc, rows)?,
+        byte: 0,
+        times: 0,
+    };
+    Ok(plainly(rt, alloc, &job)?.1)
+}
+
+#[test]
+fn void_entries_are_passed_over(rt: HostRuntime) -> Result<(), Fail> {
+    let alloc = rt.alloc();
+    let [make, three] = FIRST;
+    let [two, other] = SECOND;
+    // Two bytes at the beginning are refused of an upload that has three already.
+    hold(
+        &rt,
+        alloc,
+        &[],
+        &[make, three, other],
+        (1, &[make, two, other]),
+    )?;
+    hold(&rt, alloc, &[1], &[make, two, other], (3, &[make, two]))?;
+    hold(&rt, alloc, &[3], &[make, three], (0, &[]))?;
+    hold(&rt, alloc, &[2, 1], &[make, other], (1, &[make, other]))?;
+    hold(&rt, alloc, &[4, 0], &[other], (3, &[]))?;
+    Ok(())
+}
