@@ -60,8 +60,8 @@ fn seen_again<D: Disk + Drop, R: Wait>(rt: &R, alloc: Global, disks: (D, D)) -> 
     Ok(restored(rt, alloc, disks)?.0)
 }
 
-/// How many of the rows are answered as made by a store whose disk fails from some call on, once it is held that a crash
-/// leaves those and perhaps the next one. None where the log isn't opened.
+/// How many of the rows are answered as made by a store whose disk fails from some call on, once it is held that a
+/// crash leaves those and perhaps the next one. None where the log isn't opened.
 fn left<R: Threads + Wait + Abort + Sync>(
     rt: &R,
     alloc: Global,

@@ -106,8 +106,8 @@ pub fn change<K: Keeper>(
     Ok(told)
 }
 
-/// Puts this byte at the end of the upload 0 so many times, wherever others leave its end, and tells how many changes it
-/// took.
+/// Puts this byte at the end of the upload 0 so many times, wherever others leave its end, and tells how many changes
+/// it took.
 fn append_each<K: Keeper>(
     alloc: Global,
     keeper: &mut K,
