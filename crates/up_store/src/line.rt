@@ -1,7 +1,7 @@
 //! The order of changes.
-ghost use Rattle.std.specs.Prelude.{◌≡◌, ◌<◌, IfOk, OnErr, false};
-ghost use Rattle.up_store.specs.Lines.{IsLost, IsTurn, has_drawn, has_had_turn, has_lost_rest};
-ghost use Rattle.up_store.specs.declared.line.Next.TheVariants.{Commit, Refuse};
+ghost use Rattle.std.specs.Prelude.{◌≡◌, ◌<◌, ◌++◌, IfOk, OnErr, false};
+ghost use Rattle.up_store.specs.Lines.{IsLost, IsTurn, Takes, has_drawn, has_had_turn, has_lost_rest};
+ghost use Rattle.up_store.specs.declared.line.Next.TheVariants.{Commit, Refuse, Wait, Write};
 
 use std::alloc::{AllocError, Global};
 use std::collections::VecDeque;
@@ -56,13 +56,15 @@ impl Model for Line {
 
     ghost Value = { Progress };
 
-    ghost view = { λ l. progress l.drawn l.known l.done l.lost l.kept };
+    ghost view = { λ l. progress l.drawn l.known l.done l.lost l.kept l.waiting.items };
 
     ghost invariant = { λ l. (l.done ≤ l.known) × (l.known ≤ l.drawn) };
 }
 
-/// Moves the first of those that wait into a batch that has room.
-fn fill(waiting: &mut VecDeque<Spelled>, batch: &mut Vec<Spelled>) {
+/// Moves the first of those that wait behind the batch, as long as it has room.
+fn fill(waiting: &mut VecDeque<Spelled>, batch: &mut Vec<Spelled>)
+    ensures { batch.new.items ++ waiting.new.items ≡ batch.old.items ++ waiting.old.items }
+{
     let mut size: usize = 0;
     for _ in 0..MOST_CHANGES {
         if batch.len() >= batch.capacity() {
@@ -106,7 +108,7 @@ impl Line {
     /// drawn then.
     pub fn draw(&mut self, change: Spelled) -> Result<u64, AllocError>
         ensures drawn { IfOk result (λ number. (number ≡ self.old.drawn)
-            × (self.new ≡ has_drawn self.old)) }
+            × (self.new ≡ has_drawn self.old change)) }
         ensures none { OnErr result (self.new ≡ self.old) }
     {
         if self.is_over {
@@ -123,9 +125,11 @@ impl Line {
 
     /// What comes next for the change of this number.
     pub fn next(&mut self, alloc: Global, number: u64) -> Next
-        ensures same { self.new ≡ self.old }
-        ensures commit { result ≡ Commit → IsTurn self.old number × ¬ IsLost self.old number }
-        ensures refuse { result ≡ Refuse → IsTurn self.old number }
+        ensures wait { result ≡ Wait → self.new ≡ self.old }
+        ensures write { (batch : _) → result ≡ Write batch → Takes self.old self.new batch.items }
+        ensures commit { result ≡ Commit → (self.new ≡ self.old) × IsTurn self.old number
+            × ¬ IsLost self.old number }
+        ensures refuse { result ≡ Refuse → (self.new ≡ self.old) × IsTurn self.old number }
     {
         if self.done == number && number < self.known {
             if self.is_over || (self.lost <= number && number < self.kept) {
@@ -172,9 +176,10 @@ impl Line {
 
     /// Takes the first of those that wait.
     fn begin_batch(&mut self, alloc: Global) -> Vec<Spelled>
-        ensures { self.new ≡ self.old }
+        ensures { Takes self.old self.new result.items }
     {
         let mut batch = mem::replace(&mut self.room, Vec::new(alloc));
+        batch.clear();
         fill(&mut self.waiting, &mut batch);
         self.is_writing = true;
         batch
