@@ -81,9 +81,14 @@ def contenders_of(programs):
         if len(set(names)) < len(names) or Nginx.name in names:
             sys.exit("bench: each program needs a name of its own")
         return programs
+    return [as_started(build())]
+
+
+def as_started(path):
+    """A program with the settings of the C library that the script `up` gives it."""
     with open(os.path.join(ROOT, "packaging", "up"), encoding="utf-8") as file:
         found = re.search(r"^memory=(\S+)$", file.read(), re.MULTILINE)
-    return [Up("up", build(), os.environ.get("GLIBC_TUNABLES", found[1]) if found else None)]
+    return Up("up", path, os.environ.get("GLIBC_TUNABLES", found[1]) if found else None)
 
 
 def by_turns(contenders, number):

@@ -107,16 +107,24 @@ class Server:
         self.told.close()
 
     def listening(self):
-        """The port in the first line on standard error, which the server says once it listens."""
-        ready, _, _ = select.select([self.process.stderr], [], [], MOST_WAIT)
-        self.first_line = self.process.stderr.readline().decode() if ready else ""
+        """The port in the first line on standard error, which the server says once it listens. Over a store it says a
+        second one, once that was read."""
+        self.first_line = self.line()
         found = re.fullmatch(r"up_server: listening on 127\.0\.0\.1:(\d+)\n", self.first_line)
+        if found and "--store" in self.words:
+            self.first_line = self.line()
+            found = found if re.fullmatch(r"up_server: the store was read: \d+ changes\n", self.first_line) else None
         if found:
             return int(found[1])
         if self.may_fail:
             return None
         self.process.kill()
         sys.exit(f"the server does not listen: {self.first_line!r}")
+
+    def line(self):
+        """The next line on standard error; empty if none comes."""
+        ready, _, _ = select.select([self.process.stderr], [], [], MOST_WAIT)
+        return self.process.stderr.readline().decode() if ready else ""
 
     def output(self):
         """What the server has written to its standard output."""

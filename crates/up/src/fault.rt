@@ -1,9 +1,24 @@
 //! Why the program failed.
+use std::alloc::{AllocError, AllocFailed};
 use std::io;
 use std::process::ExitCode;
 use thiserror::Error;
+use up_handed::HandedFault;
+use up_log::LogFault;
 use up_server::ServerFault;
 use up_words::WordsFault;
+
+/// Why a file or the folder of a store can't be opened.
+#[derive(Clone, Copy, Debug, Error)]
+pub enum Unopened {
+    /// The folder can't be made.
+    #[error("{0}")]
+    Folder(io::Error),
+    #[error("{0}")]
+    Log(LogFault),
+    #[error("{0}")]
+    Count(HandedFault),
+}
 
 /// Why the program failed.
 #[derive(Debug, Drop, Error)]
@@ -16,6 +31,11 @@ pub enum Fault {
     Words(clap::Error),
     #[error("{fault} at {address:?}: {reason}", fault = ServerFault::Listen)]
     Listen { address: String, reason: io::Error },
+    #[error("cannot open the store at {path:?}: {reason}")]
+    Store { path: String, reason: Unopened },
+    /// The changes of the store could not be made again, so nothing was served. That was told already.
+    #[error("cannot read the store")]
+    Told,
     #[error(transparent)]
     Server(ServerFault),
 }
@@ -29,10 +49,36 @@ impl From<WordsFault> for Fault {
     }
 }
 
+impl From<AllocError> for Fault {
+    fn from(_: AllocError) -> Self {
+        Fault::Server(ServerFault::Memory)
+    }
+}
+
+impl<T: Drop> From<AllocFailed<T>> for Fault {
+    fn from(_: AllocFailed<T>) -> Self {
+        Fault::Server(ServerFault::Memory)
+    }
+}
+
+/// A standard stream, or the system's random bytes, can't be had, or there is no memory for it.
+impl From<io::Error> for Fault {
+    fn from(_: io::Error) -> Self {
+        Fault::Server(ServerFault::Memory)
+    }
+}
+
+impl From<ServerFault> for Fault {
+    fn from(fault: ServerFault) -> Self {
+        Fault::Server(fault)
+    }
+}
+
 impl Fault {
-    /// Says what failed on standard error. Where that is closed nobody is told.
+    /// Says what failed on standard error, unless that was told already. Where that is closed nobody is told.
     pub fn tell<R: Eprint>(&self, rt: &R) {
         let _ = match self {
+            Fault::Told => Ok(()),
             Fault::Words(error) => rt.eprint(error),
             fault => eprintln!(rt; "up_server: {fault}"),
         };
@@ -42,7 +88,9 @@ impl Fault {
     pub fn status(&self) -> ExitCode {
         match self {
             Fault::NoText | Fault::Words(_) => ExitCode::from(2),
-            Fault::Listen { .. } | Fault::Server(_) => ExitCode::FAILURE,
+            Fault::Listen { .. } | Fault::Store { .. } | Fault::Told | Fault::Server(_) => {
+                ExitCode::FAILURE
+            }
         }
     }
 }

@@ -5,12 +5,16 @@
 mod fault;
 mod listener;
 mod notice_lines;
+mod room;
 mod rules;
 mod running;
+mod store_files;
+mod store_lines;
 
 use crate::fault::Fault;
 use crate::listener::listen;
 use crate::rules::run_by_rules;
+use crate::store_files::{StoreFiles, store_of};
 use clap::error::ErrorKind;
 use std::alloc::Global;
 use std::io::{self, BufWriter};
@@ -25,18 +29,19 @@ use up_server::{EventLines, ServerFault};
 use up_wire::Output;
 use up_words::{Words, WordsFault, words};
 
-/// Serves as the words ask for it. An error is a standard stream that can't be had, or want of memory for it or for the closures.
+/// Serves as the words ask for it.
 fn obey<R: Input + Print + Eprint + AllocGlobal + Clock + RandomSource + Threads + Wait + Sync>(
     rt: &R,
     words: &Words,
     listener: Option<TcpListener>,
-) -> io::Result<Result<(), ServerFault>> {
+    files: Option<StoreFiles<'_>>,
+) -> Result<(), Fault> {
     let lines = EventLines::new(Output::new(BufWriter::new(rt.alloc(), io::writer(rt))?));
     let wanted = match &words.serve {
         Some(serving) if serving.events => Some(&lines),
         _ => None,
     };
-    run_by_rules(rt, words, wanted, listener)
+    run_by_rules(rt, words, wanted, listener, files)
 }
 
 /// The words behind the program's name.
@@ -65,7 +70,7 @@ fn asked<R: Print>(rt: &R, alloc: Global, given: Vec<String>) -> Result<Option<W
     }
 }
 
-/// Reads the words, and serves as they ask for it.
+/// Listens where the words ask for it, and serves.
 fn run<
     R: Input
         + Print
@@ -77,22 +82,27 @@ fn run<
         + Threads
         + Wait
         + Sync,
->(rt: &R, given: Vec<String>) -> Result<(), Fault> {
-    let Some(words) = asked(rt, rt.alloc(), given)? else {
-        return Ok(());
-    };
+>(rt: &R, words: &Words, files: Option<StoreFiles<'_>>) -> Result<(), Fault> {
     let listener = match &words.serve {
         Some(serving) => Some(listen(rt, serving)?),
         None => None,
     };
-    obey(rt, &words, listener)
-        .unwrap_or(Err(ServerFault::Memory))
-        .map_err(Fault::Server)
+    obey(rt, words, listener, files)
+}
+
+/// The words, and the store that they ask for, which is open then. None where it was the version alone.
+fn prepared(rt: &HostRuntime) -> Result<Option<(Words, Option<StoreFiles<'_>>)>, Fault> {
+    let Some(words) = asked(rt, rt.alloc(), given(rt)?)? else {
+        return Ok(None);
+    };
+    let files = store_of(rt, &words)?;
+    Ok(Some((words, files)))
 }
 
 fn main(rt: HostRuntime) -> ExitCode {
-    let ended = match given(&rt) {
-        Ok(given) => run(&rt, given),
+    let ended = match prepared(&rt) {
+        Ok(Some((words, files))) => run(&rt, &words, files),
+        Ok(None) => Ok(()),
         Err(fault) => Err(fault),
     };
     match ended {

@@ -3,8 +3,9 @@ ghost use Rattle.std.specs.Prelude.{◌≡◌, IsTrue};
 ghost use Rattle.up_hooks.specs.Verdicts.{is_lawful};
 ghost use Rattle.up_rules.specs.Rules.{judged};
 
+use crate::fault::Fault;
 use crate::running::run_with;
-use std::io;
+use crate::store_files::StoreFiles;
 use std::marker::{Send, Sync};
 use std::net::TcpListener;
 use std::random::RandomSource;
@@ -14,12 +15,11 @@ use std::time::Clock;
 use up_hooks::{PreHook, PreHooks};
 use up_machine::{Ask, Verdict};
 use up_rules::rules_of;
-use up_server::{EventLines, ServerFault};
+use up_server::EventLines;
 use up_wire::Sink;
 use up_words::Words;
 
-/// Serves what the words ask for, with the closures of their rules, which are asked in the order in which the help names them. An error is
-/// want of memory for the closures, or one of the run.
+/// Serves what the words ask for, with the closures of their rules, which are asked in the order in which the help names them.
 pub fn run_by_rules<
     'a,
     R: Input + Print + Eprint + AllocGlobal + Clock + RandomSource + Threads + Wait + Sync + 'a,
@@ -29,7 +29,8 @@ pub fn run_by_rules<
     words: &'a Words,
     lines: Option<&'a EventLines<W>>,
     listener: Option<TcpListener>,
-) -> io::Result<Result<(), ServerFault>> {
+    files: Option<StoreFiles<'_>>,
+) -> Result<(), Fault> {
     let mut hooks = Vec::new(rt.alloc());
     for rule in rules_of(rt.alloc(), words)? {
         let point = rule.point();
@@ -39,5 +40,5 @@ pub fn run_by_rules<
         { rule.judge(ask) };
         hooks.push(PreHook::new(point, Box::new(rt.alloc(), judge)?))?;
     }
-    run_with(rt, words, lines, listener, PreHooks::new(hooks))
+    run_with(rt, words, lines, listener, PreHooks::new(hooks), files)
 }

@@ -2,7 +2,11 @@
 ghost use Rattle.std.specs.Prelude.{◌≡◌, [], All, IsTrue, length};
 ghost use Rattle.up_hooks.specs.Told.{has_code};
 
+use crate::fault::Fault;
 use crate::notice_lines::NoticeLines;
+use crate::store_files::StoreFiles;
+use crate::store_lines::StoreLines;
+use sqlite_disk::Disk;
 use std::alloc::{AllocError, Global};
 use std::io::{self, BufReader, BufWriter};
 use std::marker::{Send, Sync};
@@ -12,12 +16,14 @@ use std::sync::Wait;
 use std::thread::Threads;
 use std::time::Clock;
 use up_connections::{Drawn, Ending, Notices, Patience, Visits, Watch};
-use up_dispatch::AtOnce;
+use up_dispatch::{AtOnce, Service};
 use up_events::Event;
+use up_handed::continue_each;
 use up_hooks::{Outcome, PostHook, PreHooks, Recorder, Teller, new_recorders, new_tellers};
-use up_server::{EventLines, ServerFault, keep_serving, replay, serve};
+use up_server::{EventLines, ServerFault, Shown, keep_serving, replay, serve};
+use up_store::{Keeping, StoreNotices};
 use up_wire::{Output, Sink};
-use up_words::Words;
+use up_words::{Settings, Words};
 
 /// The descriptor of standard input.
 const STDIN: i32 = 0;
@@ -39,14 +45,22 @@ fn ending_of(alloc: Global, words: &Words) -> Result<Option<Ending>, AllocError>
     }
 }
 
-/// Which connections are served, if the words ask for some.
-fn visits_of<'a, N>(
-    words: &Words,
-    watch: Option<&'a Watch>,
-    ending: Option<&'a Ending>,
-    notices: &'a N,
-) -> Option<Visits<'a, N, AtOnce>> {
-    let serving = words.serve.as_ref()?;
+/// What a run is given beside its connections and hooks.
+#[derive(Drop)]
+struct Beside<'a, R> {
+    words: &'a Words,
+    settings: Settings,
+    notices: NoticeLines<'a, R>,
+    watch: Option<Watch>,
+    ending: Option<Ending>,
+}
+
+/// Which connections are served, and how their conversations are held, if the words ask for some.
+fn visits_of<'a, R, S>(
+    beside: &'a Beside<'a, R>,
+    service: &'a S,
+) -> Option<Visits<'a, NoticeLines<'a, R>, S>> {
+    let serving = beside.words.serve.as_ref()?;
     Some(Visits {
         connections: serving.connections,
         open: serving.open,
@@ -54,23 +68,26 @@ fn visits_of<'a, N>(
             seconds: serving.patience,
             least_rate: serving.least_rate,
         },
-        watch,
-        ending,
-        notices,
-        service: &AtOnce,
+        watch: beside.watch.as_ref(),
+        ending: beside.ending.as_ref(),
+        notices: &beside.notices,
+        service,
     })
 }
 
-/// Whether nothing is kept of the events that went by: the run has no end of its own, or they are written as they go.
+/// Whether nothing is kept of the events that went by: the run has no end of its own, they are written as they go, or a
+/// store counts them.
 fn is_counted(words: &Words) -> bool {
     match &words.serve {
-        Some(serving) => serving.connections.is_none() || serving.events,
+        Some(serving) => {
+            serving.connections.is_none() || serving.events || serving.store.is_some()
+        }
         None => false,
     }
 }
 
 /// Serves what the words ask for, with these closures, and with post-hooks that write their event as a line, where there are lines, and
-/// answer that they are done. An error is a standard stream that can't be had, or want of memory for it.
+/// answer that they are done.
 pub fn run_with<
     'a,
     R: Input + Print + Eprint + AllocGlobal + Clock + RandomSource + Threads + Wait + Sync + 'a,
@@ -81,7 +98,8 @@ pub fn run_with<
     lines: Option<&'a EventLines<W>>,
     listener: Option<TcpListener>,
     hooks: PreHooks,
-) -> io::Result<Result<(), ServerFault>> {
+    files: Option<StoreFiles<'_>>,
+) -> Result<(), Fault> {
     let answer = move |event: &Event| -> Outcome
         ensures { IsTrue (has_code result) }
     {
@@ -90,78 +108,168 @@ pub fn run_with<
             None => Outcome::Done,
         }
     };
-    let lanes = words.settings.lanes;
-    let notices = NoticeLines::new(rt);
-    let watch = watch_of(words);
-    let ending = ending_of(rt.alloc(), words)?;
-    let visits = visits_of(words, watch.as_ref(), ending.as_ref(), &notices);
-    match (visits, listener) {
-        (Some(visits), Some(listener)) if is_counted(words) => {
-            match new_tellers(rt.alloc(), lanes, answer) {
-                Ok(tellers) => run_on(rt, words, &visits, listener, hooks, tellers),
-                Err(_) => Ok(Err(ServerFault::Memory)),
+    let settings = match &files {
+        Some(files) => files.settings,
+        None => words.settings,
+    };
+    let beside = Beside {
+        words,
+        settings,
+        notices: NoticeLines::new(rt),
+        watch: watch_of(words),
+        ending: ending_of(rt.alloc(), words)?,
+    };
+    match (listener, files) {
+        (Some(listener), Some(files)) => {
+            match new_tellers(rt.alloc(), settings.lanes, answer) {
+                Ok(tellers) => run_stored(rt, &beside, listener, hooks, tellers, files),
+                Err(_) => Err(Fault::Server(ServerFault::Memory)),
             }
         }
-        (visits, listener) => match new_recorders(rt.alloc(), lanes, answer) {
-            Ok(recorders) => run_over(rt, words, visits, listener, hooks, recorders),
-            Err(_) => Ok(Err(ServerFault::Memory)),
+        (Some(listener), None) if is_counted(words) => {
+            match new_tellers(rt.alloc(), settings.lanes, answer) {
+                Ok(tellers) => run_counted(rt, &beside, listener, hooks, tellers),
+                Err(_) => Err(Fault::Server(ServerFault::Memory)),
+            }
+        }
+        (listener, _) => match new_recorders(rt.alloc(), settings.lanes, answer) {
+            Ok(recorders) => run_over(rt, &beside, listener, hooks, recorders),
+            Err(_) => Err(Fault::Server(ServerFault::Memory)),
         },
     }
 }
 
 /// Serves what the listener accepts, with these closures and post-hooks, keeps nothing of what went by, and reports its counts.
 fn run_on<
-    F: Fn(&Event) -> Outcome + Send + Drop,
+    H: Shown + Drop,
     N: Notices,
+    S: Service,
     R: Print + Eprint + AllocGlobal + RandomSource + Threads + Wait + Sync,
 >(
     rt: &R,
-    words: &Words,
-    visits: &Visits<'_, N, AtOnce>,
+    beside: &Beside<'_, R>,
+    visits: &Visits<'_, N, S>,
     listener: TcpListener,
     hooks: PreHooks,
-    tellers: Vec<Teller<F>>,
-) -> io::Result<Result<(), ServerFault>>
-    requires one_for_each { length tellers.items ≡ words.now.settings.lanes }
-    requires new { All (λ t. ⟦<Teller<F> as PostHook>⟧.is_sound t × (⟦<Teller<F> as PostHook>⟧.handed t ≡ [])) tellers.items }
+    post_hooks: Vec<H>,
+) -> Result<(), Fault>
+    requires one_for_each { length post_hooks.items ≡ beside.now.settings.lanes }
+    requires new { All (λ h. H.is_sound h × (H.handed h ≡ [])) post_hooks.items }
 {
     let mut sink = Output::new(BufWriter::new(rt.alloc(), io::writer(rt))?);
-    let ids = Drawn::new(rt, words.shard())?;
-    Ok(keep_serving(
+    let ids = Drawn::new(rt, beside.words.shard())?;
+    keep_serving(
         rt,
         rt.alloc(),
         hooks,
-        tellers,
-        &words.settings,
+        post_hooks,
+        &beside.settings,
         listener,
         visits,
         ids,
         &mut sink,
-    ))
+    )?;
+    Ok(())
+}
+
+/// Serves what the listener accepts, with uploads in memory alone.
+fn run_counted<
+    F: Fn(&Event) -> Outcome + Send + Drop,
+    R: Print + Eprint + AllocGlobal + Clock + RandomSource + Threads + Wait + Sync,
+>(
+    rt: &R,
+    beside: &Beside<'_, R>,
+    listener: TcpListener,
+    hooks: PreHooks,
+    tellers: Vec<Teller<F>>,
+) -> Result<(), Fault>
+    requires one_for_each { length tellers.items ≡ beside.now.settings.lanes }
+    requires new { All (λ t. ⟦<Teller<F> as PostHook>⟧.is_sound t × (⟦<Teller<F> as PostHook>⟧.handed t ≡ [])) tellers.items }
+{
+    match visits_of(beside, &AtOnce) {
+        Some(visits) => run_on(rt, beside, &visits, listener, hooks, tellers),
+        None => Ok(()),
+    }
+}
+
+/// Serves what the listener accepts, with changes that are written to logs before they are made.
+fn run_kept<
+    H: Shown + Drop,
+    D: Disk + Drop + Send,
+    N: StoreNotices + Copy + Drop + Send + Sync,
+    R: Print + Eprint + AllocGlobal + Clock + RandomSource + Threads + Wait + Sync,
+>(
+    rt: &R,
+    beside: &Beside<'_, R>,
+    listener: TcpListener,
+    hooks: PreHooks,
+    post_hooks: Vec<H>,
+    keeping: &Keeping<D, N>,
+) -> Result<(), Fault>
+    requires one_for_each { length post_hooks.items ≡ beside.now.settings.lanes }
+    requires new { All (λ h. H.is_sound h × (H.handed h ≡ [])) post_hooks.items }
+{
+    match visits_of(beside, keeping) {
+        Some(visits) => run_on(rt, beside, &visits, listener, hooks, post_hooks),
+        None => Ok(()),
+    }
+}
+
+/// Serves what the listener accepts, over the files of a store.
+fn run_stored<
+    F: Fn(&Event) -> Outcome + Send + Drop,
+    R: Print + Eprint + AllocGlobal + Clock + RandomSource + Threads + Wait + Sync,
+>(
+    rt: &R,
+    beside: &Beside<'_, R>,
+    listener: TcpListener,
+    hooks: PreHooks,
+    tellers: Vec<Teller<F>>,
+    files: StoreFiles<'_>,
+) -> Result<(), Fault>
+    requires one_for_each { length tellers.items ≡ beside.now.settings.lanes }
+    requires same { files.settings.lanes ≡ beside.now.settings.lanes }
+    requires new { All (λ t. ⟦<Teller<F> as PostHook>⟧.is_sound t × (⟦<Teller<F> as PostHook>⟧.handed t ≡ [])) tellers.items }
+{
+    let StoreFiles {
+        rt: host,
+        changes,
+        voids,
+        counts,
+        spare,
+        ..
+    } = files;
+    let lines = StoreLines::new(host, spare);
+    let post_hooks = continue_each(rt.alloc(), tellers, counts)?;
+    let keeping = Keeping::new(rt.alloc(), changes, voids, &lines)?;
+    run_kept(rt, beside, listener, hooks, post_hooks, &keeping)?;
+    if lines.is_unread() {
+        return Err(Fault::Told);
+    }
+    Ok(())
 }
 
 /// Serves what the listener accepts, or else standard input, with these closures and post-hooks.
 fn run_over<
     F: Fn(&Event) -> Outcome + Send + Drop,
-    N: Notices,
-    R: Input + Print + Eprint + AllocGlobal + RandomSource + Threads + Wait + Sync,
+    R: Input + Print + Eprint + AllocGlobal + Clock + RandomSource + Threads + Wait + Sync,
 >(
     rt: &R,
-    words: &Words,
-    visits: Option<Visits<'_, N, AtOnce>>,
+    beside: &Beside<'_, R>,
     listener: Option<TcpListener>,
     hooks: PreHooks,
     recorders: Vec<Recorder<F>>,
-) -> io::Result<Result<(), ServerFault>>
-    requires one_for_each { length recorders.items ≡ words.now.settings.lanes }
+) -> Result<(), Fault>
+    requires one_for_each { length recorders.items ≡ beside.now.settings.lanes }
     requires new { All (λ r. ⟦<Recorder<F> as PostHook>⟧.is_sound r × (⟦<Recorder<F> as PostHook>⟧.handed r ≡ [])) recorders.items }
 {
     let alloc = rt.alloc();
-    let settings = &words.settings;
+    let settings = &beside.settings;
     let mut sink = Output::new(BufWriter::new(alloc, io::writer(rt))?);
+    let visits = visits_of(beside, &AtOnce);
     let (Some(listener), Some(visits)) = (listener, visits) else {
         let mut source = up_wire::Input::new(BufReader::new(alloc, rt.reader())?);
-        return Ok(replay(
+        replay(
             rt,
             alloc,
             hooks,
@@ -169,10 +277,12 @@ fn run_over<
             settings,
             &mut source,
             &mut sink,
-        ));
+        )?;
+        return Ok(());
     };
-    let ids = Drawn::new(rt, words.shard())?;
-    Ok(serve(
+    let ids = Drawn::new(rt, beside.words.shard())?;
+    serve(
         rt, alloc, hooks, recorders, settings, listener, &visits, ids, &mut sink,
-    ))
+    )?;
+    Ok(())
 }

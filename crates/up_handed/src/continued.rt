@@ -117,6 +117,13 @@ impl<H, D: Disk> Continued<H, D> {
         self.before
     }
 
+    /// How many events all runs together have handed over, as the disk counts them.
+    pub fn count(&self) -> u64
+        ensures { result ≡ count_of (handed_of self.now) }
+    {
+        self.handed.count()
+    }
+
     /// The post-hook within, which was handed what earlier runs didn't hand over.
     pub fn hook(&self) -> &H
         ensures { result.now ≡ hook_of self.now }

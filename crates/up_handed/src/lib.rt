@@ -3,6 +3,7 @@
 #![tactic(auto)]
 
 mod continued;
+mod continuing;
 mod device;
 mod fault;
 mod file;
@@ -11,6 +12,7 @@ mod handed_to;
 mod restarting;
 
 pub use continued::Continued;
+pub use continuing::{Opened, continue_each};
 pub use fault::HandedFault;
 pub use file::open_handed;
 pub use handed::{Handed, Refused};

@@ -5,3 +5,4 @@ pub mod Batches
 pub mod Headings
 pub mod Mending
 pub mod Parts
+pub mod Places

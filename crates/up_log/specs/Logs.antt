@@ -64,6 +64,13 @@ abbrev pub IsBatch : List Entry → Result (List Entry) LogFault → Type 0
 IsBatch first (Ok entries) = entries ≡ first
 IsBatch first (Err e) = IsDamaged e → ⊥
 
+-- the first of the batches that are left, with the place behind its block, none if none is left, or no damage
+abbrev pub ReadsAt : Setup → List (List Entry) → List (List Entry) → Result (Option (List Entry × ℕ)) LogFault → Type 0
+ReadsAt setup read left (Ok None) = left ≡ []
+ReadsAt setup read left (Ok (Some found)) =
+    (others : List (List Entry)) × (left ≡ found.0 ∷ others) × (found.1 ≡ length (written setup (read ++ found.0 ∷ [])))
+ReadsAt setup read left (Err e) = IsDamaged e → ⊥
+
 -- this batch and this place, or no damage
 abbrev pub BlockIs : List Entry → ℕ → Result (List Entry × ℕ) LogFault → Type 0
 BlockIs first end (Ok block) = (block.0 ≡ first) × (block.1 ≡ end)

@@ -53,6 +53,7 @@ fn size_at<D: Disk>(disk: &mut D, len: usize, gate: usize) -> Result<usize, LogF
         → IsTrue (D.is_clean disk.new) → HasSize first result }
     ensures fits { IfOk result (λ n. gate + 9 + n ≤ len) }
     ensures seen { D.seen disk.new ≡ D.seen disk.old }
+    ensures usable { IsTrue (D.is_usable disk.old) → IsTrue (D.is_usable disk.new) }
     ensures clean { IsTrue (D.is_clean disk.new) → IsTrue (D.is_clean disk.old) }
     ensures crash { (c : List ℕ) → D.may_leave disk.new c → D.may_leave disk.old c }
 {
@@ -82,6 +83,7 @@ fn batch_from<D: Disk>(
     ensures entries { (first : List Logged) → take size (drop at (D.seen disk.old)) ≡ batch first
         → IsTrue (D.is_clean disk.new) → IsBatch first result }
     ensures seen { D.seen disk.new ≡ D.seen disk.old }
+    ensures usable { IsTrue (D.is_usable disk.old) → IsTrue (D.is_usable disk.new) }
     ensures clean { IsTrue (D.is_clean disk.new) → IsTrue (D.is_clean disk.old) }
     ensures crash { (c : List ℕ) → D.may_leave disk.new c → D.may_leave disk.old c }
 {
@@ -108,6 +110,7 @@ pub(crate) fn block_at<D: Disk>(
         → IsTrue (D.is_clean disk.new) → BlockIs first (gate + 9 + length (batch first)) result }
     ensures fits { IfOk result (λ block. (gate < block.1) × (block.1 ≤ len)) }
     ensures seen { D.seen disk.new ≡ D.seen disk.old }
+    ensures usable { IsTrue (D.is_usable disk.old) → IsTrue (D.is_usable disk.new) }
     ensures clean { IsTrue (D.is_clean disk.new) → IsTrue (D.is_clean disk.old) }
     ensures crash { (c : List ℕ) → D.may_leave disk.new c → D.may_leave disk.old c }
 {

@@ -14,6 +14,7 @@ pub(crate) fn read_from<D: Disk>(disk: &mut D, at: usize, buf: &mut [u8]) -> Res
         → buf.new ≡ take (length buf.old) (drop at (D.seen disk.old))) }
     ensures fault { IfErr result (λ fault. IsDamaged fault → ⊥) }
     ensures seen { D.seen disk.new ≡ D.seen disk.old }
+    ensures usable { IsTrue (D.is_usable disk.old) → IsTrue (D.is_usable disk.new) }
     ensures clean { IsTrue (D.is_clean disk.new) → IsTrue (D.is_clean disk.old) }
     ensures crash { (c : List ℕ) → D.may_leave disk.new c → D.may_leave disk.old c }
 {
@@ -36,6 +37,7 @@ pub(crate) fn read_vec<D: Disk>(
         → bytes.items ≡ take size (drop at (D.seen disk.old))) }
     ensures fault { IfErr result (λ fault. IsDamaged fault → ⊥) }
     ensures seen { D.seen disk.new ≡ D.seen disk.old }
+    ensures usable { IsTrue (D.is_usable disk.old) → IsTrue (D.is_usable disk.new) }
     ensures clean { IsTrue (D.is_clean disk.new) → IsTrue (D.is_clean disk.old) }
     ensures crash { (c : List ℕ) → D.may_leave disk.new c → D.may_leave disk.old c }
 {
@@ -47,7 +49,9 @@ pub(crate) fn read_vec<D: Disk>(
 /// How many bytes the file has.
 pub(crate) fn len_of<D: Disk>(disk: &mut D) -> Result<usize, LogFault>
     ensures len { IfOk result (λ n. IsTrue (D.is_clean disk.new) → n ≡ length (D.seen disk.old)) }
+    ensures fault { IfErr result (λ fault. IsDamaged fault → ⊥) }
     ensures seen { D.seen disk.new ≡ D.seen disk.old }
+    ensures usable { IsTrue (D.is_usable disk.old) → IsTrue (D.is_usable disk.new) }
     ensures clean { IsTrue (D.is_clean disk.new) → IsTrue (D.is_clean disk.old) }
     ensures crash { (c : List ℕ) → D.may_leave disk.new c → D.may_leave disk.old c }
 {

@@ -10,6 +10,7 @@ mod file;
 mod heading;
 mod reader;
 mod reading;
+mod rereading;
 mod setup;
 mod spelled;
 mod writing;

@@ -1,5 +1,5 @@
 -- The report of a run, as text.
-use Rattle.std.specs.Prelude.{ℕ, ◌+◌, ◌-◌, ◌^◌, min, List, [], ◌∷◌, ◌++◌, length, flat_map, codes, decimal, Option, Some, None}
+use Rattle.std.specs.Prelude.{ℕ, ◌+◌, List, [], ◌∷◌, ◌++◌, length, flat_map, codes, decimal, Option, Some, None}
 use Rattle.std.specs.List.{concat}
 use Rattle.up_events.specs.IdText.{text_of}
 use Rattle.up_events.specs.Names.{name_of}
@@ -69,7 +69,3 @@ report_by count text report = count_line (length report.accepted.items) ++ lanes
 -- the report of a run that kept its events
 abbrev pub report_text : {F : Type 0} → Report (Recorder F) → List ℕ
 report_text report = report_by count_kept events_text report
-
--- the report of a run that counted them
-abbrev pub counts_text : {H : Type 0} → (H → List Event) → Report H → List ℕ
-counts_text handed report = report_by (λ hook. min (length (handed hook)) (2 ^ 64 - 1)) (λ hook. []) report

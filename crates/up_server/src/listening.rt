@@ -4,14 +4,14 @@ ghost use Rattle.up_dispatch.specs.Lists.{EachAt};
 ghost use Rattle.up_dispatch.specs.Parts.{IsNamed};
 ghost use Rattle.up_dispatch.specs.declared.finish.Report.{Report};
 ghost use Rattle.up_hooks.specs.declared.recorder.Recorder.{Recorder};
-ghost use Rattle.up_hooks.specs.declared.teller.Teller.{Teller};
-ghost use Rattle.up_server.specs.ReportText.{counts_text};
+ghost use Rattle.up_server.specs.ReportText.{report_by};
 ghost use Rattle.up_server.specs.Reported.{IsReportOf, IsTold, IsToldAs, any_stopped};
 
 use crate::boards;
 use crate::lanes::{end_all, start_all};
 use crate::runner::{OnStderr, Runner};
 use crate::server_fault::ServerFault;
+use crate::shown::Shown;
 use crate::status::{say, start_saying};
 use crate::telling::tell_report;
 use std::alloc::{AllocError, Global};
@@ -23,7 +23,7 @@ use std::thread::{Scope, Threads};
 use up_connections::{Notices, Visits, serve_connections};
 use up_dispatch::{Board, BoardParts, Ids, Naming, Report, Seat, Service};
 use up_events::{Event, NoMemory};
-use up_hooks::{Outcome, PostHook, PreHooks, Recorder, Teller};
+use up_hooks::{Outcome, PostHook, PreHooks, Recorder};
 use up_lanes::{Lane, LaneEnd};
 use up_wire::Sink;
 use up_words::Settings;
@@ -205,10 +205,11 @@ pub fn serve<
     }
 }
 
-/// The same, with tellers and with a report of counts alone: nothing is kept of the changes and events that went by, so it may run without an
-/// end. What it holds are the uploads that are there, a few words for each id that was ever given, and the events that wait for their lane.
+/// The same, with any post-hooks of which a report can tell. With tellers nothing is kept of the changes and events that went by, so it may
+/// run without an end. What it holds are the uploads that are there, a few words for each id that was ever given, and the events that wait for
+/// their lane.
 pub fn keep_serving<
-    F: Fn(&Event) -> Outcome + Send + Drop,
+    H: Shown + Drop,
     I: Ids + Send + Drop,
     N: Notices,
     S: Service,
@@ -218,21 +219,24 @@ pub fn keep_serving<
     rt: &T,
     alloc: Global,
     hooks: PreHooks,
-    tellers: Vec<Teller<F>>,
+    post_hooks: Vec<H>,
     settings: &Settings,
     listener: TcpListener,
     visits: &Visits<'_, N, S>,
     ids: I,
     sink: &mut W,
 ) -> Result<(), ServerFault>
-    requires one_for_each { length tellers.items ≡ settings.now.lanes }
-    requires new { All (λ t. ⟦<Teller<F> as PostHook>⟧.is_sound t × (⟦<Teller<F> as PostHook>⟧.handed t ≡ [])) tellers.items }
-    ensures { (result ≡ Err ServerFault.Memory) ⊎ ((report : Report (Teller F))
-        × IsReportOf ⟦<Teller<F> as PostHook>⟧.handed settings.now.lanes report
-        × All (λ lane. ⟦<Teller<F> as PostHook>⟧.is_sound lane.hook) report.lanes.items
-        × IsToldAs (counts_text ⟦<Teller<F> as PostHook>⟧.handed report) (any_stopped report.lanes.items) (W.device sink.old) (W.device sink.new) result) }
+    requires one_for_each { length post_hooks.items ≡ settings.now.lanes }
+    requires new { All (λ h. H.is_sound h × (H.handed h ≡ [])) post_hooks.items }
+    ensures { (result ≡ Err ServerFault.Memory) ⊎ ((report : Report H)
+        × IsReportOf H.handed settings.now.lanes report
+        × All (λ lane. H.is_sound lane.hook) report.lanes.items
+        × IsToldAs (report_by H.count H.text report) (any_stopped report.lanes.items)
+        (W.device sink.old) (W.device sink.new) result) }
 {
-    match serve_with(rt, alloc, hooks, tellers, settings, listener, visits, ids) {
+    match serve_with(
+        rt, alloc, hooks, post_hooks, settings, listener, visits, ids,
+    ) {
         Ok(counts) => tell_report(sink, &counts),
         Err(_) => Err(ServerFault::Memory),
     }

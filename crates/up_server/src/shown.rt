@@ -4,7 +4,10 @@ ghost use Rattle.up_wire.specs.Device.{GaveUp};
 ghost use Rattle.up_wire.specs.Response.{Writes};
 
 use crate::report::write_events;
+use sqlite_disk::Disk;
+use std::marker::Send;
 use up_events::Event;
+use up_handed::Continued;
 use up_hooks::{Outcome, PostHook, Recorder, Teller};
 use up_wire::{Sink, WriteFailed};
 
@@ -58,5 +61,23 @@ impl<F: Fn(&Event) -> Outcome + Send> Shown for Teller<F> {
 
     fn write_text<W: Sink>(&self, _sink: &mut W) -> Result<(), WriteFailed> {
         Ok(())
+    }
+}
+
+impl<H: Shown, D: Disk + Send> Shown for Continued<H, D> {
+    ghost use Rattle.up_handed.specs.Continues.{handed_of, hook_of};
+    ghost use Rattle.up_handed.specs.Counts.{count_of};
+
+    // How many events all runs have handed over, as the disk counts them.
+    ghost count = { λ c. count_of (handed_of c) };
+
+    ghost text = { λ c. H.text (hook_of c) };
+
+    fn count_handed(&self) -> u64 {
+        self.count()
+    }
+
+    fn write_text<W: Sink>(&self, sink: &mut W) -> Result<(), WriteFailed> {
+        self.hook().write_text(sink)
     }
 }

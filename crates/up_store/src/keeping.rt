@@ -10,32 +10,38 @@ use crate::restoring::restore_on;
 use crate::store::Store;
 use crate::stored::Stored;
 use sqlite_disk::Disk;
-use std::alloc::Global;
+use std::alloc::{AllocError, Global};
 use std::marker::{Send, Sync};
-use std::sync::{Mutex, OnceLock, Wait};
+use std::sync::{Mutex, Wait};
 use up_dispatch::{Board, Ended, Ids, Naming, Seat, Service, converse};
 use up_hooks::PreHooks;
 use up_log::LogReader;
-use up_replay::{Unreplayed, Unrestored};
 use up_wire::{Sink, Source};
 
-/// The logs of a server, from before they are read on.
+/// A store, from before its logs are read on.
 #[derive(Drop)]
 pub struct Keeping<D: Disk, N> {
-    /// That of the changes, and that of the voids, until they are read.
+    /// The log of the changes, and that of the voids, until they are read.
     readers: Mutex<Option<(LogReader<D>, LogReader<D>)>>,
-    store: OnceLock<Store<D, N>>,
-    notices: N,
+    store: Store<D, N>,
 }
 
 impl<D: Disk, N> Keeping<D, N> {
-    /// Over the log of the changes and that of the voids, of which nothing is read yet.
-    pub fn new(changes: LogReader<D>, voids: LogReader<D>, notices: N) -> Keeping<D, N> {
-        Keeping {
+    /// Over the log of the changes and that of the voids, of which nothing is read yet. An error is want of memory.
+    pub fn new(
+        alloc: Global,
+        changes: LogReader<D>,
+        voids: LogReader<D>,
+        notices: N,
+    ) -> Result<Keeping<D, N>, AllocError>
+    where
+        D: Drop,
+        N: Drop,
+    {
+        Ok(Keeping {
+            store: Store::unread(alloc, notices)?,
             readers: Mutex::new(Some((changes, voids))),
-            store: OnceLock::new(),
-            notices,
-        }
+        })
     }
 }
 
@@ -62,8 +68,8 @@ pub fn converse_stored<B: Naming, D: Disk, N: StoreNotices, I: Ids, R: Source, W
     converse(alloc, &mut stored, hooks, ids, max_size, source, sink)
 }
 
-impl<D: Disk + Drop + Send, N: StoreNotices + Copy + Drop + Send + Sync> Service for Keeping<D, N> {
-    /// Carries out the changes of the log again. If that fails the notices are told why.
+impl<D: Disk + Drop + Send, N: StoreNotices + Drop + Send + Sync> Service for Keeping<D, N> {
+    /// Carries out the changes of the log again, and opens the store. If that fails the notices are told why.
     fn begin<B: Naming, T: Wait>(
         &self,
         rt: &T,
@@ -75,20 +81,15 @@ impl<D: Disk + Drop + Send, N: StoreNotices + Copy + Drop + Send + Sync> Service
         let Some((changes, voids)) = self.readers.lock(rt).take() else {
             return (seat, false);
         };
-        let notices = self.notices;
         match restore_on(rt, alloc, board, &mut seat, changes, voids) {
-            Ok(logs) => match Store::new(alloc, logs, notices) {
-                Ok(store) => {
-                    let is_set = self.store.set(rt, store).is_ok();
-                    (seat, is_set)
-                }
-                Err(_) => {
-                    notices.is_not_restored(Unrestored::Entry(Unreplayed::Memory));
-                    (seat, false)
-                }
-            },
+            Ok(logs) => {
+                let entries = logs.count;
+                self.store.open(rt, logs);
+                self.store.notices.is_restored(entries);
+                (seat, true)
+            }
             Err(why) => {
-                notices.is_not_restored(why);
+                self.store.notices.is_not_restored(why);
                 (seat, false)
             }
         }
@@ -105,11 +106,7 @@ impl<D: Disk + Drop + Send, N: StoreNotices + Copy + Drop + Send + Sync> Service
         source: &mut R,
         sink: &mut W,
     ) -> Ended {
-        match self.store.get() {
-            Some(store) => {
-                converse_stored(rt, alloc, board, store, seat, hooks, ids, source, sink)
-            }
-            None => Ended::Closed,
-        }
+        let store = &self.store;
+        converse_stored(rt, alloc, board, store, seat, hooks, ids, source, sink)
     }
 }

@@ -104,6 +104,13 @@ impl Line {
         })
     }
 
+    /// The log has so many entries, of which none was drawn here.
+    pub fn begin_at(&mut self, place: u64)
+        ensures { self.new ≡ self.old }
+    {
+        self.place = place;
+    }
+
     /// Draws the next number for a change. The error is want of memory, or that no change is made any more; no number was
     /// drawn then.
     pub fn draw(&mut self, change: Spelled) -> Result<u64, AllocError>

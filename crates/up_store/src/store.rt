@@ -7,7 +7,7 @@ use sqlite_disk::Disk;
 use std::alloc::{AllocError, Global};
 use std::sync::atomic::{AtomicBool, Ordering};
 use std::sync::{Condvar, Mutex, Wait};
-use up_log::{Log, Spelled};
+use up_log::{Log, LogFault, Spelled};
 
 /// How many bells there are: more connections than these share them.
 const BELLS: u64 = 64;
@@ -28,18 +28,19 @@ pub(crate) enum Turn {
 #[derive(Drop)]
 pub struct Store<D: Disk, N> {
     line: Mutex<Line>,
-    log: Mutex<Log<D>>,
-    voids: Mutex<Voids<D>>,
+    /// None until the logs are read to their ends.
+    log: Mutex<Option<Log<D>>>,
+    voids: Mutex<Option<Voids<D>>>,
     /// Each wakes those that wait whose number has its place for a remainder.
     bells: Vec<Condvar>,
     /// Whether the last batch could not be written.
     is_failing: AtomicBool,
-    notices: N,
+    pub(crate) notices: N,
 }
 
 impl<D: Disk, N> Store<D, N> {
-    /// Over logs to which nobody else writes. An error is want of memory.
-    pub fn new(alloc: Global, logs: Logs<D>, notices: N) -> Result<Store<D, N>, AllocError>
+    /// Over logs that are not read yet, so that nothing can be written. An error is want of memory.
+    pub fn unread(alloc: Global, notices: N) -> Result<Store<D, N>, AllocError>
     where
         D: Drop,
         N: Drop,
@@ -48,27 +49,45 @@ impl<D: Disk, N> Store<D, N> {
         for _ in 0..BELLS {
             bells.push(Condvar::new())?;
         }
-        let line = Line::new(alloc, logs.count)?;
+        let line = Line::new(alloc, 0)?;
         Ok(Store {
             line: Mutex::new(line),
-            log: Mutex::new(logs.changes),
-            voids: Mutex::new(logs.voids),
+            log: Mutex::new(None),
+            voids: Mutex::new(None),
             bells,
             is_failing: AtomicBool::new(false),
             notices,
         })
     }
 
-    /// The logs, with all that was written to them.
-    pub fn into_logs(self) -> Logs<D>
+    /// Opens it over logs that were read to their ends, and to which nobody else writes.
+    pub fn open<R: Wait>(&self, rt: &R, logs: Logs<D>)
     where
+        D: Drop,
+    {
+        let Logs {
+            changes,
+            voids,
+            count,
+        } = logs;
+        self.line.lock(rt).begin_at(count);
+        *self.voids.lock(rt) = Some(voids);
+        *self.log.lock(rt) = Some(changes);
+    }
+
+    /// The logs, with all that was written to them. None if it was never opened.
+    pub fn into_logs(self) -> Option<Logs<D>>
+    where
+        D: Drop,
         N: Drop,
     {
-        Logs {
-            changes: self.log.into_inner(),
-            voids: self.voids.into_inner(),
-            count: self.line.into_inner().place(),
-        }
+        let count = self.line.into_inner().place();
+        let (changes, voids) = (self.log.into_inner(), self.voids.into_inner());
+        Some(Logs {
+            changes: changes?,
+            voids: voids?,
+            count,
+        })
     }
 
     /// Draws the next number for a change. The error is want of memory.
@@ -97,7 +116,10 @@ impl<D: Disk, N> Store<D, N> {
 impl<D: Disk, N: StoreNotices> Store<D, N> {
     /// Writes a batch, tells whom it concerns where that is new, and tells the line.
     fn write<R: Wait>(&self, rt: &R, alloc: Global, batch: Vec<Spelled>) {
-        let written = self.log.lock(rt).append(alloc, &batch);
+        let written = match self.log.lock(rt).as_mut() {
+            Some(log) => log.append(alloc, &batch),
+            None => Err(LogFault::NotRead),
+        };
         let is_failing = written.is_err();
         let was_failing = self.is_failing.swap(is_failing, Ordering::SeqCst);
         match written {
@@ -108,6 +130,11 @@ impl<D: Disk, N: StoreNotices> Store<D, N> {
         let mut line = self.line.lock(rt);
         line.note_written(batch, !is_failing);
         self.go_on(line.first_two());
+    }
+
+    /// Gives up room on the disk that was kept for removals. Tells whether there was some.
+    pub(crate) fn makes_room(&self) -> bool {
+        self.notices.makes_room()
     }
 
     /// Wakes those that may go on.
@@ -134,7 +161,10 @@ impl<D: Disk, N: StoreNotices> Store<D, N> {
     /// would be decided otherwise once the log is read again.
     fn note_void<R: Wait>(&self, rt: &R, alloc: Global) {
         let place = self.line.lock(rt).place();
-        let written = self.voids.lock(rt).add(alloc, place);
+        let written = match self.voids.lock(rt).as_mut() {
+            Some(voids) => voids.add(alloc, place),
+            None => Err(LogFault::NotRead),
+        };
         if let Err(fault) = written {
             self.line.lock(rt).stop();
             self.notices.stops(fault);

@@ -4,7 +4,7 @@ ghost use Rattle.std.specs.Prelude.{◌≡◌};
 use crate::notices::StoreNotices;
 use crate::store::{Store, Turn};
 use sqlite_disk::Disk;
-use std::alloc::Global;
+use std::alloc::{AllocError, Global};
 use std::sync::Wait;
 use up_dispatch::{Board, Keeper, Naming, Seat};
 use up_events::Id;
@@ -51,6 +51,31 @@ impl<'a, B: Naming, D: Disk, N: StoreNotices, R: Wait> Stored<'a, B, D, N, R> {
     }
 }
 
+impl<B: Naming, D: Disk, N: StoreNotices, R: Wait> Stored<'_, B, D, N, R> {
+    /// Writes a change, waits for its turn, and tells whether it is on the disk; if it isn't, its turn is over. An error is
+    /// want of memory, and no turn was drawn then.
+    fn write(&self, alloc: Global, entry: &Entry) -> Result<bool, AllocError> {
+        let change = Spelled::new(alloc, entry)?;
+        let number = self.store.draw(self.rt, change)?;
+        let is_on_disk = self.store.await_turn(self.rt, alloc, number);
+        if !is_on_disk {
+            self.store.end_turn(self.rt, alloc, Turn::Lost);
+        }
+        Ok(is_on_disk)
+    }
+
+    /// The same. If the disk takes no removal, the room that is kept for removals is given up, and it is tried again.
+    fn keep(&self, alloc: Global, entry: &Entry) -> Result<bool, AllocError> {
+        if self.write(alloc, entry)? {
+            return Ok(true);
+        }
+        if matches!(entry.request, Request::Delete(_)) && self.store.makes_room() {
+            return self.write(alloc, entry);
+        }
+        Ok(false)
+    }
+}
+
 impl<B: Naming, D: Disk, N: StoreNotices, R: Wait> Keeper for Stored<'_, B, D, N, R> {
     ghost use Rattle.std.specs.Prelude.{◌≡◌, ℕ};
     ghost use Rattle.up_dispatch.specs.Keepers.{SeatPlans};
@@ -87,17 +112,10 @@ impl<B: Naming, D: Disk, N: StoreNotices, R: Wait> Keeper for Stored<'_, B, D, N
             consent,
             request,
         };
-        let Ok(change) = Spelled::new(alloc, &entry) else {
-            return Err(Refusal::NoMemory);
-        };
-        let Ok(number) = self.store.draw(self.rt, change) else {
+        let Ok(true) = self.keep(alloc, &entry) else {
             return Err(Refusal::NoMemory);
         };
         let Entry { request, .. } = entry;
-        if !self.store.await_turn(self.rt, alloc, number) {
-            self.store.end_turn(self.rt, alloc, Turn::Lost);
-            return Err(Refusal::NoMemory);
-        }
         let result = self
             .board
             .commit(self.rt, alloc, self.seat, request, id, asked);

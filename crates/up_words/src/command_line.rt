@@ -109,7 +109,7 @@ const COMMON: [Word<'static>; 7] = [
 ];
 
 /// The words that say which connections are served, and what is told meanwhile.
-const CONNECTIONS: [Word<'static>; 10] = [
+const CONNECTIONS: [Word<'static>; 11] = [
     Word {
         name: "address",
         kind: Kind::Text("HOST:PORT"),
@@ -169,6 +169,12 @@ const CONNECTIONS: [Word<'static>; 10] = [
         kind: Kind::Number(0, MOST_SHARD),
         default: None,
         help: "Begin the ids of new uploads with the byte N, from 0 to 255, by which a proxy finds this server",
+    },
+    Word {
+        name: "store",
+        kind: Kind::Text("DIR"),
+        default: None,
+        help: "Keep uploads and changes in the folder DIR, and go on from what stands there",
     },
 ];
 
@@ -273,6 +279,7 @@ fn serving_of(alloc: Global, serve: &ArgMatches<'_>) -> Result<Serving, AllocErr
         until_eof: serve.get_flag("until-eof"),
         grace: value_of(serve, "grace", MOST_GRACE),
         shard: shard_of(serve),
+        store: text_of(alloc, serve, "store")?,
     })
 }
 

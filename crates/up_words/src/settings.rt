@@ -84,6 +84,8 @@ pub struct Serving {
     pub grace: u64,
     /// The byte that the ids of new uploads begin with; where there is none, all of an id is drawn.
     pub shard: Option<u8>,
+    /// The folder that keeps uploads and changes; where there is none, they are in memory alone.
+    pub store: Option<String>,
     ghost connections_within: { (count : ℕ) → connections ≡ Some count → (1 ≤ count) × (count ≤ MOST_CONNECTIONS) },
     ghost open_within: { (1 ≤ «open») × («open» ≤ MOST_OPEN) },
 }

@@ -66,10 +66,14 @@ fn refused_by_store<B: Naming, R: Wait>(
     let disks = (Memory::new(alloc), Memory::new(alloc));
     let logs = logs_on(rt, alloc, &board, &mut seat, disks)?;
     let tally = Tally::new();
-    let store = Store::new(alloc, logs, &tally)?;
+    let store = Store::unread(alloc, &tally)?;
+    store.open(rt, logs);
     let mut keeper = Stored::new(rt, &board, &store, &mut seat);
     let told = refuse(alloc, &mut keeper, refused)?;
-    let (count, _) = count_in(alloc, store.into_logs().changes.into_device())?;
+    let Some(logs) = store.into_logs() else {
+        return Err("a store that is open".into());
+    };
+    let (count, _) = count_in(alloc, logs.changes.into_device())?;
     Ok((told, count))
 }
 

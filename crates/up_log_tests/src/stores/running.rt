@@ -68,10 +68,16 @@ impl StoreNotices for &Tally {
         self.works.fetch_add(1, Ordering::SeqCst);
     }
 
+    fn is_restored(&self, _entries: u64) {}
+
     fn is_not_restored(&self, _why: Unrestored) {}
 
     fn stops(&self, _fault: LogFault) {
         self.stops.fetch_add(1, Ordering::SeqCst);
+    }
+
+    fn makes_room(&self) -> bool {
+        false
     }
 }
 
@@ -321,12 +327,17 @@ fn run_by<B: Naming + Send + Sync, D: Disk + Send + Drop, R: Threads + Wait + Sy
     let Ok(logs) = logs_on(rt, alloc, &board, &mut seat, disks) else {
         return Ok(None);
     };
-    let store = Store::new(alloc, logs, tally)?;
+    let store = Store::unread(alloc, tally)?;
+    store.open(rt, logs);
     let outcomes = work_each(rt, alloc, &board, &store, jobs)?;
+    let seen = seen(rt, alloc, &board, &mut seat)?;
+    let Some(logs) = store.into_logs() else {
+        return Err("a store that is open".into());
+    };
     Ok(Some(Ran {
         outcomes,
-        seen: seen(rt, alloc, &board, &mut seat)?,
-        logs: store.into_logs(),
+        seen,
+        logs,
     }))
 }
 

@@ -1,0 +1,99 @@
+/* What bench/store times a stored server beside: the writes of its log alone, and the reading of a file.
+ *
+ *     store write FILE BATCHES BYTES    seconds; writes so many batches of so many bytes
+ *     store read FILE                   seconds; the bytes are dropped
+ *
+ * A batch is written behind a gate that is closed, a byte, together with the next one. It is synced, and then its own
+ * gate is opened by a write of one byte, and synced. So do the server's logs. It needs a C compiler on Linux.
+ */
+#define _GNU_SOURCE
+#include <fcntl.h>
+#include <stdio.h>
+#include <stdlib.h>
+#include <string.h>
+#include <time.h>
+#include <unistd.h>
+
+enum { PIECE = 1 << 20 };
+
+static void stop(const char *what)
+{
+    perror(what);
+    exit(1);
+}
+
+static double now(void)
+{
+    struct timespec time;
+    clock_gettime(CLOCK_MONOTONIC, &time);
+    return time.tv_sec + time.tv_nsec / 1e9;
+}
+
+/* Writes the bytes at a place, and syncs. */
+static void put(int file, const char *bytes, size_t count, off_t place)
+{
+    while (count > 0) {
+        ssize_t put = pwrite(file, bytes, count, place);
+        if (put <= 0) {
+            stop("store: cannot write");
+        }
+        bytes += put;
+        count -= put;
+        place += put;
+    }
+    if (fdatasync(file) != 0) {
+        stop("store: cannot sync");
+    }
+}
+
+static void work_write(const char *name, size_t batches, size_t bytes)
+{
+    char *body = malloc(bytes + 1);
+    int file = open(name, O_RDWR | O_CREAT | O_EXCL, 0600);
+    if (body == NULL || file < 0) {
+        stop(name);
+    }
+    for (size_t at = 0; at < bytes; at++) {
+        body[at] = at * 31 + at / 251;
+    }
+    body[bytes] = 0;
+    put(file, body + bytes, 1, 0);
+    double start = now();
+    off_t gate = 0;
+    for (size_t batch = 0; batch < batches; batch++) {
+        put(file, body, bytes + 1, gate + 1);
+        put(file, "\1", 1, gate);
+        gate += bytes + 1;
+    }
+    printf("%f\n", now() - start);
+}
+
+static void work_read(const char *name)
+{
+    static char piece[PIECE];
+    double start = now();
+    int file = open(name, O_RDONLY);
+    ssize_t came;
+    if (file < 0) {
+        stop(name);
+    }
+    while ((came = read(file, piece, PIECE)) > 0) {
+    }
+    if (came < 0) {
+        stop("store: cannot read");
+    }
+    printf("%f\n", now() - start);
+}
+
+int main(int count, char **words)
+{
+    if (count == 5 && strcmp(words[1], "write") == 0) {
+        work_write(words[2], strtoull(words[3], NULL, 10), strtoull(words[4], NULL, 10));
+    } else if (count == 3 && strcmp(words[1], "read") == 0) {
+        work_read(words[2]);
+    } else {
+        fprintf(stderr, "usage: store write FILE BATCHES BYTES, or store read FILE\n");
+        return 1;
+    }
+    return 0;
+}

@@ -1,0 +1,62 @@
+//! What is said of a store.
+use crate::room::{give_up_room, keep_room};
+use std::sync::atomic::{AtomicBool, Ordering};
+use up_log::LogFault;
+use up_replay::Unrestored;
+use up_store::StoreNotices;
+
+/// Lines on standard error that say how it stands with a store, and the file that keeps room for removals.
+#[derive(Drop)]
+pub struct StoreLines<'a> {
+    rt: &'a HostRuntime,
+    /// The path of the file that keeps room.
+    spare: String,
+    /// Whether the log could not be carried out again, so that nothing is served.
+    is_unread: AtomicBool,
+}
+
+impl<'a> StoreLines<'a> {
+    /// No line was said. The file at this path keeps room.
+    pub fn new(rt: &'a HostRuntime, spare: String) -> StoreLines<'a> {
+        StoreLines {
+            rt,
+            spare,
+            is_unread: AtomicBool::new(false),
+        }
+    }
+
+    /// Whether the log could not be carried out again, so that nothing was served. Standard error was told why.
+    pub fn is_unread(&self) -> bool {
+        self.is_unread.load(Ordering::SeqCst)
+    }
+}
+
+impl StoreNotices for &StoreLines<'_> {
+    fn is_restored(&self, entries: u64) {
+        let _ = eprintln!(self.rt; "up_server: the store was read: {entries} changes");
+    }
+
+    fn is_not_restored(&self, why: Unrestored) {
+        self.is_unread.store(true, Ordering::SeqCst);
+        let _ = eprintln!(self.rt; "up_server: cannot read the store: {why}");
+    }
+
+    fn fails(&self, fault: LogFault) {
+        let _ = eprintln!(self.rt; "up_server: changes can't be stored, and are refused: {fault}");
+    }
+
+    fn works(&self) {
+        let _ = eprintln!(self.rt; "up_server: changes are stored again");
+        keep_room(self.rt, self.spare.as_str());
+    }
+
+    fn stops(&self, fault: LogFault) {
+        let _ = eprintln!(self.rt;
+            "up_server: no change is made until the server is started again: {fault}"
+        );
+    }
+
+    fn makes_room(&self) -> bool {
+        give_up_room(self.rt, self.spare.as_str())
+    }
+}

@@ -1,0 +1,9 @@
+pub mod Others
+pub mod Deciding
+pub mod Shortening
+pub mod Ending
+pub mod Surveying
+pub mod Adding
+pub mod Handing
+pub mod Holding
+pub mod Switching

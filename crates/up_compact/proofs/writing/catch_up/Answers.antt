@@ -1,0 +1,35 @@
+use Rattle.std.proofs.Common.{◌≡◌, ◌∙◌, ◌+◌, ℕ, List, [], ◌∷◌, ◌++◌, length, Option, Ok, sym, ap, subst, append_assoc}
+use Rattle.up_log.specs.Logs.{IsSettled, ReadsAt}
+use Rattle.up_log.specs.declared.entry.Entry.{Entry}
+use Rattle.up_compact.specs.Shorter.{kept}
+use Rattle.up_compact.specs.Surveys.{has}
+use Rattle.up_compact.specs.Writing.{HasEntries, carried_out, staying}
+use Rattle.up_compact.proofs.Adding.{count_more, staying_more}
+use Rattle.up_compact.proofs.writing.catch_up.Goals as goal
+
+pub loop-entries-preserved : goal.loop-entries-preserved
+loop-entries-preserved g c = record {
+  added = λ setup read left settled behind entries clean.
+      let loop = c.loop-entries in
+      let voids = has c.args.left_out.now.voids in
+      let uploads = has c.args.left_out.now.uploads in
+      let was = loop.invariant.added setup read left settled behind entries (c.batch_at.ensures.clean clean) in
+      let now = subst (IsSettled g.D.Disk loop.log setup) (sym was.2) (loop.invariant.kept setup (read ++ left) settled) in
+      let next = subst (λ (f : Option (List Entry × ℕ)). ReadsAt setup was.0 was.1 (Ok f)) c.in-Some.is (c.in_ok-entries.ensures.reads setup was.0 was.1 now was.3.0 clean) in
+      let batch = c.in-Some.entries in
+      let slice : c.as_slice.result.now ≡ batch = c.as_slice.ensures in
+      let all = append_assoc was.0 (batch ∷ []) next.0 ∙ ap (λ (l : List (List Entry)). was.0 ++ l) (sym next.1) ∙ was.2 in
+      let more = staying_more voids uploads was.0 batch loop.progress.count was.3.1 in
+      let added = c.in_ok-progress.ensures.added setup (staying voids uploads was.0) was.4 in
+      let are = ap (λ (l : List Entry). staying voids uploads was.0 ++ kept uploads (carried_out voids loop.progress.count l)) slice ∙ sym more in (
+        was.0 ++ batch ∷ [],
+        next.0,
+        all,
+        (
+          c.in_ok-progress.ensures.further.0 ∙ next.2,
+          c.in_ok-progress.ensures.further.1 ∙ ap (λ (l : List Entry). loop.progress.count + length l) slice ∙ count_more was.0 batch loop.progress.count was.3.1,
+        ),
+        subst (HasEntries g.S.Disk c.add_staying.new.shorter setup) are added,
+      );
+  kept = λ setup batches settled. c.batch_at.ensures.kept setup batches (c.loop-entries.invariant.kept setup batches settled);
+}

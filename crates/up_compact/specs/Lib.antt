@@ -1,0 +1,4 @@
+pub mod Shorter
+pub mod Surveys
+pub mod Writing
+pub mod Heads

@@ -1,0 +1,96 @@
+//! Which log is the current one.
+ghost use Rattle.std.specs.Prelude.{◌≡◌, ◌-◌, IfOk};
+ghost use Rattle.up_compact.specs.Heads.{batch_of, first_head, head_of, ids_of, numbered};
+
+use std::alloc::{AllocError, Global};
+use up_events::Id;
+use up_headers::Request;
+use up_log::{Consent, Entry, LogFault, Spelled};
+use up_message::Sequence;
+
+/// The log that counts, of those that were written one after another, and how it goes on from the one before.
+#[derive(Drop)]
+pub struct Head {
+    /// How many logs were written before it.
+    pub generation: u64,
+    /// How many of its entries stand for the log before, as that was when the uploads were chosen.
+    pub entries: u64,
+    /// How many events each lane's log had then, with those that were left out earlier.
+    pub events: Sequence<u64>,
+}
+
+/// By how many events a lane's log is shorter than it would be with all that was left out. `events` is what the head
+/// tells of the lane, and `len` the length of the lane's log after as many entries as the head tells.
+pub fn events_left_out(events: u64, len: u64) -> u64
+    ensures { result ≡ events - len }
+{
+    events.saturating_sub(len)
+}
+
+/// An entry that asks for nothing, and has this number for its id.
+fn entry_of(number: u64) -> Entry
+    ensures { result ≡ numbered number }
+{
+    Entry {
+        id: Id::new(u128::from(number)),
+        consent: Consent::Skipped,
+        request: Request::Options,
+    }
+}
+
+/// The ids of entries as numbers below 2^64.
+fn numbers_of(alloc: Global, entries: &[Entry]) -> Result<Vec<u64>, LogFault>
+    ensures { IfOk result (λ numbers. numbers.items ≡ ids_of entries.now) }
+{
+    let mut numbers = Vec::new(alloc);
+    for entry in entries {
+        let number = entry.id.number();
+        if number > u128::from(u64::MAX) {
+            return Err(LogFault::Damaged);
+        }
+        numbers.push(number as u64)?;
+    }
+    Ok(numbers)
+}
+
+impl Head {
+    /// The head of the log that was made first.
+    pub fn first(alloc: Global) -> Head
+        ensures { result ≡ first_head }
+    {
+        Head {
+            generation: 0,
+            entries: 0,
+            events: Sequence::new(alloc),
+        }
+    }
+
+    /// The head that a batch says.
+    pub(crate) fn read(alloc: Global, batch: &[Entry]) -> Result<Head, LogFault>
+        ensures { IfOk result (λ head. head_of (ids_of batch.now) ≡ Some head) }
+    {
+        let numbers = numbers_of(alloc, batch)?;
+        if numbers.len() < 2 {
+            return Err(LogFault::Damaged);
+        }
+        let (first, events) = numbers.split_at(2);
+        Ok(Head {
+            generation: first[0],
+            entries: first[1],
+            events: Sequence::from_slice(alloc, events)?,
+        })
+    }
+
+    /// The batch that says it.
+    pub(crate) fn spelled(&self, alloc: Global) -> Result<Vec<Spelled>, AllocError>
+        ensures { IfOk result (λ batch. batch.items ≡ batch_of self.now) }
+    {
+        let mut batch = Vec::new(alloc);
+        batch.push(Spelled::new(alloc, &entry_of(self.generation))?)?;
+        batch.push(Spelled::new(alloc, &entry_of(self.entries))?)?;
+        for count in self.events.as_slice() {
+            batch.push(Spelled::new(alloc, &entry_of(*count))?)?;
+        }
+        Ok(batch)
+    }
+}

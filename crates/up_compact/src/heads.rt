@@ -1,0 +1,72 @@
+//! The log of heads: a switch to a shorter log is one batch of it.
+ghost use Rattle.std.specs.Prelude.{◌≡◌, ◌⊎◌, ◌++◌, ◌∷◌, [], List, ℕ, IfOk, OnOk, OnErr, IsTrue};
+ghost use Rattle.up_compact.specs.Heads.{LastHeadHolds, batch_of, first_head, head_after};
+ghost use Rattle.up_log.specs.Blocks.{IsBeforeOrAfter};
+ghost use Rattle.up_log.specs.Logs.{IsCleanLog, IsReading, IsSettled};
+ghost use Rattle.up_log.specs.declared.entry.Entry.{Entry as Logged};
+ghost use Rattle.up_log.specs.declared.setup.Setup.{Setup as Numbers};
+
+use crate::head::Head;
+use sqlite_disk::Disk;
+use std::alloc::Global;
+use up_log::{Log, LogFault, LogReader};
+
+/// The heads of all logs but the first, in a log of their own. The last one counts.
+#[derive(Drop)]
+pub struct Heads<D: Disk> {
+    log: Log<D>,
+}
+
+/// If a head is added, that one holds.
+pub fn last_head_holds()
+    ensures { LastHeadHolds }
+{}
+
+impl<D: Disk> Heads<D> {
+    /// Reads them to the end, and tells the one that holds.
+    pub fn read(alloc: Global, reader: LogReader<D>) -> Result<(Heads<D>, Head), LogFault>
+    where
+        D: Drop,
+        ensures { (setup : Numbers) (batches : List (List Logged))
+            → IsReading D.Disk reader setup [] batches
+            → IfOk result (λ r. IsCleanLog D.Disk r.0.log
+            → IsSettled D.Disk r.0.log setup batches × (head_after first_head batches ≡ Some r.1)) }
+    {
+        let mut reader = reader;
+        let mut head = Head::first(alloc);
+        while let Some(batch) = reader.next_batch(alloc)? {
+            head = Head::read(alloc, batch.as_slice())?;
+        }
+        match reader.finish() {
+            Ok(log) => Ok((Heads { log }, head)),
+            Err(refused) => Err(refused.fault),
+        }
+    }
+
+    /// Adds a head, which holds from `Ok` on, whatever crash comes. A crash in the call, or after an error, leaves it or
+    /// the one before.
+    pub fn add(&mut self, alloc: Global, head: &Head) -> Result<(), LogFault>
+        ensures durable { (setup : Numbers) (batches : List (List Logged))
+            → IsSettled D.Disk self.old.log setup batches
+            → OnOk result (IsSettled D.Disk self.new.log setup
+            (batches ++ batch_of head.now ∷ [])) }
+        ensures crash { (setup : Numbers) (batches : List (List Logged))
+            → IsSettled D.Disk self.old.log setup batches
+            → (c : List ℕ) → D.may_leave self.new.log.device c
+            → IsBeforeOrAfter setup batches (batch_of head.now) c }
+        ensures kept { (setup : Numbers) (batches : List (List Logged))
+            → IsSettled D.Disk self.old.log setup batches
+            → OnErr result (IsSettled D.Disk self.new.log setup batches
+            ⊎ IsTrue self.new.log.is_broken) }
+    {
+        let batch = head.spelled(alloc)?;
+        self.log.append(alloc, &batch)
+    }
+
+    /// The file, which takes no more.
+    pub fn into_device(self) -> D
+        ensures { result ≡ self.log.device }
+    {
+        self.log.into_device()
+    }
+}

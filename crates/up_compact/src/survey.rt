@@ -1,0 +1,132 @@
+//! What a log is about: the uploads that its entries make.
+ghost use Rattle.std.specs.Prelude.{◌≡◌, ◌&&◌, not, List, IfOk, OnOk, IsTrue, true};
+ghost use Rattle.std.specs.List.{All};
+ghost use Rattle.up_compact.specs.Shorter.{JoinsKept};
+ghost use Rattle.up_compact.specs.Surveys.{IsWithin, JoinsOnly, has, nothing_seen, saw, saw_all};
+ghost use Rattle.up_log.specs.declared.entry.Entry.{Entry as Logged};
+
+use crate::joining::{Joining, joining_of, misses_part};
+use std::alloc::{AllocError, Global};
+use std::collections::BTreeSet;
+use std::marker::Model;
+use up_events::Id;
+use up_headers::Request;
+use up_log::Entry;
+
+/// The uploads that entries are to make, and the final ones of them with their parts. Each takes 16 bytes, and each
+/// part as many.
+#[derive(Drop)]
+pub struct Survey {
+    uploads: Vec<Id>,
+    joinings: Vec<Joining>,
+}
+
+impl Model for Survey {
+    ghost use Rattle.up_compact.specs.Surveys.{Seen};
+
+    ghost Value = { Seen };
+
+    ghost view = { λ s. record { uploads = s.uploads.items; joinings = s.joinings.items } };
+}
+
+/// Takes the ids of parts out.
+fn take_out(ids: &mut BTreeSet<Id>, parts: &[Id])
+    ensures { IsWithin ids.new ids.old }
+{
+    for part in parts {
+        ids.remove(part);
+    }
+}
+
+/// Takes the parts out of the final uploads that stay.
+fn take_out_parts(ids: &mut BTreeSet<Id>, joinings: &[Joining])
+    ensures { IsWithin ids.new ids.old }
+{
+    for joining in joinings {
+        if misses_part(ids, joining) {
+            take_out(ids, joining.parts.as_slice());
+        }
+    }
+}
+
+/// Whether no final upload that stays has a part that is left out.
+fn keeps_parts(ids: &BTreeSet<Id>, joinings: &[Joining]) -> bool
+    ensures { IsTrue result → All (JoinsOnly (has ids.now)) joinings.now }
+{
+    for joining in joinings {
+        if misses_part(ids, joining) {
+            return false;
+        }
+    }
+    true
+}
+
+/// Those of these uploads of which nothing has to stay: all but the parts of final uploads that stay.
+fn without_parts(ended: BTreeSet<Id>, joinings: &[Joining]) -> BTreeSet<Id>
+    ensures ended { IsWithin result ended }
+    ensures joins { All (JoinsOnly (has result)) joinings.now }
+{
+    let mut ids = ended;
+    for _ in 0..joinings.len() {
+        if keeps_parts(&ids, joinings) {
+            return ids;
+        }
+        take_out_parts(&mut ids, joinings);
+    }
+    if !keeps_parts(&ids, joinings) {
+        ids.clear();
+    }
+    ids
+}
+
+impl Survey {
+    /// Nothing was seen yet. Takes no memory.
+    pub fn new(alloc: Global) -> Survey
+        ensures { result ≡ nothing_seen }
+    {
+        Survey {
+            uploads: Vec::new(alloc),
+            joinings: Vec::new(alloc),
+        }
+    }
+
+    /// Notes what an entry makes.
+    fn see_one(&mut self, alloc: Global, entry: &Entry) -> Result<(), AllocError>
+        ensures { OnOk result (self.new ≡ saw self.old entry.now) }
+    {
+        if let Some(joining) = joining_of(alloc, entry)? {
+            self.joinings.push(joining)?;
+        }
+        if let Request::Create(_) = entry.request {
+            self.uploads.push(entry.id)?;
+        }
+        Ok(())
+    }
+
+    /// Notes what entries make.
+    pub fn see(&mut self, alloc: Global, entries: &[Entry]) -> Result<(), AllocError>
+        ensures { OnOk result (self.new ≡ saw_all self.old entries.now) }
+    {
+        for entry in entries {
+            self.see_one(alloc, entry)?;
+        }
+        Ok(())
+    }
+
+    /// The uploads that entries are to make, in their order.
+    pub fn uploads(&self) -> &[Id]
+        ensures { result.now ≡ self.now.uploads }
+    {
+        &self.uploads
+    }
+
+    /// Of uploads that have ended, those of which nothing has to stay: all but the parts of final uploads that stay.
+    pub fn left_out(&self, ended: BTreeSet<Id>) -> BTreeSet<Id>
+        ensures ended { IsWithin result ended }
+        ensures joins { All (JoinsOnly (has result)) self.now.joinings }
+        ensures kept { (entries : List Logged) → self.now ≡ saw_all nothing_seen entries
+            → All (JoinsKept (has result)) entries }
+    {
+        without_parts(ended, &self.joinings)
+    }
+}

@@ -1,0 +1,136 @@
+//! Writing a shorter log while others are added to the longer one.
+ghost use Rattle.std.specs.Prelude.{◌≡◌, ◌+◌, ◌^◌, ◌<◌, ◌++◌, [], ℕ, List, length, IfOk, OnOk, IsTrue};
+ghost use Rattle.up_compact.specs.Shorter.{is_left_out, kept};
+ghost use Rattle.up_compact.specs.Surveys.{has};
+ghost use Rattle.up_compact.specs.Writing.{HasEntries, IsBehind, carried_out, staying};
+ghost use Rattle.up_log.specs.Blocks.{written};
+ghost use Rattle.up_log.specs.Logs.{IsCleanLog, IsSettled};
+ghost use Rattle.up_log.specs.declared.entry.Entry.{Entry as Logged};
+ghost use Rattle.up_log.specs.declared.setup.Setup.{Setup as Numbers};
+
+use sqlite_disk::Disk;
+use std::alloc::{AllocError, Global};
+use std::collections::BTreeSet;
+use up_events::Id;
+use up_headers::Request;
+use up_log::{Entry, Log, LogFault, Spelled};
+
+/// How far a log was gone through.
+#[derive(Clone, Copy, Debug, PartialEq, Eq)]
+pub struct Progress {
+    /// Where the next batch begins.
+    pub place: usize,
+    /// How many entries stand before it.
+    pub count: u64,
+}
+
+/// What a shorter log leaves out.
+#[derive(Drop)]
+pub struct LeftOut {
+    /// The places of entries that were not carried out.
+    pub voids: BTreeSet<u64>,
+    /// Uploads of which nothing stays.
+    pub uploads: BTreeSet<Id>,
+}
+
+/// Whether an entry is about one of these uploads, so that a shorter log leaves it out.
+pub fn is_left_out(uploads: &BTreeSet<Id>, entry: &Entry) -> bool
+    ensures { result ≡ is_left_out (has uploads.now) entry.now }
+{
+    match &entry.request {
+        Request::Options => false,
+        Request::Create(_) => uploads.contains(&entry.id),
+        Request::Head(id) => uploads.contains(id),
+        Request::Patch(patch) => uploads.contains(&patch.id),
+        Request::Delete(id) => uploads.contains(id),
+        Request::Get(id) => uploads.contains(id),
+    }
+}
+
+/// Spells those of these entries that stay, of which the first has this place in the log.
+fn spell_staying(
+    alloc: Global,
+    left_out: &LeftOut,
+    first: u64,
+    entries: &[Entry],
+) -> Result<Vec<Spelled>, AllocError>
+    requires { first + length entries.now < 2 ^ 64 }
+    ensures { IfOk result (λ spelled. spelled.items
+        ≡ kept (has left_out.now.uploads) (carried_out (has left_out.now.voids) first entries.now)) }
+{
+    let mut spelled = Vec::new(alloc);
+    let mut place = first;
+    for entry in entries {
+        if !left_out.voids.contains(&place) && !is_left_out(&left_out.uploads, entry) {
+            spelled.push(Spelled::new(alloc, entry)?)?;
+        }
+        place += 1;
+    }
+    Ok(spelled)
+}
+
+/// Adds those of the entries of a batch that stay to a shorter log, and tells how far the longer one was gone through
+/// with them. `next` is the place behind the batch. They are on the disk at `Ok`.
+pub fn add_staying<D: Disk>(
+    alloc: Global,
+    shorter: &mut Log<D>,
+    left_out: &LeftOut,
+    progress: Progress,
+    entries: &[Entry],
+    next: usize,
+) -> Result<Progress, LogFault>
+    ensures added { (setup : Numbers) (before : List Logged)
+        → HasEntries D.Disk shorter.old setup before
+        → OnOk result (HasEntries D.Disk shorter.new setup (before
+        ++ kept (has left_out.now.uploads)
+        (carried_out (has left_out.now.voids) progress.count entries.now))) }
+    ensures further { IfOk result (λ p. (p.place ≡ next)
+        × (p.count ≡ progress.count + length entries.now)) }
+{
+    // No log has so many entries.
+    let Some(count) = progress.count.checked_add(entries.len() as u64) else {
+        return Err(LogFault::Damaged);
+    };
+    let spelled = spell_staying(alloc, left_out, progress.count, entries)?;
+    if !spelled.is_empty() {
+        shorter.append(alloc, &spelled)?;
+    }
+    Ok(Progress { place: next, count })
+}
+
+impl Progress {
+    /// Nothing of a log was gone through.
+    pub fn start<D: Disk>() -> Progress
+        ensures { (setup : Numbers) → IsBehind result setup [] }
+    {
+        Progress {
+            place: Log::<D>::first_place(),
+            count: 0,
+        }
+    }
+}
+
+/// Adds all entries that stay, from this place of a log to its end, to a shorter log. The log stays as it is.
+pub fn catch_up<D: Disk, S: Disk>(
+    alloc: Global,
+    log: &mut Log<D>,
+    shorter: &mut Log<S>,
+    left_out: &LeftOut,
+    progress: Progress,
+) -> Result<Progress, LogFault>
+    ensures added { (setup : Numbers) (read left : List (List Logged))
+        → IsSettled D.Disk log.old setup (read ++ left) → IsBehind progress setup read
+        → HasEntries S.Disk shorter.old setup
+        (staying (has left_out.now.voids) (has left_out.now.uploads) read)
+        → IfOk result (λ p. IsCleanLog D.Disk log.new → IsBehind p setup (read ++ left)
+        × HasEntries S.Disk shorter.new setup
+        (staying (has left_out.now.voids) (has left_out.now.uploads) (read ++ left))) }
+    ensures kept { (setup : Numbers) (batches : List (List Logged))
+        → IsSettled D.Disk log.old setup batches → IsSettled D.Disk log.new setup batches }
+{
+    let mut progress = progress;
+    while let Some((entries, next)) = log.batch_at(alloc, progress.place)? {
+        progress = add_staying(alloc, shorter, left_out, progress, entries.as_slice(), next)?;
+    }
+    Ok(progress)
+}

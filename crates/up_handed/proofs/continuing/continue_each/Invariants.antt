@@ -1,0 +1,15 @@
+use Rattle.std.proofs.Common.{◌≡◌, ◌+◌, All, vec_len, []}
+use Rattle.std.specs.Iterator.Adapters.{zip_first, zip_second}
+use Rattle.std.specs.Vec.Iter.{into_iter_items, into_iter_len}
+use Rattle.up_handed.specs.Continues.{GoesOn, events_of}
+use Rattle.up_handed.proofs.continuing.continue_each.Given as goal
+
+abbrev pub invariant-loop-hook : goal.invariant-loop-hook
+invariant-loop-hook g l =
+    let done = vec_len l.made in
+    record {
+      hooks : done + into_iter_len (zip_first l.hook-iterator) ≡ vec_len l.fn.hooks;
+      counts : done + into_iter_len (zip_second l.hook-iterator) ≡ vec_len l.fn.counts;
+      new : All (λ h. g.H.PostHook.is_sound h × (g.H.PostHook.handed h ≡ [])) (into_iter_items (zip_first l.hook-iterator));
+      made : All (λ c. GoesOn g.H.PostHook c × (events_of c ≡ [])) l.made.items;
+    }

@@ -1,0 +1,159 @@
+//! Shorter logs: what may be left out, and what is written meanwhile.
+use crate::logs::{Row, SETUP, What, read, spelled_of};
+use sqlite_disk::Memory;
+use std::alloc::{AllocError, Global};
+use std::collections::BTreeSet;
+use std::test::Fail;
+use up_compact::{LeftOut, Progress, Survey, catch_up};
+use up_events::{Id, Kind};
+use up_headers::{NewUpload, Request};
+use up_log::{Consent, Entry, Log, LogFault, LogReader};
+use up_machine::Book;
+use up_message::Sequence;
+use up_replay::restore;
+
+fn ids_of(alloc: Global, numbers: &[u128]) -> Result<BTreeSet<Id>, AllocError> {
+    let mut ids = BTreeSet::new(alloc);
+    for number in numbers {
+        ids.insert(Id::new(*number))?;
+    }
+    Ok(ids)
+}
+
+/// An entry that makes a final upload of these.
+fn joining(alloc: Global, id: u128, parts: &[u128]) -> Result<Entry, AllocError> {
+    let mut list = Sequence::new(alloc);
+    for part in parts {
+        list.push(Id::new(*part))?;
+    }
+    Ok(Entry {
+        id: Id::new(id),
+        consent: Consent::AllowedFinish,
+        request: Request::Create(NewUpload {
+            kind: Kind::Final,
+            length: Some(0),
+            parts: list,
+            pairs: Sequence::new(alloc),
+            metadata: None,
+            concat: None,
+        }),
+    })
+}
+
+/// A final upload of 1 and 2, one of 3, and one that was refused since it joins another final one.
+fn joinings(alloc: Global) -> Result<Vec<Entry>, AllocError> {
+    let mut entries = Vec::new(alloc);
+    entries.push(joining(alloc, 7, &[1, 2])?)?;
+    entries.push(joining(alloc, 8, &[3])?)?;
+    entries.push(joining(alloc, 9, &[7])?)?;
+    Ok(entries)
+}
+
+#[test]
+fn parts_of_what_stays_stay(rt: HostRuntime) -> Result<(), Fail> {
+    let alloc = rt.alloc();
+    let mut survey = Survey::new(alloc);
+    survey.see(alloc, &joinings(alloc)?)?;
+    let made = [Id::new(7), Id::new(8), Id::new(9)];
+    assert_eq!(rt; survey.uploads(), made.as_slice());
+    // Those that have ended, and those of which nothing has to stay.
+    let rows: [(&[u128], &[u128]); 5] = [
+        (&[1, 2, 3, 4], &[4]),
+        (&[1, 3, 8], &[3, 8]),
+        (&[1, 2, 7], &[]),
+        (&[1, 2, 7, 9], &[1, 2, 7, 9]),
+        (&[1, 2, 3, 8, 9], &[3, 8, 9]),
+    ];
+    for (ended, want) in rows {
+        let found = survey.left_out(ids_of(alloc, ended)?);
+        assert_eq!(rt; found, ids_of(alloc, want)?);
+    }
+    Ok(())
+}
+
+/// The log of these batches.
+fn log_of(alloc: Global, first: &[Row], second: &[Row]) -> Result<Log<Memory>, LogFault> {
+    let (mut log, _) = read(alloc, Memory::new(alloc))?;
+    log.append(alloc, &spelled_of(alloc, first)?)?;
+    log.append(alloc, &spelled_of(alloc, second)?)?;
+    Ok(log)
+}
+
+/// The book that a log defines.
+fn book_of(alloc: Global, log: Log<Memory>) -> Result<Book, Fail> {
+    let mut book = Book::new(alloc, 2, 1000)?;
+    match LogReader::open(alloc, log.into_device(), SETUP) {
+        Ok(reader) => {
+            restore(alloc, reader, &mut book)?;
+            Ok(book)
+        }
+        Err(refused) => Err(Fail::from(refused.fault)),
+    }
+}
+
+/// How many bytes an upload has.
+fn offset(book: &Book, id: u128) -> Option<u64> {
+    match book.upload(Id::new(id)) {
+        Some(view) => Some(view.offset),
+        None => None,
+    }
+}
+
+/// Leaves out the upload 6 and the entry at the place 2, which is void.
+fn left_out(alloc: Global) -> Result<LeftOut, AllocError> {
+    let mut voids = BTreeSet::new(alloc);
+    voids.insert(2)?;
+    Ok(LeftOut {
+        voids,
+        uploads: ids_of(alloc, &[6])?,
+    })
+}
+
+#[test]
+fn a_shorter_log_has_what_stays(rt: HostRuntime) -> Result<(), Fail> {
+    let alloc = rt.alloc();
+    let first = [(What::Make, 5, 4), (What::Make, 6, 5), (What::Remove, 5, 0)];
+    let second = [(What::Put, 6, 5), (What::Remove, 6, 0)];
+    let mut log = log_of(alloc, &first, &second)?;
+    let (mut shorter, _) = read(alloc, Memory::new(alloc))?;
+    let left_out = left_out(alloc)?;
+    let start = Progress::start::<Memory>();
+    let reached = catch_up(alloc, &mut log, &mut shorter, &left_out, start)?;
+    assert_eq!(rt; reached.count, 5);
+    assert_eq!(rt; reached.place, log.end_place());
+    // What is added to the log meanwhile is added to the shorter one from there on.
+    log.append(
+        alloc,
+        &spelled_of(alloc, &[(What::Put, 5, 3), (What::Make, 7, 2)])?,
+    )?;
+    let reached = catch_up(alloc, &mut log, &mut shorter, &left_out, reached)?;
+    assert_eq!(rt; reached.count, 7);
+    assert!(rt; shorter.end_place() < log.end_place());
+    let book = book_of(alloc, shorter)?;
+    assert_eq!(rt; book.journal().accepted_count(), 3);
+    assert_eq!(rt; offset(&book, 5), Some(3));
+    assert_eq!(rt; offset(&book, 6), None);
+    assert_eq!(rt; offset(&book, 7), Some(0));
+    Ok(())
+}
+
+#[test]
+fn an_open_log_is_read_from_its_places(rt: HostRuntime) -> Result<(), Fail> {
+    let alloc = rt.alloc();
+    let first = [(What::Make, 5, 4)];
+    let second = [(What::Make, 6, 5), (What::Remove, 6, 0)];
+    let mut log = log_of(alloc, &first, &second)?;
+    let mut place = Log::<Memory>::first_place();
+    for want in [1usize, 2] {
+        let Some((entries, next)) = log.batch_at(alloc, place)? else {
+            return Err(Fail::new("no batch"));
+        };
+        assert_eq!(rt; entries.len(), want);
+        place = next;
+    }
+    assert!(rt; log.batch_at(alloc, place)?.is_none());
+    // It still takes more, which stands there.
+    log.append(alloc, &spelled_of(alloc, &first)?)?;
+    assert!(rt; log.batch_at(alloc, place)?.is_some());
+    Ok(())
+}

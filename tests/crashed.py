@@ -1,0 +1,345 @@
+"""What `tests/crash` holds a stored server to: a plain count of uploads, clients that change them and go on after a
+crash where they were, and the lines of `--events` of all runs. """
+import base64
+import contextlib
+import random
+import re
+
+from serving import Connection, head, same
+
+LANES = 3
+
+# The most bytes of a piece that is appended, but for a large one now and then.
+PIECE, LARGE = 1000, 150_000
+
+# How many uploads of a client are under way, and how many are there and complete, at most, before it goes on with
+# these or removes some.
+MOST_BEGUN, MOST_WHOLE = 6, 12
+
+# How many uploads that the last run didn't change a client looks at after a restart.
+SAMPLE = 20
+
+
+# The plain count.
+
+
+class Upload:
+    """An upload as its accepted changes make it: how it was made, its length, None where it isn't known, its bytes,
+    whether it is there, how many changes there were, and its events. It is never changed: each change makes another
+    one."""
+
+    def __init__(self, mark, concat, length, body=b"", is_there=True, changes=0, events=()):
+        self.mark, self.concat, self.length, self.body = mark, concat, length, body
+        self.is_there, self.changes, self.events = is_there, changes, events
+
+    def changed(self, length, body, is_there, *hooks):
+        """The upload after one change more, with the events of these hooks, and the last one if it is complete by
+        that."""
+        is_whole = is_there and len(body) == length
+        at = f"{len(body)}/{'-' if length is None else length}"
+        hooks = [*hooks, *["post-finish"] * is_whole]
+        events = [f"{number} {hook} {at} done" for number, hook in enumerate(hooks, 1 + len(self.events))]
+        return Upload(self.mark, self.concat, length, body, is_there, self.changes + 1, (*self.events, *events))
+
+    def made(self):
+        return self.changed(self.length, self.body, True, "post-create")
+
+    def appended(self, piece, length):
+        """The upload once this piece was appended, and this length is known."""
+        return self.changed(length, self.body + piece, True, *["post-receive"] * bool(piece))
+
+    def removed(self):
+        return self.changed(self.length, self.body, False, "post-terminate")
+
+    def is_whole(self):
+        return len(self.body) == self.length
+
+    def stands(self):
+        """What a HEAD tells of it."""
+        if not self.is_there:
+            return (404,)
+        length = ("1", None) if self.length is None else (None, str(self.length))
+        return 200, str(len(self.body)), *length, f"mark {coded(self.mark)}", self.concat
+
+
+def coded(text):
+    return base64.b64encode(text.encode()).decode()
+
+
+def said_of(reply):
+    """What the reply to a HEAD tells of an upload."""
+    if reply.status == 404:
+        return (404,)
+    names = ("upload-offset", "upload-defer-length", "upload-length", "upload-metadata", "upload-concat")
+    return reply.status, *map(reply.fields.get, names)
+
+
+# Clients.
+
+
+class Ended(Exception):
+    """The connection has ended, where it may."""
+
+
+class Client:
+    """A client of one server after another, with uploads of its own, by their paths. Once the ending is set its
+    connection may end within a change, or the change may be refused. Such a change is `asked` until it is known what
+    became of it: the path of an upload, and what it is if the change is done. A creation without an answer is among
+    the `lost`, by its mark."""
+
+    def __init__(self, number):
+        self.number = number
+        self.uploads = {}
+        self.asked = None
+        self.lost = {}
+        self.touched = set()
+        self.made = 0
+
+    def meet(self, server, ending):
+        """Goes on at this server."""
+        self.connection, self.ending, self.sent = Connection(server), ending, 0
+
+    def leave(self):
+        self.connection.socket.close()
+
+    def hear(self, message, bare=False):
+        """The whole reply to a message."""
+        try:
+            self.connection.send(message)
+            reply = self.connection.reply(bare)
+            same(bare or len(reply.body) == int(reply.fields.get("content-length", 0)), True, "whether a body is whole")
+        except (OSError, AssertionError) as fault:
+            if not self.ending.is_set():
+                raise
+            raise Ended from fault
+        return reply
+
+    def ask(self, method, path):
+        return self.hear(head(method, path, {}), method == "HEAD")
+
+    def change(self, message, path, after):
+        """Has a change done by which the upload is this one; its path."""
+        self.asked = path, after
+        reply = self.hear(message)
+        if reply.status == 503 and self.ending.is_set():
+            same(reply.body, b"20 Closed\n", "what a server says that ends")
+            raise Ended
+        same(reply.status, 204 if path else 201, f"the status of a change, as {reply.whole!r} says")
+        return self.settle(path or reply.fields["location"])
+
+    def settle(self, path):
+        """What was asked is done, and the upload has this path."""
+        self.uploads[path] = self.asked[1]
+        self.touched.add(path)
+        self.asked = None
+        return path
+
+    # What is changed.
+
+    def create(self, length, concat=None, body=b"", parts=()):
+        """Makes an upload, and answers its path."""
+        self.made += 1
+        mark = f"{self.number}.{self.made}"
+        fields = {"Upload-Metadata": f"mark {coded(mark)}"}
+        if parts:
+            concat = "final;" + " ".join(parts)
+        elif length is None:
+            fields["Upload-Defer-Length"] = 1
+        else:
+            fields["Upload-Length"] = length
+        if concat:
+            fields["Upload-Concat"] = concat
+        return self.change(head("POST", "/files/", fields), None, Upload(mark, concat, length, body).made())
+
+    def join(self, parts):
+        """Makes a final upload of these parts."""
+        body = b"".join(self.uploads[path].body for path in parts)
+        return self.create(len(body), body=body, parts=parts)
+
+    def append(self, path, piece, length=None):
+        """Appends a piece, and declares the length if one is given."""
+        upload = self.uploads[path]
+        fields = {"Content-Type": "application/offset+octet-stream", "Upload-Offset": len(upload.body)}
+        if length is not None:
+            fields["Upload-Length"] = length
+        message = head("PATCH", path, {**fields, "Content-Length": len(piece)}) + piece
+        known = upload.length if length is None else length
+        return self.change(message, path, upload.appended(piece, known))
+
+    def remove(self, path):
+        return self.change(head("DELETE", path, {}), path, self.uploads[path].removed())
+
+    # What is looked at.
+
+    def look(self, path, upload=None):
+        """Sees that an upload is what the count says, with its bytes where it is complete."""
+        upload = upload or self.uploads[path]
+        same(said_of(self.ask("HEAD", path)), upload.stands(), f"what a HEAD tells of {path}")
+        if upload.is_there and upload.is_whole():
+            reply = self.ask("GET", path)
+            same((reply.status, reply.body == upload.body), (200, True), f"whether a GET brings the bytes of {path}")
+
+    def resolve(self):
+        """Finds out what became of the change that had no answer: it is done, or nothing of it is."""
+        if not self.asked:
+            return
+        path, after = self.asked
+        if not path:
+            self.lost[after.mark] = after
+            self.asked = None
+            return
+        stands = said_of(self.ask("HEAD", path))
+        before = self.uploads[path]
+        may_be = before.stands(), after.stands()
+        same(stands in may_be, True, f"whether {stands} of {path} is one of {may_be}")
+        if stands == after.stands():
+            self.settle(path)
+        self.asked = None
+        self.look(path)
+
+    def come_back(self, everything=False):
+        """Looks after a restart at what the last run changed, and at some or all of the rest."""
+        self.resolve()
+        rest = sorted(self.uploads.keys() - self.touched)
+        for path in [*self.touched, *(rest if everything else random.sample(rest, min(SAMPLE, len(rest))))]:
+            self.look(path)
+        self.touched = set()
+
+    # What it does by itself.
+
+    def begun(self):
+        return [path for path, upload in self.uploads.items() if upload.is_there and not upload.is_whole()]
+
+    def whole(self, concat=None):
+        found = [path for path, upload in self.uploads.items() if upload.is_there and upload.is_whole()]
+        return [path for path in found if not concat or self.uploads[path].concat == concat]
+
+    def begin(self):
+        """Makes an upload of some kind."""
+        parts = self.whole("partial")
+        if parts and random.random() < 0.3:
+            return self.join(random.choices(parts, k=random.randint(1, 4)))
+        length = random.choice([None, 0, random.randint(1, 3 * PIECE), random.randint(1, 3 * PIECE)])
+        return self.create(length, random.choice([None, "partial"]))
+
+    def go_on_with(self, path):
+        """Appends a piece to an upload that is under way, or declares its length, or both."""
+        upload = self.uploads[path]
+        piece = random.randbytes(LARGE if random.random() < 0.03 else random.randint(0, PIECE))
+        if upload.length is not None:
+            return self.append(path, (piece or b"x")[: upload.length - len(upload.body)])
+        if random.random() < 0.4:
+            return self.append(path, piece, len(upload.body) + len(piece) + random.choice([0, PIECE]))
+        return self.append(path, piece or b"x")
+
+    def work(self):
+        """Changes uploads until the connection ends, or changes are refused."""
+        with contextlib.suppress(Ended):
+            for _ in range(4_000):
+                begun, whole = self.begun(), self.whole()
+                if len(whole) > MOST_WHOLE or whole and random.random() < 0.05:
+                    self.remove(random.choice(whole))
+                elif begun and (len(begun) >= MOST_BEGUN or random.random() < 0.7):
+                    self.go_on_with(random.choice(begun))
+                elif whole and random.random() < 0.1:
+                    self.look(random.choice(whole))
+                else:
+                    self.begin()
+
+    def finish(self):
+        """Brings all that is under way to its end."""
+        for path in self.begun():
+            upload = self.uploads[path]
+            size = len(upload.body) + 1 if upload.length is None else upload.length
+            self.append(path, random.randbytes(size - len(upload.body)), size)
+
+
+# What the lines of events tell.
+
+
+def lane_of(path):
+    """The lane of an upload, which its path or its id tells."""
+    return int(path[-32:], 16) % LANES
+
+
+class Told:
+    """The events of each lane, as the lines of all runs tell them, each once: a run that ended by a kill may have
+    handed over an event that it had not counted, which the next run hands over again."""
+
+    def __init__(self, before=None):
+        """Those of another one, or none yet."""
+        self.of_lane = {lane: list(before.of_lane[lane]) if before else [] for lane in range(LANES)}
+        self.repeated = before.repeated if before else 0
+        self.was_killed = before is not None and before.was_killed
+
+    def add(self, output, is_killed):
+        """Adds what a run has written; the report behind it. A kill may cut the last line."""
+        lines, _, report = ("\n" + output).partition("\n\n")
+        if is_killed:
+            lines, _, _ = ("\n" + output).rpartition("\n")
+        new = {lane: [] for lane in range(LANES)}
+        for line in lines[1:].split("\n") if lines else []:
+            found = re.fullmatch(r"([0-9a-f]{32}) \d+ post-[a-z]+ \d+/(\d+|-) done", line)
+            same(found is not None, True, f"whether {line!r} tells of an event")
+            new[lane_of(found[1])].append(line)
+        for lane, came in new.items():
+            self.add_lane(self.of_lane[lane], came)
+        self.was_killed = is_killed
+        return report
+
+    def add_lane(self, before, came):
+        if self.was_killed and before and came and came[0] == before[-1]:
+            self.repeated += 1
+            came = came[1:]
+        before += came
+
+    def events(self):
+        """The events of each upload, in order."""
+        events = {}
+        for lines in self.of_lane.values():
+            for line in lines:
+                events.setdefault("/files/" + line[:32], []).append(line[33:])
+        return events
+
+    def counts(self):
+        """How many events each lane has handed over in all."""
+        return [len(lines) for lines in self.of_lane.values()]
+
+    def unknown(self, clients):
+        """The uploads that lines tell of, and no client knows."""
+        known = {path for client in clients for path in client.uploads}
+        return sorted(self.events().keys() - known)
+
+    def hold(self, clients, is_whole):
+        """Holds the events to the count of the clients: of each upload its first ones, or all, each once and in order.
+        A change without an answer may have its events."""
+        events = self.events()
+        for client in clients:
+            for path, upload in client.uploads.items():
+                came = tuple(events.pop(path, ()))
+                may_be = [upload.events]
+                if client.asked and client.asked[0] == path:
+                    may_be.append(client.asked[1].events)
+                fits = came in may_be if is_whole else any(came == wanted[: len(came)] for wanted in may_be)
+                part = "all" if is_whole else "the first"
+                same(fits, True, f"whether {list(came)} of {path} are {part} of {list(may_be[-1])}")
+        lost = [upload.events for client in clients for upload in client.lost.values()]
+        lost += [client.asked[1].events for client in clients if client.asked and not client.asked[0]]
+        for path, came in events.items():
+            fits = any(tuple(came) == (wanted if is_whole else wanted[: len(came)]) for wanted in lost)
+            same(fits, True, f"whether {came} of {path}, which no client knows, are of a POST without an answer")
+        same(len(events) <= len(lost), True, "whether there are no more uploads that no client knows than such POSTs")
+
+
+def adopt(clients, paths):
+    """Gives uploads that no client knows to those that asked for them and had no answer, which their marks tell."""
+    for path in paths:
+        reply = clients[0].ask("HEAD", path)
+        same(reply.status, 200, f"the status of a HEAD of {path}, which no client knows")
+        found = re.fullmatch(r"mark (\S+)", reply.fields.get("upload-metadata", ""))
+        same(found is not None, True, f"whether {path} has a mark")
+        mark = base64.b64decode(found[1]).decode()
+        client = clients[int(mark.partition(".")[0])]
+        same(mark in client.lost, True, f"whether {mark} of {path} had no answer, and has no other path")
+        client.uploads[path] = client.lost.pop(mark)
+        clients[0].look(path, client.uploads[path])

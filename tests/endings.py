@@ -1,0 +1,87 @@
+"""Servers that can be told to end in order, by the script that runs them or by their standard input: what
+`tests/ending` and `tests/crash` share. """
+import contextlib
+import fcntl
+import os
+import signal
+import termios
+
+from serving import ROOT, Server, same
+
+SCRIPT = os.path.join(ROOT, "packaging", "up")
+
+# The most seconds that an end may take with nothing to do, and with much.
+MOST_IDLE, MOST_BUSY = 2, 40
+
+
+class Script(Server):
+    """A server of this program that the script runs, in a process group of its own, with these words. It may stand
+    behind a front, as `unshare`, and on a terminal."""
+
+    def __init__(self, program, *words, script=SCRIPT, front=(), terminal=None, **how):
+        environment = {**os.environ, "UP_PROGRAM": program}
+        super().__init__(script, *words, environment=environment, **how)
+        self.words[:0] = self.front = list(front)
+        self.terminal = terminal
+        if terminal is not None:
+            self.given = terminal
+
+    def limit(self):
+        super().limit()
+        # What is ignored when sh starts can't be trapped by it.
+        for number in (signal.SIGINT, signal.SIGHUP):
+            signal.signal(number, signal.SIG_DFL)
+        os.setsid()
+        if self.terminal is not None:
+            fcntl.ioctl(self.terminal, termios.TIOCSCTTY, 0)
+
+    def __exit__(self, *rest):
+        with contextlib.suppress(ProcessLookupError):
+            os.killpg(self.process.pid, signal.SIGKILL)
+        super().__exit__(*rest)
+
+    def end(self):
+        """Tells the script to end, which is the child of a front."""
+        process = self.process.pid
+        os.kill(child_of(process) if self.front else process, signal.SIGTERM)
+
+
+class Plain(Server):
+    """A server without the script, whose standard input is a pipe."""
+
+    def __init__(self, program, *words, **how):
+        self.reader, self.writer = os.pipe()
+        super().__init__(program, "--until-eof", *words, given=self.reader, **how)
+
+    def __enter__(self):
+        super().__enter__()
+        os.close(self.reader)
+        return self
+
+    def __exit__(self, *rest):
+        self.end()
+        super().__exit__(*rest)
+
+    def limit(self):
+        super().limit()
+        os.close(self.writer)
+
+    def end(self):
+        """Ends the standard input of the server, once."""
+        if self.writer is not None:
+            os.close(self.writer)
+        self.writer = None
+
+
+def child_of(process):
+    """The only child of a process."""
+    with open(f"/proc/{process}/task/{process}/children", encoding="ascii") as file:
+        (child,) = file.read().split()
+    return int(child)
+
+
+def ended(server, most=MOST_BUSY):
+    """What the server has written once it has ended by itself, with status 0 and not a word."""
+    same(server.process.wait(most), 0, "the status of the server")
+    same(server.process.stderr.read(), b"", "what stands on standard error")
+    return server.output()
