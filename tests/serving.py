@@ -92,7 +92,7 @@ class Server:
         told = subprocess.PIPE if self.unheard else self.sink or self.told
         self.process = subprocess.Popen(
             self.words, stdin=self.given, stdout=told, stderr=subprocess.PIPE, preexec_fn=self.limit,
-            env=self.environment,
+            env=self.environment, bufsize=0,
         )
         if self.unheard:
             self.process.stdout.close()
@@ -122,7 +122,7 @@ class Server:
         sys.exit(f"the server does not listen: {self.first_line!r}")
 
     def line(self):
-        """The next line on standard error; empty if none comes."""
+        """The next line on standard error; empty if none comes. The pipe has no buffer, so no line hides from the wait."""
         ready, _, _ = select.select([self.process.stderr], [], [], MOST_WAIT)
         return self.process.stderr.readline().decode() if ready else ""
 
