@@ -4,9 +4,11 @@ import contextlib
 import os
 import random
 import resource
+import shutil
 import signal
 import subprocess
 import tempfile
+import threading
 import time
 
 import endings
@@ -177,6 +179,30 @@ def small_disk():
             yield folder
         finally:
             subprocess.run(["umount", folder], check=True)
+
+
+@contextlib.contextmanager
+def failing_syncs(process):
+    """Each sync of a process fails for the time of a `with`."""
+    words = ["strace", "-f", "-p", str(process), "-e", "trace=fsync,fdatasync", "-e", "inject=fsync,fdatasync:error=EIO"]
+    with subprocess.Popen(words, stdin=subprocess.DEVNULL, stderr=subprocess.PIPE, bufsize=0) as tracer:
+        # It says when it has attached itself, and again for each thread.
+        tracer.stderr.readline()
+        hearing = threading.Thread(target=tracer.stderr.read)
+        hearing.start()
+        try:
+            yield
+        finally:
+            tracer.terminate()
+            hearing.join()
+
+
+def may_trace():
+    """Whether strace is there, and may trace a process here."""
+    if not shutil.which("strace"):
+        return False
+    words = ["strace", "-f", "-e", "trace=fsync,fdatasync", "-e", "inject=fsync,fdatasync:error=EIO", "true"]
+    return subprocess.run(words, stdin=subprocess.DEVNULL, capture_output=True).returncode == 0
 
 
 def enlarge(disk):

@@ -13,6 +13,7 @@ use std::marker::{Send, Sync};
 use std::net::TcpListener;
 use std::random::RandomSource;
 use std::sync::Wait;
+use std::thread;
 use std::thread::Threads;
 use std::time::Clock;
 use up_connections::{Drawn, Ending, Notices, Patience, Visits, Watch};
@@ -21,7 +22,7 @@ use up_events::Event;
 use up_handed::continue_each;
 use up_hooks::{Outcome, PostHook, PreHooks, Recorder, Teller, new_recorders, new_tellers};
 use up_server::{EventLines, ServerFault, Shown, keep_serving, replay, serve};
-use up_store::{Keeping, StoreNotices};
+use up_store::{Keeping, LogFile, StoreNotices};
 use up_wire::{Output, Sink};
 use up_words::{Settings, Words};
 
@@ -196,7 +197,7 @@ fn run_counted<
 fn run_kept<
     H: Shown + Drop,
     D: Disk + Drop + Send,
-    N: StoreNotices + Copy + Drop + Send + Sync,
+    N: StoreNotices + LogFile<D> + Copy + Drop + Send + Sync,
     R: Print + Eprint + AllocGlobal + Clock + RandomSource + Threads + Wait + Sync,
 >(
     rt: &R,
@@ -209,10 +210,24 @@ fn run_kept<
     requires one_for_each { length post_hooks.items ≡ beside.now.settings.lanes }
     requires new { All (λ h. H.is_sound h × (H.handed h ≡ [])) post_hooks.items }
 {
-    match visits_of(beside, keeping) {
-        Some(visits) => run_on(rt, beside, &visits, listener, hooks, post_hooks),
-        None => Ok(()),
-    }
+    let Some(visits) = visits_of(beside, keeping) else {
+        return Ok(());
+    };
+    thread::scope(
+        thread::scope_env(),
+        rt,
+        move |scope| -> Result<(), Fault>
+            requires one_for_each { length post_hooks.items ≡ beside.now.settings.lanes }
+            requires new { All (λ h. H.is_sound h × (H.handed h ≡ [])) post_hooks.items }
+        {
+            if scope.spawn(move || keeping.tend(rt)).is_err() {
+                return Err(Fault::Server(ServerFault::Memory));
+            }
+            let ended = run_on(rt, beside, &visits, listener, hooks, post_hooks);
+            keeping.stop_tending();
+            ended
+        },
+    )
 }
 
 /// Serves what the listener accepts, over the files of a store.
@@ -233,13 +248,14 @@ fn run_stored<
 {
     let StoreFiles {
         rt: host,
+        log,
         changes,
         voids,
         counts,
         spare,
         ..
     } = files;
-    let lines = StoreLines::new(host, spare);
+    let lines = StoreLines::new(host, log, spare);
     let post_hooks = continue_each(rt.alloc(), tellers, counts)?;
     let keeping = Keeping::new(rt.alloc(), changes, voids, &lines)?;
     run_kept(rt, beside, listener, hooks, post_hooks, &keeping)?;

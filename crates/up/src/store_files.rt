@@ -21,6 +21,8 @@ pub struct StoreFiles<'a> {
     pub rt: &'a HostRuntime,
     /// The size of the server for which they were opened.
     pub settings: Settings,
+    /// The path of the log of the changes.
+    pub log: String,
     /// The changes.
     pub changes: LogReader<StoreFile>,
     /// The places of those that were not made for want of memory.
@@ -99,6 +101,7 @@ fn open_store<'a>(
         lanes: settings.lanes,
         max_size: settings.max_size,
     };
+    let log = path_of(rt, folder, "log")?;
     let changes = open_log(rt, folder, "log", setup)?;
     let voids = open_log(rt, folder, "void", setup)?;
     let counts = open_counts(rt, folder, settings.lanes)?;
@@ -107,6 +110,7 @@ fn open_store<'a>(
     Ok(StoreFiles {
         rt,
         settings,
+        log,
         changes,
         voids,
         counts,

@@ -1,14 +1,19 @@
 //! What is said of a store.
 use crate::room::{give_up_room, keep_room};
+use crate::store_files::StoreFile;
+use sqlite_std_file::Wary;
 use std::sync::atomic::{AtomicBool, Ordering};
-use up_log::LogFault;
+use up_log::{LogFault, open_device};
 use up_replay::Unrestored;
-use up_store::StoreNotices;
+use up_store::{LogFile, StoreNotices};
 
-/// Lines on standard error that say how it stands with a store, and the file that keeps room for removals.
+/// Lines on standard error that say how it stands with a store, the file of its changes, and the one that keeps room for
+/// removals.
 #[derive(Drop)]
 pub struct StoreLines<'a> {
     rt: &'a HostRuntime,
+    /// The path of the log of the changes.
+    log: String,
     /// The path of the file that keeps room.
     spare: String,
     /// Whether the log could not be carried out again, so that nothing is served.
@@ -16,10 +21,11 @@ pub struct StoreLines<'a> {
 }
 
 impl<'a> StoreLines<'a> {
-    /// No line was said. The file at this path keeps room.
-    pub fn new(rt: &'a HostRuntime, spare: String) -> StoreLines<'a> {
+    /// No line was said. The changes are in the file at the first path, and that at the second keeps room.
+    pub fn new(rt: &'a HostRuntime, log: String, spare: String) -> StoreLines<'a> {
         StoreLines {
             rt,
+            log,
             spare,
             is_unread: AtomicBool::new(false),
         }
@@ -58,5 +64,12 @@ impl StoreNotices for &StoreLines<'_> {
 
     fn makes_room(&self) -> bool {
         give_up_room(self.rt, self.spare.as_str())
+    }
+}
+
+impl LogFile<StoreFile> for &StoreLines<'_> {
+    fn open_again(&self, failed: Option<StoreFile>) -> Result<StoreFile, LogFault> {
+        drop(failed);
+        open_device(self.rt, self.log.as_str(), Wary)
     }
 }

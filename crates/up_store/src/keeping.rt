@@ -5,6 +5,7 @@ ghost use Rattle.up_dispatch.specs.Answering.{Serves, course};
 ghost use Rattle.up_dispatch.specs.Turn.{Converses, stand};
 ghost use Rattle.up_store.specs.StoredCommits.{by_stored_seat};
 
+use crate::held::LogFile;
 use crate::notices::StoreNotices;
 use crate::restoring::restore_on;
 use crate::store::Store;
@@ -12,6 +13,7 @@ use crate::stored::Stored;
 use sqlite_disk::Disk;
 use std::alloc::{AllocError, Global};
 use std::marker::{Send, Sync};
+use std::sync::atomic::AtomicU64;
 use std::sync::{Mutex, Wait};
 use up_dispatch::{Board, Ended, Ids, Naming, Seat, Service, converse};
 use up_hooks::PreHooks;
@@ -23,7 +25,9 @@ use up_wire::{Sink, Source};
 pub struct Keeping<D: Disk, N> {
     /// The log of the changes, and that of the voids, until they are read.
     readers: Mutex<Option<(LogReader<D>, LogReader<D>)>>,
-    store: Store<D, N>,
+    pub(crate) store: Store<D, N>,
+    /// 1 once nobody tends the store any more. Who tends it sleeps on this.
+    pub(crate) is_over: AtomicU64,
 }
 
 impl<D: Disk, N> Keeping<D, N> {
@@ -41,13 +45,22 @@ impl<D: Disk, N> Keeping<D, N> {
         Ok(Keeping {
             store: Store::unread(alloc, notices)?,
             readers: Mutex::new(Some((changes, voids))),
+            is_over: AtomicU64::new(0),
         })
     }
 }
 
 /// Holds one conversation from a seat of the board, with ids of this source. Each change is in the log before the board
 /// hears of it.
-pub fn converse_stored<B: Naming, D: Disk, N: StoreNotices, I: Ids, R: Source, W: Sink, T: Wait>(
+pub fn converse_stored<
+    B: Naming,
+    D: Disk + Drop,
+    N: StoreNotices + LogFile<D>,
+    I: Ids,
+    R: Source,
+    W: Sink,
+    T: Wait,
+>(
     rt: &T,
     alloc: Global,
     board: &Board<B>,
@@ -68,7 +81,7 @@ pub fn converse_stored<B: Naming, D: Disk, N: StoreNotices, I: Ids, R: Source, W
     converse(alloc, &mut stored, hooks, ids, max_size, source, sink)
 }
 
-impl<D: Disk + Drop + Send, N: StoreNotices + Drop + Send + Sync> Service for Keeping<D, N> {
+impl<D: Disk + Drop + Send, N: StoreNotices + LogFile<D> + Drop + Send + Sync> Service for Keeping<D, N> {
     /// Carries out the changes of the log again, and opens the store. If that fails the notices are told why.
     fn begin<B: Naming, T: Wait>(
         &self,

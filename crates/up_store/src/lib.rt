@@ -1,14 +1,17 @@
 //! A seat of a board whose changes are written to a log before they are made.
 #![tactic(auto)]
 
+mod held;
 mod keeping;
 mod line;
 mod notices;
 mod restoring;
 mod store;
 mod stored;
+mod tending;
 mod voids;
 
+pub use held::LogFile;
 pub use keeping::{Keeping, converse_stored};
 pub use line::{Line, Next};
 pub use notices::StoreNotices;

@@ -1,4 +1,5 @@
 //! What seats share whose changes are written to a log first.
+use crate::held::{Held, LogFile};
 use crate::line::{Line, Next};
 use crate::notices::StoreNotices;
 use crate::restoring::Logs;
@@ -7,7 +8,7 @@ use sqlite_disk::Disk;
 use std::alloc::{AllocError, Global};
 use std::sync::atomic::{AtomicBool, Ordering};
 use std::sync::{Condvar, Mutex, Wait};
-use up_log::{Log, LogFault, Spelled};
+use up_log::{LogFault, Spelled};
 
 /// How many bells there are: more connections than these share them.
 const BELLS: u64 = 64;
@@ -28,13 +29,12 @@ pub(crate) enum Turn {
 #[derive(Drop)]
 pub struct Store<D: Disk, N> {
     line: Mutex<Line>,
-    /// None until the logs are read to their ends.
-    log: Mutex<Option<Log<D>>>,
+    pub(crate) log: Mutex<Held<D>>,
     voids: Mutex<Option<Voids<D>>>,
     /// Each wakes those that wait whose number has its place for a remainder.
     bells: Vec<Condvar>,
     /// Whether the last batch could not be written.
-    is_failing: AtomicBool,
+    pub(crate) is_failing: AtomicBool,
     pub(crate) notices: N,
 }
 
@@ -52,7 +52,7 @@ impl<D: Disk, N> Store<D, N> {
         let line = Line::new(alloc, 0)?;
         Ok(Store {
             line: Mutex::new(line),
-            log: Mutex::new(None),
+            log: Mutex::new(Held::Unread),
             voids: Mutex::new(None),
             bells,
             is_failing: AtomicBool::new(false),
@@ -72,17 +72,17 @@ impl<D: Disk, N> Store<D, N> {
         } = logs;
         self.line.lock(rt).begin_at(count);
         *self.voids.lock(rt) = Some(voids);
-        *self.log.lock(rt) = Some(changes);
+        *self.log.lock(rt) = Held::Open(changes);
     }
 
-    /// The logs, with all that was written to them. None if it was never opened.
+    /// The logs, with all that was written to them. None if it was never opened, or if one of them is closed.
     pub fn into_logs(self) -> Option<Logs<D>>
     where
         D: Drop,
         N: Drop,
     {
         let count = self.line.into_inner().place();
-        let (changes, voids) = (self.log.into_inner(), self.voids.into_inner());
+        let (changes, voids) = (self.log.into_inner().into_log(), self.voids.into_inner());
         Some(Logs {
             changes: changes?,
             voids: voids?,
@@ -113,13 +113,13 @@ impl<D: Disk, N> Store<D, N> {
     }
 }
 
-impl<D: Disk, N: StoreNotices> Store<D, N> {
+impl<D: Disk + Drop, N: StoreNotices + LogFile<D>> Store<D, N> {
     /// Writes a batch, tells whom it concerns where that is new, and tells the line.
     fn write<R: Wait>(&self, rt: &R, alloc: Global, batch: Vec<Spelled>) {
-        let written = match self.log.lock(rt).as_mut() {
-            Some(log) => log.append(alloc, &batch),
-            None => Err(LogFault::NotRead),
-        };
+        let written = self
+            .log
+            .lock(rt)
+            .append(alloc, &self.notices, &batch);
         let is_failing = written.is_err();
         let was_failing = self.is_failing.swap(is_failing, Ordering::SeqCst);
         match written {

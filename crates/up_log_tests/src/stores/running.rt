@@ -4,8 +4,9 @@ ghost use Rattle.up_dispatch.specs.Parts.{IsNamed};
 ghost use Rattle.up_events.specs.declared.limits.TheConstants.{MOST_BYTES};
 ghost use Rattle.up_headers.specs.Table.{FitsWithin};
 
+use crate::full_once::FullOnce;
 use crate::logs::{Row, SETUP, entries_of, read, spelled_of};
-use sqlite_disk::{Disk, Memory};
+use sqlite_disk::{Disk, Fuse, Memory};
 use std::alloc::Global;
 use std::marker::{Brand, Send, Sync};
 use std::sync::Wait;
@@ -21,7 +22,7 @@ use up_hooks::PreHooks;
 use up_log::{LogFault, LogReader};
 use up_machine::{Asked, Done, Refusal};
 use up_replay::{Unrestored, asked_of, fits};
-use up_store::{Logs, Store, StoreNotices, Stored, restore_on};
+use up_store::{LogFile, Logs, Store, StoreNotices, Stored, restore_on};
 use up_wire::{Output, write_response};
 
 /// How many uploads are looked at.
@@ -78,6 +79,39 @@ impl StoreNotices for &Tally {
 
     fn makes_room(&self) -> bool {
         false
+    }
+}
+
+/// A disk whose file can be opened again.
+pub trait Again: Disk {
+    /// The same file, opened again.
+    fn again(self) -> Self;
+}
+
+impl Again for Memory {
+    fn again(self) -> Memory {
+        self
+    }
+}
+
+impl<D: Disk> Again for Fuse<D> {
+    fn again(self) -> Fuse<D> {
+        self
+    }
+}
+
+impl<D: Disk> Again for FullOnce<D> {
+    fn again(self) -> FullOnce<D> {
+        FullOnce::new(self.into_inner(), 0)
+    }
+}
+
+impl<D: Again> LogFile<D> for &Tally {
+    fn open_again(&self, failed: Option<D>) -> Result<D, LogFault> {
+        match failed {
+            Some(disk) => Ok(disk.again()),
+            None => Err(LogFault::Busy),
+        }
     }
 }
 
@@ -285,7 +319,7 @@ pub struct Ran<D: Disk> {
 }
 
 /// Does each job in a thread of its own, from a seat of its own, by a store whose logs are on these disks.
-fn work_each<B: Naming + Send + Sync, D: Disk + Send + Drop, R: Threads + Wait + Sync>(
+fn work_each<B: Naming + Send + Sync, D: Again + Send + Drop, R: Threads + Wait + Sync>(
     rt: &R,
     alloc: Global,
     board: &Board<B>,
@@ -311,7 +345,7 @@ fn work_each<B: Naming + Send + Sync, D: Disk + Send + Drop, R: Threads + Wait +
 
 /// Does each job in a thread of its own, from a seat of its own, by a store whose logs are on these disks. None where
 /// the logs aren't opened.
-fn run_by<B: Naming + Send + Sync, D: Disk + Send + Drop, R: Threads + Wait + Sync>(
+fn run_by<B: Naming + Send + Sync, D: Again + Send + Drop, R: Threads + Wait + Sync>(
     rt: &R,
     alloc: Global,
     parts: BoardParts,
@@ -361,7 +395,7 @@ where
 }
 
 /// Does each job in a thread of its own, by a store whose logs are on these disks. None where the logs aren't opened.
-pub fn run_on<D: Disk + Send + Drop, R: Threads + Wait + Sync>(
+pub fn run_on<D: Again + Send + Drop, R: Threads + Wait + Sync>(
     rt: &R,
     alloc: Global,
     disks: (D, D),
