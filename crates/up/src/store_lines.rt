@@ -56,6 +56,14 @@ impl StoreNotices for &StoreLines<'_> {
         );
     }
 
+    fn is_shorter(&self, before: u64, now: u64) {
+        let _ = eprintln!(self.rt; "up_server: the log has {now} bytes instead of {before}");
+    }
+
+    fn is_not_shorter(&self, fault: LogFault) {
+        let _ = eprintln!(self.rt; "up_server: the log can't be made shorter yet: {fault}");
+    }
+
     fn makes_room(&self) -> bool {
         give_up_room(self.rt, self.spare.as_str())
     }

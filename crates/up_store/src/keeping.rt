@@ -5,8 +5,10 @@ ghost use Rattle.up_dispatch.specs.Answering.{Serves, course};
 ghost use Rattle.up_dispatch.specs.Turn.{Converses, stand};
 ghost use Rattle.up_store.specs.StoredCommits.{by_stored_seat};
 
+use crate::folder::Folder;
 use crate::notices::StoreNotices;
-use crate::restoring::restore_on;
+use crate::restoring::restore_all_on;
+use crate::shortening::Shortening;
 use crate::store::Store;
 use crate::stored::Stored;
 use sqlite_disk::Disk;
@@ -20,27 +22,32 @@ use up_wire::{Sink, Source};
 
 /// A store, from before its logs are read on.
 #[derive(Drop)]
-pub struct Keeping<D: Disk, N> {
+pub struct Keeping<'a, D: Disk, N, F> {
     /// The log of the changes, and that of the voids, until they are read.
     readers: Mutex<Option<(LogReader<D>, LogReader<D>)>>,
     store: Store<D, N>,
+    shortening: Shortening<'a, D, F>,
 }
 
-impl<D: Disk, N> Keeping<D, N> {
-    /// Over the log of the changes and that of the voids, of which nothing is read yet. An error is want of memory.
+impl<'a, D: Disk, N, F> Keeping<'a, D, N, F> {
+    /// Over the log of the changes and that of the voids, of which nothing is read yet, and with what makes it shorter. An
+    /// error is want of memory.
     pub fn new(
         alloc: Global,
         changes: LogReader<D>,
         voids: LogReader<D>,
         notices: N,
-    ) -> Result<Keeping<D, N>, AllocError>
+        shortening: Shortening<'a, D, F>,
+    ) -> Result<Keeping<'a, D, N, F>, AllocError>
     where
         D: Drop,
         N: Drop,
+        F: Drop,
     {
         Ok(Keeping {
             store: Store::unread(alloc, notices)?,
             readers: Mutex::new(Some((changes, voids))),
+            shortening,
         })
     }
 }
@@ -68,7 +75,11 @@ pub fn converse_stored<B: Naming, D: Disk, N: StoreNotices, I: Ids, R: Source, W
     converse(alloc, &mut stored, hooks, ids, max_size, source, sink)
 }
 
-impl<D: Disk + Drop + Send, N: StoreNotices + Drop + Send + Sync> Service for Keeping<D, N> {
+impl<
+    D: Disk + Drop + Send,
+    N: StoreNotices + Drop + Send + Sync,
+    F: Folder<D> + Drop + Sync,
+> Service for Keeping<'_, D, N, F> {
     /// Carries out the changes of the log again, and opens the store. If that fails the notices are told why.
     fn begin<B: Naming, T: Wait>(
         &self,
@@ -81,7 +92,8 @@ impl<D: Disk + Drop + Send, N: StoreNotices + Drop + Send + Sync> Service for Ke
         let Some((changes, voids)) = self.readers.lock(rt).take() else {
             return (seat, false);
         };
-        match restore_on(rt, alloc, board, &mut seat, changes, voids) {
+        let least = self.shortening.entries(rt);
+        match restore_all_on(rt, alloc, board, &mut seat, changes, voids, least) {
             Ok(logs) => {
                 let entries = logs.count;
                 self.store.open(rt, logs);
@@ -95,6 +107,7 @@ impl<D: Disk + Drop + Send, N: StoreNotices + Drop + Send + Sync> Service for Ke
         }
     }
 
+    /// Holds the conversation, and makes the log shorter then if that is due.
     fn converse<B: Naming, I: Ids, R: Source, W: Sink, T: Wait>(
         &self,
         rt: &T,
@@ -107,6 +120,8 @@ impl<D: Disk + Drop + Send, N: StoreNotices + Drop + Send + Sync> Service for Ke
         sink: &mut W,
     ) -> Ended {
         let store = &self.store;
-        converse_stored(rt, alloc, board, store, seat, hooks, ids, source, sink)
+        let ended = converse_stored(rt, alloc, board, store, seat, hooks, ids, source, sink);
+        self.shortening.shorten(rt, alloc, store);
+        ended
     }
 }

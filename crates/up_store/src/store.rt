@@ -27,14 +27,16 @@ pub(crate) enum Turn {
 /// wait, if nobody else does, with no lock held but the log's, which nobody else wants.
 #[derive(Drop)]
 pub struct Store<D: Disk, N> {
-    line: Mutex<Line>,
+    pub(crate) line: Mutex<Line>,
     /// None until the logs are read to their ends.
-    log: Mutex<Option<Log<D>>>,
-    voids: Mutex<Option<Voids<D>>>,
+    pub(crate) log: Mutex<Option<Log<D>>>,
+    pub(crate) voids: Mutex<Option<Voids<D>>>,
     /// Each wakes those that wait whose number has its place for a remainder.
     bells: Vec<Condvar>,
+    /// Wakes who waits until nothing is written and each change had its turn.
+    pub(crate) stillness: Condvar,
     /// Whether the last batch could not be written.
-    is_failing: AtomicBool,
+    pub(crate) is_failing: AtomicBool,
     pub(crate) notices: N,
 }
 
@@ -55,6 +57,7 @@ impl<D: Disk, N> Store<D, N> {
             log: Mutex::new(None),
             voids: Mutex::new(None),
             bells,
+            stillness: Condvar::new(),
             is_failing: AtomicBool::new(false),
             notices,
         })
@@ -102,6 +105,13 @@ impl<D: Disk, N> Store<D, N> {
         }
     }
 
+    /// Wakes those that may go on.
+    pub(crate) fn go_on(&self, first: (u64, u64)) {
+        self.ring(first.0);
+        self.ring(first.1);
+        self.stillness.notify_all();
+    }
+
     /// What comes next for the change of this number, once anything does.
     fn next<R: Wait>(&self, rt: &R, alloc: Global, number: u64) -> Next {
         let line = self.line.lock(rt);
@@ -135,12 +145,6 @@ impl<D: Disk, N: StoreNotices> Store<D, N> {
     /// Gives up room on the disk that was kept for removals. Tells whether there was some.
     pub(crate) fn makes_room(&self) -> bool {
         self.notices.makes_room()
-    }
-
-    /// Wakes those that may go on.
-    fn go_on(&self, first: (u64, u64)) {
-        self.ring(first.0);
-        self.ring(first.1);
     }
 
     /// Waits until it is the turn of the change of this number, and writes others meanwhile if nobody else does. Tells
