@@ -5,6 +5,7 @@ ghost use Rattle.up_hooks.specs.Told.{has_code};
 use crate::fault::Fault;
 use crate::notice_lines::NoticeLines;
 use crate::store_files::StoreFiles;
+use crate::store_folder::EndedNotes;
 use crate::store_lines::StoreLines;
 use sqlite_disk::Disk;
 use std::alloc::{AllocError, Global};
@@ -22,12 +23,15 @@ use up_events::Event;
 use up_handed::continue_each;
 use up_hooks::{Outcome, PostHook, PreHooks, Recorder, Teller, new_recorders, new_tellers};
 use up_server::{EventLines, ServerFault, Shown, keep_serving, replay, serve};
-use up_store::{Keeping, LogFile, StoreNotices};
+use up_store::{EndedUploads, Folder, Keeping, LogFile, Shortening, StoreNotices};
 use up_wire::{Output, Sink};
 use up_words::{Settings, Words};
 
 /// The descriptor of standard input.
 const STDIN: i32 = 0;
+
+/// How many bytes a log has, at the least, that is made shorter: 64 MiB.
+const LEAST_LOG: u64 = 1 << 26;
 
 /// Where connections are counted, if the words ask for lines that say how the server stands.
 fn watch_of(words: &Words) -> Option<Watch> {
@@ -198,6 +202,7 @@ fn run_kept<
     H: Shown + Drop,
     D: Disk + Drop + Send,
     N: StoreNotices + LogFile<D> + Copy + Drop + Send + Sync,
+    F: Folder<D> + Drop + Sync,
     R: Print + Eprint + AllocGlobal + Clock + RandomSource + Threads + Wait + Sync,
 >(
     rt: &R,
@@ -205,7 +210,7 @@ fn run_kept<
     listener: TcpListener,
     hooks: PreHooks,
     post_hooks: Vec<H>,
-    keeping: &Keeping<D, N>,
+    keeping: &Keeping<'_, D, N, F>,
 ) -> Result<(), Fault>
     requires one_for_each { length post_hooks.items ≡ beside.now.settings.lanes }
     requires new { All (λ h. H.is_sound h × (H.handed h ≡ [])) post_hooks.items }
@@ -220,7 +225,7 @@ fn run_kept<
             requires one_for_each { length post_hooks.items ≡ beside.now.settings.lanes }
             requires new { All (λ h. H.is_sound h × (H.handed h ≡ [])) post_hooks.items }
         {
-            if scope.spawn(move || keeping.tend(rt)).is_err() {
+            if scope.spawn(move || keeping.tend(rt, rt.alloc())).is_err() {
                 return Err(Fault::Server(ServerFault::Memory));
             }
             let ended = run_on(rt, beside, &visits, listener, hooks, post_hooks);
@@ -247,17 +252,24 @@ fn run_stored<
     requires new { All (λ t. ⟦<Teller<F> as PostHook>⟧.is_sound t × (⟦<Teller<F> as PostHook>⟧.handed t ≡ [])) tellers.items }
 {
     let StoreFiles {
-        rt: host,
-        log,
+        folder,
+        settings,
+        current,
         changes,
         voids,
         counts,
         spare,
-        ..
     } = files;
-    let lines = StoreLines::new(host, log, spare);
-    let post_hooks = continue_each(rt.alloc(), tellers, counts)?;
-    let keeping = Keeping::new(rt.alloc(), changes, voids, &lines)?;
+    let host = folder.rt;
+    let lines = StoreLines::new(host, folder.path_of("log")?, spare);
+    let ended = EndedUploads::new(rt.alloc());
+    let notes = EndedNotes {
+        rt,
+        ended: &ended,
+    };
+    let post_hooks = continue_each(rt.alloc(), tellers, counts, notes)?;
+    let shortening = Shortening::new(current, &ended, folder, settings.lanes, LEAST_LOG);
+    let keeping = Keeping::new(rt.alloc(), changes, voids, &lines, shortening)?;
     run_kept(rt, beside, listener, hooks, post_hooks, &keeping)?;
     if lines.is_unread() {
         return Err(Fault::Told);

@@ -1,6 +1,6 @@
 //! What is said of a store.
 use crate::room::{give_up_room, keep_room};
-use crate::store_files::StoreFile;
+use crate::store_folder::StoreFile;
 use sqlite_std_file::Wary;
 use std::sync::atomic::{AtomicBool, Ordering};
 use up_log::{LogFault, open_device};
@@ -12,7 +12,7 @@ use up_store::{LogFile, StoreNotices};
 #[derive(Drop)]
 pub struct StoreLines<'a> {
     rt: &'a HostRuntime,
-    /// The path of the log of the changes.
+    /// The path of the first log of the changes. Each further one has its generation behind it.
     log: String,
     /// The path of the file that keeps room.
     spare: String,
@@ -62,14 +62,31 @@ impl StoreNotices for &StoreLines<'_> {
         );
     }
 
+    fn is_shorter(&self, before: u64, now: u64) {
+        let _ = eprintln!(self.rt; "up_server: the log has {now} bytes instead of {before}");
+    }
+
+    fn is_not_shorter(&self, fault: LogFault) {
+        let _ = eprintln!(self.rt; "up_server: the log can't be made shorter yet: {fault}");
+    }
+
     fn makes_room(&self) -> bool {
         give_up_room(self.rt, self.spare.as_str())
     }
 }
 
 impl LogFile<StoreFile> for &StoreLines<'_> {
-    fn open_again(&self, failed: Option<StoreFile>) -> Result<StoreFile, LogFault> {
+    fn open_again(
+        &self,
+        generation: u64,
+        failed: Option<StoreFile>,
+    ) -> Result<StoreFile, LogFault> {
         drop(failed);
-        open_device(self.rt, self.log.as_str(), Wary)
+        let log = self.log.as_str();
+        if generation == 0 {
+            return open_device(self.rt, log, Wary);
+        }
+        let path = format!(in self.rt.alloc(); "{log}.{generation}")?;
+        open_device(self.rt, path.as_str(), Wary)
     }
 }

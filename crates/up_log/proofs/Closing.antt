@@ -1,12 +1,12 @@
 -- What is left of a file whose gate is closed after a call that failed.
-use Rattle.std.proofs.Common.{◌≡◌, ◌≢◌, ◌⊎◌, inl, inr, ℕ, ◌+◌, List, [], ◌∷◌, ◌++◌, length, get_or, drop, sym, ◌∙◌, ap, subst, arith, append_assoc}
+use Rattle.std.proofs.Common.{◌≡◌, inl, inr, ℕ, ◌+◌, List, [], ◌∷◌, ◌++◌, length, get_or, drop, sym, ◌∙◌, ap, subst, arith, append_assoc}
 use Rattle.std.proofs.lemmas.Bool.{cases_eq}
 use Rattle.std.proofs.lemmas.List.{drop_at}
 use Rattle.std.specs.Prelude.{Err, Ok, OnOk, Result}
 use Rattle.sqlite_disk.specs.Disk.{Holds, Torn}
 use Rattle.up_log.specs.declared.entry.Entry.{Entry}
 use Rattle.up_log.specs.declared.setup.Setup.{Setup}
-use Rattle.up_log.specs.Blocks.{body, block, blocks, written, IsAtRest, IsBeforeOrAfter, IsClosed, IsLog}
+use Rattle.up_log.specs.Blocks.{body, block, blocks, written, IsAtRest, IsBeforeOrAfter, IsLog}
 use Rattle.up_log.proofs.Batches.{split}
 use Rattle.up_log.proofs.Crash.{closed_by, torn_gate, written_push}
 

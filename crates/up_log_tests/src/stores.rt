@@ -2,5 +2,6 @@
 mod failing;
 mod refusing;
 mod running;
+mod shorter;
 mod together;
 mod voids;

@@ -6,8 +6,8 @@ use up_log::{Log, LogFault, Spelled};
 
 /// Who has the file of the changes.
 pub trait LogFile<D> {
-    /// Opens the file again, after a call on it failed. It is closed before, if it is given.
-    fn open_again(&self, failed: Option<D>) -> Result<D, LogFault>;
+    /// Opens the file of this generation again, after a call on it failed. It is closed before, if it is given.
+    fn open_again(&self, generation: u64, failed: Option<D>) -> Result<D, LogFault>;
 }
 
 /// The log of the changes. After a call that failed so that the log takes no more, its file is opened again by the next one.
@@ -32,6 +32,22 @@ impl<D: Disk> Held<D> {
         }
     }
 
+    /// The log, unless it is closed.
+    pub(crate) fn log(&self) -> Option<&Log<D>> {
+        match self {
+            Held::Open(log) => Some(log),
+            _ => None,
+        }
+    }
+
+    /// The same.
+    pub(crate) fn log_mut(&mut self) -> Option<&mut Log<D>> {
+        match self {
+            Held::Open(log) => Some(log),
+            _ => None,
+        }
+    }
+
     /// Whether a call on it failed, so that its file is to be opened again.
     pub(crate) fn is_failed(&self) -> bool {
         match self {
@@ -42,7 +58,11 @@ impl<D: Disk> Held<D> {
     }
 
     /// Opens the file again, if a call on it failed.
-    pub(crate) fn open_again<F: LogFile<D>>(&mut self, file: &F) -> Result<(), LogFault>
+    pub(crate) fn open_again<F: LogFile<D>>(
+        &mut self,
+        file: &F,
+        generation: u64,
+    ) -> Result<(), LogFault>
     where
         D: Drop,
     {
@@ -55,7 +75,7 @@ impl<D: Disk> Held<D> {
             }
         };
         *self = Held::Closed(place);
-        let device = file.open_again(failed)?;
+        let device = file.open_again(generation, failed)?;
         let (log, resumed) = Log::resume(device, place);
         *self = Held::Open(log);
         resumed
@@ -66,12 +86,13 @@ impl<D: Disk> Held<D> {
         &mut self,
         alloc: Global,
         file: &F,
+        generation: u64,
         batch: &[Spelled],
     ) -> Result<(), LogFault>
     where
         D: Drop,
     {
-        self.open_again(file)?;
+        self.open_again(file, generation)?;
         match self {
             Held::Open(log) => log.append(alloc, batch),
             _ => Err(LogFault::NotRead),

@@ -6,7 +6,7 @@ use crate::restoring::Logs;
 use crate::voids::Voids;
 use sqlite_disk::Disk;
 use std::alloc::{AllocError, Global};
-use std::sync::atomic::{AtomicBool, Ordering};
+use std::sync::atomic::{AtomicBool, AtomicU64, Ordering};
 use std::sync::{Condvar, Mutex, Wait};
 use up_log::{LogFault, Spelled};
 
@@ -28,11 +28,15 @@ pub(crate) enum Turn {
 /// wait, if nobody else does, with no lock held but the log's, which nobody else wants.
 #[derive(Drop)]
 pub struct Store<D: Disk, N> {
-    line: Mutex<Line>,
+    pub(crate) line: Mutex<Line>,
     pub(crate) log: Mutex<Held<D>>,
-    voids: Mutex<Option<Voids<D>>>,
+    pub(crate) voids: Mutex<Option<Voids<D>>>,
     /// Each wakes those that wait whose number has its place for a remainder.
     bells: Vec<Condvar>,
+    /// Wakes who waits until nothing is written and each change had its turn.
+    pub(crate) stillness: Condvar,
+    /// How often a shorter log took the place of the log.
+    generation: AtomicU64,
     /// Whether the last batch could not be written.
     pub(crate) is_failing: AtomicBool,
     pub(crate) notices: N,
@@ -55,6 +59,8 @@ impl<D: Disk, N> Store<D, N> {
             log: Mutex::new(Held::Unread),
             voids: Mutex::new(None),
             bells,
+            stillness: Condvar::new(),
+            generation: AtomicU64::new(0),
             is_failing: AtomicBool::new(false),
             notices,
         })
@@ -73,6 +79,16 @@ impl<D: Disk, N> Store<D, N> {
         self.line.lock(rt).begin_at(count);
         *self.voids.lock(rt) = Some(voids);
         *self.log.lock(rt) = Held::Open(changes);
+    }
+
+    /// How often a shorter log took the place of the log.
+    pub(crate) fn generation(&self) -> u64 {
+        self.generation.load(Ordering::SeqCst)
+    }
+
+    /// The log is of this generation.
+    pub(crate) fn set_generation(&self, generation: u64) {
+        self.generation.store(generation, Ordering::SeqCst);
     }
 
     /// The logs, with all that was written to them. None if it was never opened, or if one of them is closed.
@@ -102,6 +118,13 @@ impl<D: Disk, N> Store<D, N> {
         }
     }
 
+    /// Wakes those that may go on.
+    pub(crate) fn go_on(&self, first: (u64, u64)) {
+        self.ring(first.0);
+        self.ring(first.1);
+        self.stillness.notify_all();
+    }
+
     /// What comes next for the change of this number, once anything does.
     fn next<R: Wait>(&self, rt: &R, alloc: Global, number: u64) -> Next {
         let line = self.line.lock(rt);
@@ -119,7 +142,7 @@ impl<D: Disk + Drop, N: StoreNotices + LogFile<D>> Store<D, N> {
         let written = self
             .log
             .lock(rt)
-            .append(alloc, &self.notices, &batch);
+            .append(alloc, &self.notices, self.generation(), &batch);
         let is_failing = written.is_err();
         let was_failing = self.is_failing.swap(is_failing, Ordering::SeqCst);
         match written {
@@ -135,12 +158,6 @@ impl<D: Disk + Drop, N: StoreNotices + LogFile<D>> Store<D, N> {
     /// Gives up room on the disk that was kept for removals. Tells whether there was some.
     pub(crate) fn makes_room(&self) -> bool {
         self.notices.makes_room()
-    }
-
-    /// Wakes those that may go on.
-    fn go_on(&self, first: (u64, u64)) {
-        self.ring(first.0);
-        self.ring(first.1);
     }
 
     /// Waits until it is the turn of the change of this number, and writes others meanwhile if nobody else does. Tells

@@ -1,9 +1,11 @@
 //! What is done for a store whether or not there are changes.
+use crate::folder::Folder;
 use crate::held::LogFile;
 use crate::keeping::Keeping;
 use crate::notices::StoreNotices;
 use crate::store::Store;
 use sqlite_disk::Disk;
+use std::alloc::Global;
 use std::sync::Wait;
 use std::sync::atomic::Ordering;
 use std::time::Duration;
@@ -15,7 +17,7 @@ impl<D: Disk + Drop, N: StoreNotices + LogFile<D>> Store<D, N> {
     /// Opens the log again if a call on it failed, and tells that it works again.
     pub fn tend<R: Wait>(&self, rt: &R) {
         let mut held = self.log.lock(rt);
-        if !held.is_failed() || held.open_again(&self.notices).is_err() {
+        if !held.is_failed() || held.open_again(&self.notices, self.generation()).is_err() {
             return;
         }
         if self.is_failing.swap(false, Ordering::SeqCst) {
@@ -24,9 +26,10 @@ impl<D: Disk + Drop, N: StoreNotices + LogFile<D>> Store<D, N> {
     }
 }
 
-impl<D: Disk + Drop, N: StoreNotices + LogFile<D>> Keeping<D, N> {
-    /// Tends the store each second, until `stop_tending` is called.
-    pub fn tend<R: Wait>(&self, rt: &R) {
+impl<D: Disk + Drop, N: StoreNotices + LogFile<D>, F: Folder<D>> Keeping<'_, D, N, F> {
+    /// Tends the store each second, until `stop_tending` is called: opens its log again if a call on it failed, and makes it
+    /// shorter if that is due.
+    pub fn tend<R: Wait>(&self, rt: &R, alloc: Global) {
         for _ in rt.forever() {
             self.is_over
                 .park_timeout(rt, 0, Duration::from_secs(PAUSE));
@@ -34,6 +37,7 @@ impl<D: Disk + Drop, N: StoreNotices + LogFile<D>> Keeping<D, N> {
                 break;
             }
             self.store.tend(rt);
+            self.shortening.shorten(rt, alloc, &self.store);
         }
     }
 

@@ -34,12 +34,15 @@ pub type Told = Result<(u16, Option<Accepted>), Refusal>;
 /// What a board counts, and what it answers of each upload.
 pub type Seen = (Counts, Vec<u8>);
 
-/// How often it was told that changes can't be written, that they can again, and that none is made any more.
+/// How often it was told that changes can't be written, that they can again, and that none is made any more; and that a
+/// log was made shorter, and that it could not be.
 #[derive(Drop)]
 pub struct Tally {
     fails: AtomicU64,
     works: AtomicU64,
     stops: AtomicU64,
+    shorter: AtomicU64,
+    not_shorter: AtomicU64,
 }
 
 impl Tally {
@@ -48,7 +51,17 @@ impl Tally {
             fails: AtomicU64::new(0),
             works: AtomicU64::new(0),
             stops: AtomicU64::new(0),
+            shorter: AtomicU64::new(0),
+            not_shorter: AtomicU64::new(0),
         }
+    }
+
+    /// How often a log was made shorter, and how often it could not be.
+    pub fn switches(&self) -> [u64; 2] {
+        [
+            self.shorter.load(Ordering::SeqCst),
+            self.not_shorter.load(Ordering::SeqCst),
+        ]
     }
 
     pub fn counts(&self) -> [u64; 3] {
@@ -75,6 +88,14 @@ impl StoreNotices for &Tally {
 
     fn stops(&self, _fault: LogFault) {
         self.stops.fetch_add(1, Ordering::SeqCst);
+    }
+
+    fn is_shorter(&self, _before: u64, _now: u64) {
+        self.shorter.fetch_add(1, Ordering::SeqCst);
+    }
+
+    fn is_not_shorter(&self, _fault: LogFault) {
+        self.not_shorter.fetch_add(1, Ordering::SeqCst);
     }
 
     fn makes_room(&self) -> bool {
@@ -107,7 +128,7 @@ impl<D: Disk> Again for FullOnce<D> {
 }
 
 impl<D: Again> LogFile<D> for &Tally {
-    fn open_again(&self, failed: Option<D>) -> Result<D, LogFault> {
+    fn open_again(&self, _generation: u64, failed: Option<D>) -> Result<D, LogFault> {
         match failed {
             Some(disk) => Ok(disk.again()),
             None => Err(LogFault::Busy),
@@ -188,7 +209,7 @@ fn work<K: Keeper>(alloc: Global, keeper: &mut K, job: &Job) -> Result<Outcome, 
 }
 
 /// What the board counts, and what it answers to HEAD and GET of each upload.
-fn seen<B: Naming, R: Wait>(
+pub fn seen<B: Naming, R: Wait>(
     rt: &R,
     alloc: Global,
     board: &Board<B>,
