@@ -3,6 +3,7 @@ of a store. """
 import contextlib
 import os
 import random
+import re
 import resource
 import shutil
 import signal
@@ -74,8 +75,22 @@ class Store:
     def path(self, name):
         return os.path.join(self.folder, name)
 
+    def generation(self):
+        """The number behind the name of the last log that is there: how often it was made shorter."""
+        return max(int(name[4:] or 0) for name in self.logs())
+
+    def current(self):
+        """The names of the logs that count."""
+        end = f".{self.generation()}" if self.generation() else ""
+        return {f"log{end}", f"void{end}"}
+
+    def logs(self):
+        """The names of the logs of changes, of which there are two while a shorter one is written."""
+        return [name for name in os.listdir(self.folder) if re.fullmatch(r"log(\.\d+)?", name)]
+
     def size_of_log(self):
-        return os.path.getsize(self.path("log"))
+        """How many bytes the logs of changes have."""
+        return sum(os.path.getsize(self.path(name)) for name in self.logs())
 
     def files(self):
         return files_of(self.folder)

@@ -105,8 +105,7 @@ impl<H: PostHook, D: Disk + Send> Continued<H, D> {
         Continued::without(hook, handed, 0)
     }
 
-    /// The same, of a run to which so many of these events come no more: its lane has those alone that are behind them,
-    /// or that stayed.
+    /// The same, of a run to which so many of these events come no more, since a shorter log leaves them out.
     pub fn without(hook: H, handed: Handed<D>, left_out: u64) -> Self
         requires sound { H.is_sound hook }
         requires handed { H.handed hook ≡ [] }

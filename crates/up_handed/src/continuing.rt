@@ -35,8 +35,8 @@ impl<D: Disk> Opened<D> {
     }
 }
 
-/// Has the post-hook of each lane go on behind the events that the count at its place tells, and tell which uploads have
-/// ended.
+/// Has the post-hook of each lane go on behind the events that the count at its place tells, and tell which uploads
+/// have ended.
 pub fn continue_each<H: PostHook + Drop, D: Disk + Send + Drop, E: Endings + Copy>(
     alloc: Global,
     hooks: Vec<H>,

@@ -21,9 +21,9 @@ pub trait Endings: Send {
     fn note(&self, upload: EndedUpload);
 }
 
-/// A post-hook that hands each event to the one within, and tells which uploads have ended: of each once the one within
-/// is ready for another event behind the last of that upload. If it counts what it is handed over, as `Continued` does, it
-/// has counted the last one by then.
+/// A post-hook that hands each event to the one within, and tells which uploads have ended: of each once the one
+/// within is ready for another event behind the last of that upload. If that counts what it was handed, as `Continued`
+/// does, it has counted the last one by then.
 #[derive(Drop)]
 pub struct Noting<H, E> {
     hook: H,

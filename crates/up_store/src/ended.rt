@@ -5,8 +5,8 @@ use std::sync::{Mutex, Wait};
 use up_events::Id;
 use up_handed::EndedUpload;
 
-/// How many bytes of a log each event of an upload stands for, at the least, beside the bytes of the upload: an entry takes
-/// twice as many, and is told of by two events at most.
+/// How many bytes of a log each event of an upload stands for, at the least, beside the bytes of the upload: an entry
+/// takes twice as many, and is told of by two events at most.
 const BYTES_OF_EVENT: u64 = 32;
 
 #[derive(Drop)]
@@ -41,8 +41,8 @@ impl EndedUploads {
         }
     }
 
-    /// One more has ended, and all of its events were handed over. Out of memory it isn't noted, so that its entries stay
-    /// until the server is started again.
+    /// One more has ended, and all of its events were handed over. Out of memory it isn't noted, so that its entries
+    /// stay until the server is started again.
     pub fn note<R: Wait>(&self, rt: &R, upload: EndedUpload) {
         let mut list = self.list.lock(rt);
         if list.uploads.push(upload).is_ok() {

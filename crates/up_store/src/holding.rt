@@ -52,8 +52,8 @@ impl<D: Disk, N> Store<D, N> {
         }
     }
 
-    /// Waits until nothing is being written and each change that was written had its turn, and holds up the others until
-    /// they are let go.
+    /// Waits until nothing is being written and each change that was written had its turn, and holds up the others
+    /// until they are let go.
     pub(crate) fn hold<R: Wait>(&self, rt: &R) {
         let mut line = self.line.lock(rt);
         line.hold();

@@ -34,8 +34,8 @@ pub struct Keeping<'a, D: Disk, N, F> {
 }
 
 impl<'a, D: Disk, N, F> Keeping<'a, D, N, F> {
-    /// Over the log of the changes and that of the voids, of which nothing is read yet, and with what makes it shorter. An
-    /// error is want of memory.
+    /// Over the log of the changes and that of the voids, of which nothing is read yet, and with what makes it shorter.
+    /// An error is want of memory.
     pub fn new(
         alloc: Global,
         changes: LogReader<D>,

@@ -95,8 +95,8 @@ impl<'a, D: Disk, F> Shortening<'a, D, F> {
 }
 
 impl<D: Disk + Drop, F: Folder<D>> Shortening<'_, D, F> {
-    /// Puts a shorter log in the place of a store's, if that is due and nobody is at it. Changes are made meanwhile, but for
-    /// a moment at the end. If it fails the store goes on with the log that it has.
+    /// Puts a shorter log in the place of a store's, if that is due and nobody is at it. Changes are made meanwhile, but
+    /// for a moment at the end. If it fails the store goes on with the log that it has.
     pub fn shorten<N: StoreNotices, R: Wait>(&self, rt: &R, alloc: Global, store: &Store<D, N>) {
         if !self.is_due(rt, store) {
             return;

@@ -121,7 +121,7 @@ impl<D: Disk> Shorter<D>
 where
     D: Drop,
 {
-    /// Makes an empty one for the log of a store, which is to leave out these uploads where nothing of them has to stay.
+    /// Makes an empty one for the log of a store, which leaves out these uploads where nothing of them has to stay.
     pub(crate) fn begin<N, F: Folder<D>, R: Wait>(
         rt: &R,
         alloc: Global,
@@ -148,7 +148,7 @@ where
         })
     }
 
-    /// Adds the next batch of the store's log, if each of its entries stands before this place, and tells whether it does.
+    /// Adds the next batch of the store's log, if all of its entries stand before this place. Tells whether they do.
     fn add_next<N, R: Wait>(
         &mut self,
         rt: &R,
