@@ -263,10 +263,7 @@ fn run_stored<
     let host = folder.rt;
     let lines = StoreLines::new(host, folder.path_of("log")?, spare);
     let ended = EndedUploads::new(rt.alloc());
-    let notes = EndedNotes {
-        rt,
-        ended: &ended,
-    };
+    let notes = EndedNotes { rt, ended: &ended };
     let post_hooks = continue_each(rt.alloc(), tellers, counts, notes)?;
     let shortening = Shortening::new(current, &ended, folder, settings.lanes, LEAST_LOG);
     let keeping = Keeping::new(rt.alloc(), changes, voids, &lines, shortening)?;

@@ -1,12 +1,11 @@
 //! The folder of a store.
 use sqlite_std_file::{FileFrom, Wary};
 use std::alloc::AllocError;
-use std::fs;
 use std::fs::DirBuilder;
-use std::io;
 use std::marker::Sync;
 use std::os::unix::fs::DirBuilderExt;
 use std::sync::Wait;
+use std::{fs, io};
 use up_handed::{EndedUpload, Endings};
 use up_log::{LogFault, LogReader, Setup, open_file};
 use up_store::{EndedUploads, Folder};

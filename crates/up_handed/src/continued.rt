@@ -66,7 +66,8 @@ impl<H: PostHook, D: Disk + Send> PostHook for Continued<H, D> {
             (IsAllCounted D.Disk self.new ⊎ IsStopped D.Disk self.old self.new) }
     {
         if self.is_owed {
-            if self.handed.add(&self.hook, self.left_out + self.before).is_err() {
+            let earlier = self.left_out + self.before;
+            if self.handed.add(&self.hook, earlier).is_err() {
                 return Err(NoMemory);
             }
             self.is_owed = false;
@@ -80,8 +81,9 @@ impl<H: PostHook, D: Disk + Send> PostHook for Continued<H, D> {
             self.passed += 1;
             return Outcome::Done;
         }
+        let earlier = self.left_out + self.before;
         let outcome = self.hook.hand(event);
-        self.is_owed = self.handed.add(&self.hook, self.left_out + self.before).is_err();
+        self.is_owed = self.handed.add(&self.hook, earlier).is_err();
         outcome
     }
 }

@@ -110,8 +110,7 @@ impl<
             Ok(logs) => {
                 let entries = logs.count;
                 self.store.open(rt, logs);
-                self.store
-                    .set_generation(self.shortening.generation(rt));
+                self.store.set_generation(self.shortening.generation(rt));
                 self.store.notices.is_restored(entries);
                 (seat, true)
             }

@@ -77,7 +77,8 @@ impl<B: Naming, D: Disk + Drop, N: StoreNotices + LogFile<D>, R: Wait> Stored<'_
     }
 }
 
-impl<B: Naming, D: Disk + Drop, N: StoreNotices + LogFile<D>, R: Wait> Keeper for Stored<'_, B, D, N, R> {
+impl<B: Naming, D: Disk + Drop, N: StoreNotices + LogFile<D>, R: Wait> Keeper
+    for Stored<'_, B, D, N, R> {
     ghost use Rattle.std.specs.Prelude.{◌≡◌, ℕ};
     ghost use Rattle.up_dispatch.specs.Keepers.{SeatPlans};
     ghost use Rattle.up_store.specs.StoredCommits.{StoredCommits};

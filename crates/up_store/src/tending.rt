@@ -31,8 +31,7 @@ impl<D: Disk + Drop, N: StoreNotices + LogFile<D>, F: Folder<D>> Keeping<'_, D, 
     /// shorter if that is due.
     pub fn tend<R: Wait>(&self, rt: &R, alloc: Global) {
         for _ in rt.forever() {
-            self.is_over
-                .park_timeout(rt, 0, Duration::from_secs(PAUSE));
+            self.is_over.park_timeout(rt, 0, Duration::from_secs(PAUSE));
             if self.is_over.load(Ordering::SeqCst) != 0 {
                 break;
             }
