@@ -1,4 +1,5 @@
 //! Stores over disks in memory.
+mod closing;
 mod failing;
 mod refusing;
 mod running;

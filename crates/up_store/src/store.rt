@@ -18,7 +18,7 @@ const BELLS: u64 = 64;
 pub(crate) enum Turn {
     /// It is on the disk, and was decided on.
     Decided,
-    /// It is on the disk, and memory for it was refused.
+    /// It is on the disk, and was not decided on: memory for it was refused, or the board was closed before.
     Void,
     /// It could not be written.
     Lost,

@@ -122,7 +122,7 @@ impl<B: Naming, D: Disk + Drop, N: StoreNotices + LogFile<D>, R: Wait> Keeper
             .board
             .commit(self.rt, alloc, self.seat, request, id, asked);
         let turn = match &result {
-            Err(Refusal::NoMemory) => Turn::Void,
+            Err(Refusal::NoMemory | Refusal::Closed) => Turn::Void,
             _ => Turn::Decided,
         };
         self.store.end_turn(self.rt, alloc, turn);
