@@ -1,1 +1,1 @@
-mod Books
+pub mod Books

@@ -1,18 +1,22 @@
--- How far a book follows a history.
-use Rattle.std.specs.Prelude.{◌≡◌, ℕ, Bool, true, false, List, [], ◌∷◌, ◌++◌, length}
+-- How far a book follows a log.
+use Rattle.std.specs.Prelude.{◌≡◌, ℕ, Bool, true, false, List, [], ◌∷◌, ◌++◌, length, map}
+use Rattle.std.specs.declared.snapshot.Snapshot.{Snapshot}
 use Rattle.up_events.specs.Records.{empty_records}
 use Rattle.up_log.specs.declared.entry.Entry.{Entry}
 use Rattle.up_machine.specs.State.{State, empty_state}
 use Rattle.up_replay.specs.Replay.{replayed, replayed_one}
 
--- the first entries of a history, and which of them were carried out: not those for which there was no memory, nor those that came
--- after the book was closed
+-- the first entries of a log, and which of them were carried out: not those for which there was no memory
 pub record Following : Type 0 where
   pub entries : List Entry
   pub carried : List Bool
 
 abbrev pub following : List Entry → List Bool → Following
 following entries carried = record { entries = entries; carried = carried }
+
+-- what these snapshots show
+abbrev pub shown_of : List (Snapshot Entry) → List Entry
+shown_of shown = map (λ (s : Snapshot Entry). s.value) shown
 
 -- one entry more
 abbrev pub followed_by : Following → Entry → Bool → Following

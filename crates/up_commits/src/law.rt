@@ -1,4 +1,4 @@
-//! What is known of books that follow a history.
+//! What is known of books that follow a log.
 ghost use Rattle.up_commits.specs.Follows.{BooksFollow, BooksPassOver, ClosedBooksFollow, NewBooksFollow};
 
 use up_replay::replays_begin_alike;

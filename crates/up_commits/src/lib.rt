@@ -1,4 +1,4 @@
-//! How far a book follows a history of entries.
+//! How far a book follows a log, entry by entry.
 #![tactic(auto)]
 
 mod followed;
