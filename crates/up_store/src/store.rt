@@ -157,10 +157,15 @@ impl<D: Disk, N: StoreNotices> Store<D, N> {
         false
     }
 
+    /// The place in the log of the change whose turn it is.
+    pub(crate) fn place<R: Wait>(&self, rt: &R) -> u64 {
+        self.line.lock(rt).place()
+    }
+
     /// Says that the change whose turn it is is void. If that can't be written no other change can be made, since each
     /// would be decided otherwise once the log is read again.
     fn note_void<R: Wait>(&self, rt: &R, alloc: Global) {
-        let place = self.line.lock(rt).place();
+        let place = self.place(rt);
         let written = match self.voids.lock(rt).as_mut() {
             Some(voids) => voids.add(alloc, place),
             None => Err(LogFault::NotRead),
