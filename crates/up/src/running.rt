@@ -50,6 +50,25 @@ fn ending_of(alloc: Global, words: &Words) -> Result<Option<Ending>, AllocError>
     }
 }
 
+/// A store that a thread tends while it is served.
+trait Tended {
+    /// Tends it until `stop_tending` is called.
+    fn tend<R: Wait>(&self, rt: &R, alloc: Global);
+
+    /// Ends `tend`.
+    fn stop_tending(&self);
+}
+
+impl<D: Disk + Drop, N: StoreNotices + LogFile<D>, F: Folder<D>> Tended for Keeping<'_, D, N, F> {
+    fn tend<R: Wait>(&self, rt: &R, alloc: Global) {
+        Keeping::tend(self, rt, alloc);
+    }
+
+    fn stop_tending(&self) {
+        Keeping::stop_tending(self);
+    }
+}
+
 /// What a run is given beside its connections and hooks.
 #[derive(Drop)]
 struct Beside<'a, R> {
@@ -197,20 +216,20 @@ fn run_counted<
     }
 }
 
-/// Serves what the listener accepts, with changes that are written to logs before they are made.
+/// Serves what the listener accepts, with changes that are written to logs before they are made, while a thread tends
+/// the store.
 fn run_kept<
+    'x,
     H: Shown + Drop,
-    D: Disk + Drop + Send,
-    N: StoreNotices + LogFile<D> + Copy + Drop + Send + Sync,
-    F: Folder<D> + Drop + Sync,
+    S: Service + Tended,
     R: Print + Eprint + AllocGlobal + Clock + RandomSource + Threads + Wait + Sync,
 >(
     rt: &R,
-    beside: &Beside<'_, R>,
+    beside: &'x Beside<'x, R>,
     listener: TcpListener,
     hooks: PreHooks,
     post_hooks: Vec<H>,
-    keeping: &Keeping<'_, D, N, F>,
+    keeping: &'x S,
 ) -> Result<(), Fault>
     requires one_for_each { length post_hooks.items ≡ beside.now.settings.lanes }
     requires new { All (λ h. H.is_sound h × (H.handed h ≡ [])) post_hooks.items }
