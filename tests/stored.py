@@ -3,10 +3,13 @@ of a store. """
 import contextlib
 import os
 import random
+import re
 import resource
+import shutil
 import signal
 import subprocess
 import tempfile
+import threading
 import time
 
 import endings
@@ -72,8 +75,22 @@ class Store:
     def path(self, name):
         return os.path.join(self.folder, name)
 
+    def generation(self):
+        """The number behind the name of the last log that is there: how often it was made shorter."""
+        return max(int(name[4:] or 0) for name in self.logs())
+
+    def current(self):
+        """The names of the logs that count."""
+        end = f".{self.generation()}" if self.generation() else ""
+        return {f"log{end}", f"void{end}"}
+
+    def logs(self):
+        """The names of the logs of changes, of which there are two while a shorter one is written."""
+        return [name for name in os.listdir(self.folder) if re.fullmatch(r"log(\.\d+)?", name)]
+
     def size_of_log(self):
-        return os.path.getsize(self.path("log"))
+        """How many bytes the logs of changes have."""
+        return sum(os.path.getsize(self.path(name)) for name in self.logs())
 
     def files(self):
         return files_of(self.folder)
@@ -177,6 +194,30 @@ def small_disk():
             yield folder
         finally:
             subprocess.run(["umount", folder], check=True)
+
+
+@contextlib.contextmanager
+def failing_syncs(process):
+    """Each sync of a process fails for the time of a `with`."""
+    words = ["strace", "-f", "-p", str(process), "-e", "trace=fsync,fdatasync", "-e", "inject=fsync,fdatasync:error=EIO"]
+    with subprocess.Popen(words, stdin=subprocess.DEVNULL, stderr=subprocess.PIPE, bufsize=0) as tracer:
+        # It says when it has attached itself, and again for each thread.
+        tracer.stderr.readline()
+        hearing = threading.Thread(target=tracer.stderr.read)
+        hearing.start()
+        try:
+            yield
+        finally:
+            tracer.terminate()
+            hearing.join()
+
+
+def may_trace():
+    """Whether strace is there, and may trace a process here."""
+    if not shutil.which("strace"):
+        return False
+    words = ["strace", "-f", "-e", "trace=fsync,fdatasync", "-e", "inject=fsync,fdatasync:error=EIO", "true"]
+    return subprocess.run(words, stdin=subprocess.DEVNULL, capture_output=True).returncode == 0
 
 
 def enlarge(disk):

@@ -18,6 +18,9 @@ pub enum Unopened {
     Log(LogFault),
     #[error("{0}")]
     Count(HandedFault),
+    /// The log leaves out more events of the lane than its count has.
+    #[error("the count is less than the log leaves out")]
+    Fewer,
 }
 
 /// Why the program failed.

@@ -9,6 +9,7 @@ mod room;
 mod rules;
 mod running;
 mod store_files;
+mod store_folder;
 mod store_lines;
 
 use crate::fault::Fault;

@@ -5,6 +5,7 @@ ghost use Rattle.up_hooks.specs.Told.{has_code};
 use crate::fault::Fault;
 use crate::notice_lines::NoticeLines;
 use crate::store_files::StoreFiles;
+use crate::store_folder::EndedNotes;
 use crate::store_lines::StoreLines;
 use sqlite_disk::Disk;
 use std::alloc::{AllocError, Global};
@@ -13,6 +14,7 @@ use std::marker::{Send, Sync};
 use std::net::TcpListener;
 use std::random::RandomSource;
 use std::sync::Wait;
+use std::thread;
 use std::thread::Threads;
 use std::time::Clock;
 use up_connections::{Drawn, Ending, Notices, Patience, Visits, Watch};
@@ -21,12 +23,15 @@ use up_events::Event;
 use up_handed::continue_each;
 use up_hooks::{Outcome, PostHook, PreHooks, Recorder, Teller, new_recorders, new_tellers};
 use up_server::{EventLines, ServerFault, Shown, keep_serving, replay, serve};
-use up_store::{Keeping, StoreNotices};
+use up_store::{EndedUploads, Folder, Keeping, LogFile, Shortening, StoreNotices};
 use up_wire::{Output, Sink};
 use up_words::{Settings, Words};
 
 /// The descriptor of standard input.
 const STDIN: i32 = 0;
+
+/// How many bytes a log has, at the least, that is made shorter: 64 MiB.
+const LEAST_LOG: u64 = 1 << 26;
 
 /// Where connections are counted, if the words ask for lines that say how the server stands.
 fn watch_of(words: &Words) -> Option<Watch> {
@@ -42,6 +47,25 @@ fn ending_of(alloc: Global, words: &Words) -> Result<Option<Ending>, AllocError>
             Ok(Some(ending))
         }
         _ => Ok(None),
+    }
+}
+
+/// A store that a thread tends while it is served.
+trait Tended {
+    /// Tends it until `stop_tending` is called.
+    fn tend<R: Wait>(&self, rt: &R, alloc: Global);
+
+    /// Ends `tend`.
+    fn stop_tending(&self);
+}
+
+impl<D: Disk + Drop, N: StoreNotices + LogFile<D>, F: Folder<D>> Tended for Keeping<'_, D, N, F> {
+    fn tend<R: Wait>(&self, rt: &R, alloc: Global) {
+        Keeping::tend(self, rt, alloc);
+    }
+
+    fn stop_tending(&self) {
+        Keeping::stop_tending(self);
     }
 }
 
@@ -192,27 +216,42 @@ fn run_counted<
     }
 }
 
-/// Serves what the listener accepts, with changes that are written to logs before they are made.
+/// Serves what the listener accepts, with changes that are written to logs before they are made, while a thread tends
+/// the store.
 fn run_kept<
+    'x,
     H: Shown + Drop,
-    D: Disk + Drop + Send,
-    N: StoreNotices + Copy + Drop + Send + Sync,
+    S: Service + Tended,
     R: Print + Eprint + AllocGlobal + Clock + RandomSource + Threads + Wait + Sync,
 >(
     rt: &R,
-    beside: &Beside<'_, R>,
+    beside: &'x Beside<'x, R>,
     listener: TcpListener,
     hooks: PreHooks,
     post_hooks: Vec<H>,
-    keeping: &Keeping<D, N>,
+    keeping: &'x S,
 ) -> Result<(), Fault>
     requires one_for_each { length post_hooks.items ≡ beside.now.settings.lanes }
     requires new { All (λ h. H.is_sound h × (H.handed h ≡ [])) post_hooks.items }
 {
-    match visits_of(beside, keeping) {
-        Some(visits) => run_on(rt, beside, &visits, listener, hooks, post_hooks),
-        None => Ok(()),
-    }
+    let Some(visits) = visits_of(beside, keeping) else {
+        return Ok(());
+    };
+    thread::scope(
+        thread::scope_env(),
+        rt,
+        move |scope| -> Result<(), Fault>
+            requires one_for_each { length post_hooks.items ≡ beside.now.settings.lanes }
+            requires new { All (λ h. H.is_sound h × (H.handed h ≡ [])) post_hooks.items }
+        {
+            if scope.spawn(move || keeping.tend(rt, rt.alloc())).is_err() {
+                return Err(Fault::Server(ServerFault::Memory));
+            }
+            let ended = run_on(rt, beside, &visits, listener, hooks, post_hooks);
+            keeping.stop_tending();
+            ended
+        },
+    )
 }
 
 /// Serves what the listener accepts, over the files of a store.
@@ -232,16 +271,21 @@ fn run_stored<
     requires new { All (λ t. ⟦<Teller<F> as PostHook>⟧.is_sound t × (⟦<Teller<F> as PostHook>⟧.handed t ≡ [])) tellers.items }
 {
     let StoreFiles {
-        rt: host,
+        folder,
+        settings,
+        current,
         changes,
         voids,
         counts,
         spare,
-        ..
     } = files;
-    let lines = StoreLines::new(host, spare);
-    let post_hooks = continue_each(rt.alloc(), tellers, counts)?;
-    let keeping = Keeping::new(rt.alloc(), changes, voids, &lines)?;
+    let host = folder.rt;
+    let lines = StoreLines::new(host, folder.path_of("log")?, spare);
+    let ended = EndedUploads::new(rt.alloc());
+    let notes = EndedNotes { rt, ended: &ended };
+    let post_hooks = continue_each(rt.alloc(), tellers, counts, notes)?;
+    let shortening = Shortening::new(current, &ended, folder, settings.lanes, LEAST_LOG);
+    let keeping = Keeping::new(rt.alloc(), changes, voids, &lines, shortening)?;
     run_kept(rt, beside, listener, hooks, post_hooks, &keeping)?;
     if lines.is_unread() {
         return Err(Fault::Told);

@@ -3,24 +3,22 @@ ghost use Rattle.std.specs.Prelude.{◌≡◌, IfOk, vec_len};
 
 use crate::fault::{Fault, Unopened};
 use crate::room::keep_room;
-use sqlite_std_file::{FileFrom, Wary};
-use std::alloc::AllocError;
-use std::fs::DirBuilder;
-use std::io;
-use std::os::unix::fs::DirBuilderExt;
+use crate::store_folder::{StoreFile, StoreFolder};
+use sqlite_std_file::Wary;
+use up_compact::Heads;
 use up_handed::{Opened, open_handed};
-use up_log::{LogReader, Setup, open_file};
+use up_log::{LogReader, Setup};
+use up_store::{Current, Folder};
 use up_words::{Settings, Words};
-
-/// A file of a store. A torn write may leave any bytes of it.
-pub type StoreFile = FileFrom<Wary>;
 
 /// The files of a store, which are open, so that no other server opens them.
 #[derive(Drop)]
 pub struct StoreFiles<'a> {
-    pub rt: &'a HostRuntime,
+    pub folder: StoreFolder<'a>,
     /// The size of the server for which they were opened.
     pub settings: Settings,
+    /// Which logs are the current ones.
+    pub current: Current<StoreFile>,
     /// The changes.
     pub changes: LogReader<StoreFile>,
     /// The places of those that were not made for want of memory.
@@ -32,28 +30,14 @@ pub struct StoreFiles<'a> {
     pub ghost one_each: { vec_len counts ≡ settings.lanes },
 }
 
-/// The path of a file of the folder.
-fn path_of(rt: &HostRuntime, folder: &str, name: &str) -> Result<String, AllocError> {
-    format!(in rt.alloc(); "{folder}/{name}")
-}
-
-/// Makes the folder, unless it is there. Nobody else may look into one that is made.
-fn make_folder(rt: &HostRuntime, folder: &str) -> io::Result<()> {
-    match DirBuilder::new().mode(0o700).create(rt, folder) {
-        Err(error) if error.kind() == io::ErrorKind::AlreadyExists => Ok(()),
-        made => made,
-    }
-}
-
-/// Begins to open the log of this name.
+/// Begins to open the log of this name and generation.
 fn open_log(
-    rt: &HostRuntime,
-    folder: &str,
+    folder: &StoreFolder<'_>,
     name: &str,
-    setup: Setup,
+    generation: u64,
 ) -> Result<LogReader<StoreFile>, Fault> {
-    let path = path_of(rt, folder, name)?;
-    match open_file(rt, path.as_str(), Wary, setup) {
+    let path = folder.path_in(name, generation)?;
+    match folder.open_at(path.as_str()) {
         Ok(reader) => Ok(reader),
         Err(fault) => Err(Fault::Store {
             path,
@@ -62,51 +46,83 @@ fn open_log(
     }
 }
 
-/// Opens the counts of so many lanes.
-fn open_counts(rt: &HostRuntime, folder: &str, lanes: u64) -> Result<Vec<Opened<StoreFile>>, Fault>
+/// Opens the log that tells which logs are the current ones.
+fn open_current(folder: &StoreFolder<'_>) -> Result<Current<StoreFile>, Fault> {
+    let reader = open_log(folder, "heads", 0)?;
+    match Heads::read(folder.rt.alloc(), reader) {
+        Ok((heads, head)) => Ok(Current { heads, head }),
+        Err(fault) => Err(Fault::Store {
+            path: folder.path_of("heads")?,
+            reason: Unopened::Log(fault),
+        }),
+    }
+}
+
+/// Removes what a switch to a shorter log left: the log before the one of this generation, or the one behind it, which
+/// wasn't ready.
+fn tidy_up(folder: &StoreFolder<'_>, generation: u64) {
+    if let Some(next) = generation.checked_add(1) {
+        folder.remove(next);
+    }
+    if generation > 0 {
+        folder.remove(generation - 1);
+    }
+}
+
+/// Opens the count of a lane, so many of whose events the log leaves out.
+fn open_count(
+    folder: &StoreFolder<'_>,
+    lane: u64,
+    left_out: u64,
+) -> Result<Opened<StoreFile>, Fault> {
+    let place = folder.path.as_str();
+    let path = format!(in folder.rt.alloc(); "{place}/handed.{lane}")?;
+    let reason = match open_handed(folder.rt, path.as_str(), Wary) {
+        Ok(count) => match Opened::new(count, left_out) {
+            Some(opened) => return Ok(opened),
+            None => Unopened::Fewer,
+        },
+        Err(fault) => Unopened::Count(fault),
+    };
+    Err(Fault::Store { path, reason })
+}
+
+/// Opens the counts of so many lanes, of which the log leaves out these events.
+fn open_counts(
+    folder: &StoreFolder<'_>,
+    lanes: u64,
+    left_out: &[u64],
+) -> Result<Vec<Opened<StoreFile>>, Fault>
     ensures one_each { IfOk result (λ counts. vec_len counts ≡ lanes) }
 {
-    let mut counts = Vec::new(rt.alloc());
+    let mut counts = Vec::new(folder.rt.alloc());
     for lane in 0..lanes {
-        let path = format!(in rt.alloc(); "{folder}/handed.{lane}")?;
-        match open_handed(rt, path.as_str(), Wary) {
-            Ok(count) => counts.push(Opened::new(count))?,
-            Err(fault) => {
-                return Err(Fault::Store {
-                    path,
-                    reason: Unopened::Count(fault),
-                });
-            }
-        }
+        let less = left_out.get(lane as usize).copied().unwrap_or(0);
+        counts.push(open_count(folder, lane, less)?)?;
     }
     Ok(counts)
 }
 
 /// Opens the files in this folder, which is made if it isn't there.
-fn open_store<'a>(
-    rt: &'a HostRuntime,
-    folder: &str,
-    settings: Settings,
-) -> Result<StoreFiles<'a>, Fault> {
-    if let Err(error) = make_folder(rt, folder) {
-        let path = String::from_str(rt.alloc(), folder)?;
+fn open_store<'a>(folder: StoreFolder<'a>, settings: Settings) -> Result<StoreFiles<'a>, Fault> {
+    if let Err(error) = folder.make_folder() {
         return Err(Fault::Store {
-            path,
+            path: folder.path,
             reason: Unopened::Folder(error),
         });
     }
-    let setup = Setup {
-        lanes: settings.lanes,
-        max_size: settings.max_size,
-    };
-    let changes = open_log(rt, folder, "log", setup)?;
-    let voids = open_log(rt, folder, "void", setup)?;
-    let counts = open_counts(rt, folder, settings.lanes)?;
-    let spare = path_of(rt, folder, "spare")?;
-    keep_room(rt, spare.as_str());
+    let current = open_current(&folder)?;
+    let generation = current.head.generation;
+    tidy_up(&folder, generation);
+    let changes = open_log(&folder, "log", generation)?;
+    let voids = open_log(&folder, "void", generation)?;
+    let counts = open_counts(&folder, settings.lanes, current.head.left_out.as_slice())?;
+    let spare = folder.path_of("spare")?;
+    keep_room(folder.rt, spare.as_str());
     Ok(StoreFiles {
-        rt,
+        folder,
         settings,
+        current,
         changes,
         voids,
         counts,
@@ -119,8 +135,16 @@ pub fn store_of<'a>(rt: &'a HostRuntime, words: &Words) -> Result<Option<StoreFi
     let Some(serving) = &words.serve else {
         return Ok(None);
     };
-    match &serving.store {
-        Some(folder) => Ok(Some(open_store(rt, folder.as_str(), words.settings)?)),
-        None => Ok(None),
-    }
+    let Some(path) = &serving.store else {
+        return Ok(None);
+    };
+    let folder = StoreFolder {
+        rt,
+        path: String::from_str(rt.alloc(), path.as_str())?,
+        setup: Setup {
+            lanes: words.settings.lanes,
+            max_size: words.settings.max_size,
+        },
+    };
+    Ok(Some(open_store(folder, words.settings)?))
 }

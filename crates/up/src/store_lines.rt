@@ -1,14 +1,19 @@
 //! What is said of a store.
 use crate::room::{give_up_room, keep_room};
+use crate::store_folder::StoreFile;
+use sqlite_std_file::Wary;
 use std::sync::atomic::{AtomicBool, Ordering};
-use up_log::LogFault;
+use up_log::{LogFault, open_device};
 use up_replay::Unrestored;
-use up_store::StoreNotices;
+use up_store::{LogFile, StoreNotices};
 
-/// Lines on standard error that say how it stands with a store, and the file that keeps room for removals.
+/// Lines on standard error that say how it stands with a store, the file of its changes, and the one that keeps room for
+/// removals.
 #[derive(Drop)]
 pub struct StoreLines<'a> {
     rt: &'a HostRuntime,
+    /// The path of the first log of the changes. Each further one has its generation behind it.
+    log: String,
     /// The path of the file that keeps room.
     spare: String,
     /// Whether the log could not be carried out again, so that nothing is served.
@@ -16,10 +21,11 @@ pub struct StoreLines<'a> {
 }
 
 impl<'a> StoreLines<'a> {
-    /// No line was said. The file at this path keeps room.
-    pub fn new(rt: &'a HostRuntime, spare: String) -> StoreLines<'a> {
+    /// No line was said. The changes are in the file at the first path, and that at the second keeps room.
+    pub fn new(rt: &'a HostRuntime, log: String, spare: String) -> StoreLines<'a> {
         StoreLines {
             rt,
+            log,
             spare,
             is_unread: AtomicBool::new(false),
         }
@@ -56,7 +62,31 @@ impl StoreNotices for &StoreLines<'_> {
         );
     }
 
+    fn is_shorter(&self, before: u64, now: u64) {
+        let _ = eprintln!(self.rt; "up_server: the log has {now} bytes instead of {before}");
+    }
+
+    fn is_not_shorter(&self, fault: LogFault) {
+        let _ = eprintln!(self.rt; "up_server: the log can't be made shorter yet: {fault}");
+    }
+
     fn makes_room(&self) -> bool {
         give_up_room(self.rt, self.spare.as_str())
+    }
+}
+
+impl LogFile<StoreFile> for &StoreLines<'_> {
+    fn open_again(
+        &self,
+        generation: u64,
+        failed: Option<StoreFile>,
+    ) -> Result<StoreFile, LogFault> {
+        drop(failed);
+        let log = self.log.as_str();
+        if generation == 0 {
+            return open_device(self.rt, log, Wary);
+        }
+        let path = format!(in self.rt.alloc(); "{log}.{generation}")?;
+        open_device(self.rt, path.as_str(), Wary)
     }
 }

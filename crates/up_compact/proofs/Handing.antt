@@ -1,8 +1,8 @@
 -- What is still to be handed over.
-use Rattle.std.proofs.Common.{◌≡◌, ℕ, ◌+◌, ◌-◌, ◌%◌, ◌≤◌, Bool, true, false, cond, eqb, not, Some, None, List, [], ◌∷◌, ◌++◌, drop, length, filter, refl, sym, ap, ◌∙◌, subst, arith, append_assoc}
+use Rattle.std.proofs.Common.{◌≡◌, ℕ, ◌+◌, ◌-◌, ◌%◌, ◌≤◌, Bool, true, false, cond, eqb, not, Some, None, List, [], ◌∷◌, ◌++◌, drop, take, min, length, filter, refl, sym, ap, ◌∙◌, subst, arith, append_assoc}
 use Rattle.std.specs.FinMap as map
 use Rattle.std.specs.List.{All}
-use Rattle.std.proofs.lemmas.List.{append-nil, drop_at, drop-drop}
+use Rattle.std.proofs.lemmas.List.{append-nil, drop_at, drop-drop, length-append, length-take, take-append-drop}
 use Rattle.std.proofs.lemmas.List.Elements.{All-head, All-tail, filter-append}
 use Rattle.up_events.specs.History.{id_of, events_of, steps_of}
 use Rattle.up_events.specs.Log.{numbered}
@@ -20,7 +20,7 @@ use Rattle.up_machine.specs.Decision.{change_of, patch_declared, response_to, ro
 use Rattle.up_machine.specs.State.{Contents, State, after, extended, first_bytes}
 use Rattle.up_machine.specs.declared.plan.Done.{Done}
 use Rattle.up_replay.specs.Replay.{asked_of, carried, replayed, replayed_one}
-use Rattle.up_compact.specs.Shorter.{AreGone, RestIsHandedAlike, events_without, is_about, left_out_events, makes}
+use Rattle.up_compact.specs.Shorter.{AreGone, OthersAreHandedAlike, RestIsHandedAlike, events_without, is_about, left_out_events, makes}
 use Rattle.up_compact.proofs.Others.{cond_stayed, logs_without}
 use Rattle.up_compact.proofs.Shortening.{change_cases}
 use Rattle.up_compact.proofs.Ending.{ended_stay, gone_one, unmoved}
@@ -133,3 +133,38 @@ rest_handed among s t more lane handed e none past =
     ap (λ (l : List Event). drop rest l) shorter ∙ drop_past rest short on.added reaches
     ∙ ap (λ (k : ℕ). drop k on.added) same
     ∙ sym (ap (λ (l : List Event). drop handed l) longer ∙ drop_past handed long on.added past)
+
+all_stay : (among : ℕ → Bool) (events : List Event) → All (λ (e : Event). among e.id ≡ false) events → events_without among events ≡ events
+all_stay among [] all = refl
+all_stay among (e ∷ events) all =
+    let Stays : Event → Type 0 = λ (x : Event). among x.id ≡ false in
+    let here = All-head Stays e events all in
+    let rest = all_stay among events (All-tail Stays e events all) in
+    subst (λ (b : Bool). cond (not b) (e ∷ events_without among events) (events_without among events) ≡ e ∷ events) (sym here)
+    (ap (λ (l : List Event). e ∷ l) rest)
+
+pub others_handed : OthersAreHandedAlike
+others_handed among s t lane handed w all =
+    let long = lane_log s.journal lane in
+    let short = lane_log t.journal lane in
+    let first = take handed long in
+    let rest = drop handed long in
+    let stayed = events_without among first in
+    let split : first ++ rest ≡ long = take-append-drop handed long in
+    let short_is : short ≡ stayed ++ rest =
+    logs_without among s t lane w
+    ∙ ap (events_without among) (sym split)
+    ∙ filter-append (λ (x : Event). not (among x.id)) first rest
+    ∙ ap (λ (l : List Event). stayed ++ l) (all_stay among rest all) in
+    let long_len : length long ≡ length first + length rest = ap (λ (l : List Event). length l) (sym split) ∙ length-append first rest in
+    let short_len : length short ≡ length stayed + length rest = ap (λ (l : List Event). length l) short_is ∙ length-append stayed rest in
+    let less : length stayed ≤ length first = fewer (λ (x : Event). not (among x.id)) first in
+    let taken : length first ≡ min handed (length long) = length-take handed long in
+    let past : length first ≤ handed = omega arith in
+    let n = handed - left_out_events s t lane in
+    let reaches : length stayed ≤ n = omega arith in
+    let same : n - length stayed ≡ handed - length first = omega arith in
+    ap (λ (l : List Event). drop n l) short_is ∙ drop_past n stayed rest reaches
+    ∙ ap (λ (k : ℕ). drop k rest) same
+    ∙ sym (drop_past handed first rest past)
+    ∙ ap (λ (l : List Event). drop handed l) split

@@ -12,7 +12,7 @@ numbered n = record { id = n; consent = Skipped; request = request.Options }
 
 -- the numbers of a head
 abbrev pub numbers_in : Head → List ℕ
-numbers_in head = head.generation ∷ head.entries ∷ head.events
+numbers_in head = head.generation ∷ head.entries ∷ head.left_out
 
 -- the batch that says a head
 abbrev pub batch_of : Head → List Entry
@@ -26,11 +26,12 @@ ids_of batch = map (λ (entry : Entry). entry.id) batch
 abbrev pub head_of : List ℕ → Option Head
 head_of [] = None
 head_of (generation ∷ []) = None
-head_of (generation ∷ entries ∷ events) = Some (record { generation = generation; entries = entries; events = events })
+head_of (generation ∷ entries ∷ left_out) =
+    Some (record { generation = generation; entries = entries; left_out = left_out })
 
 -- the log that was made first: of it nothing was left out
 abbrev pub first_head : Head
-first_head = record { generation = 0; entries = 0; events = [] }
+first_head = record { generation = 0; entries = 0; left_out = [] }
 
 -- the head that holds after these batches; none if one of them says no head
 abbrev pub head_after : Head → List (List Entry) → Option Head

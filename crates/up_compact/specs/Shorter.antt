@@ -147,3 +147,12 @@ RestIsHandedAlike =
     → length (lane_log s.journal lane) ≤ handed
     → drop (handed - left_out_events s t lane) (lane_log (replayed t more).journal lane)
     ≡ drop handed (lane_log (replayed s more).journal lane)
+
+-- once all events of the uploads that are left out have been handed over, however far a lane has come with the others,
+-- the same events are still to be handed over of both logs
+abbrev pub OthersAreHandedAlike : Type 0
+OthersAreHandedAlike =
+    (among : ℕ → Bool) (s t : State) (lane handed : ℕ)
+    → IsWithout among s t
+    → All (λ (e : Event). among e.id ≡ false) (drop handed (lane_log s.journal lane))
+    → drop (handed - left_out_events s t lane) (lane_log t.journal lane) ≡ drop handed (lane_log s.journal lane)

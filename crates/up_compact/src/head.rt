@@ -1,5 +1,5 @@
 //! Which log is the current one.
-ghost use Rattle.std.specs.Prelude.{◌≡◌, ◌-◌, IfOk};
+ghost use Rattle.std.specs.Prelude.{◌≡◌, IfOk};
 ghost use Rattle.up_compact.specs.Heads.{batch_of, first_head, head_of, ids_of, numbered};
 
 use std::alloc::{AllocError, Global};
@@ -13,18 +13,10 @@ use up_message::Sequence;
 pub struct Head {
     /// How many logs were written before it.
     pub generation: u64,
-    /// How many of its entries stand for the log before, as that was when the uploads were chosen.
+    /// How many entries it had when it became the one that counts.
     pub entries: u64,
-    /// How many events each lane's log had then, with those that were left out earlier.
-    pub events: Sequence<u64>,
-}
-
-/// By how many events a lane's log is shorter than it would be with all that was left out. `events` is what the head
-/// tells of the lane, and `len` the length of the lane's log after as many entries as the head tells.
-pub fn events_left_out(events: u64, len: u64) -> u64
-    ensures { result ≡ events - len }
-{
-    events.saturating_sub(len)
+    /// How many events of each lane it leaves out, with those that were left out earlier. They were all handed over.
+    pub left_out: Sequence<u64>,
 }
 
 /// An entry that asks for nothing, and has this number for its id.
@@ -61,7 +53,7 @@ impl Head {
         Head {
             generation: 0,
             entries: 0,
-            events: Sequence::new(alloc),
+            left_out: Sequence::new(alloc),
         }
     }
 
@@ -73,11 +65,11 @@ impl Head {
         if numbers.len() < 2 {
             return Err(LogFault::Damaged);
         }
-        let (first, events) = numbers.split_at(2);
+        let (first, left_out) = numbers.split_at(2);
         Ok(Head {
             generation: first[0],
             entries: first[1],
-            events: Sequence::from_slice(alloc, events)?,
+            left_out: Sequence::from_slice(alloc, left_out)?,
         })
     }
 
@@ -88,7 +80,7 @@ impl Head {
         let mut batch = Vec::new(alloc);
         batch.push(Spelled::new(alloc, &entry_of(self.generation))?)?;
         batch.push(Spelled::new(alloc, &entry_of(self.entries))?)?;
-        for count in self.events.as_slice() {
+        for count in self.left_out.as_slice() {
             batch.push(Spelled::new(alloc, &entry_of(*count))?)?;
         }
         Ok(batch)

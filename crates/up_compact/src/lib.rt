@@ -8,7 +8,7 @@ mod law;
 mod survey;
 mod writing;
 
-pub use head::{Head, events_left_out};
+pub use head::Head;
 pub use heads::{Heads, last_head_holds};
 pub use joining::Joining;
 pub use law::{ended_are_left_out, shorter_logs_define_the_rest};

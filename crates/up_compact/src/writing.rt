@@ -22,6 +22,8 @@ pub struct Progress {
     pub place: usize,
     /// How many entries stand before it.
     pub count: u64,
+    /// How many of them stayed.
+    pub stayed: u64,
 }
 
 /// What a shorter log leaves out.
@@ -86,16 +88,26 @@ pub fn add_staying<D: Disk>(
         (carried_out (has left_out.now.voids) progress.count entries.now))) }
     ensures further { IfOk result (λ p. (p.place ≡ next)
         × (p.count ≡ progress.count + length entries.now)) }
+    ensures stayed { IfOk result (λ p. p.stayed ≡ progress.stayed
+        + length (kept (has left_out.now.uploads)
+        (carried_out (has left_out.now.voids) progress.count entries.now))) }
 {
     // No log has so many entries.
     let Some(count) = progress.count.checked_add(entries.len() as u64) else {
         return Err(LogFault::Damaged);
     };
     let spelled = spell_staying(alloc, left_out, progress.count, entries)?;
+    let Some(stayed) = progress.stayed.checked_add(spelled.len() as u64) else {
+        return Err(LogFault::Damaged);
+    };
     if !spelled.is_empty() {
         shorter.append(alloc, &spelled)?;
     }
-    Ok(Progress { place: next, count })
+    Ok(Progress {
+        place: next,
+        count,
+        stayed,
+    })
 }
 
 impl Progress {
@@ -106,6 +118,7 @@ impl Progress {
         Progress {
             place: Log::<D>::first_place(),
             count: 0,
+            stayed: 0,
         }
     }
 }

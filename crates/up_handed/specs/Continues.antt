@@ -1,5 +1,5 @@
 -- What contracts say of a post-hook that goes on where earlier runs ended.
-use Rattle.std.specs.Prelude.{◌≡◌, ℕ, max, List, length, drop}
+use Rattle.std.specs.Prelude.{◌≡◌, ◌+◌, ℕ, max, List, length, drop}
 use Rattle.sqlite_disk.specs.declared.Disk.{Ghosts}
 use Rattle.up_events.specs.declared.event.Event.{Event}
 use Rattle.up_handed.specs.declared.continued.Continued.{Continued}
@@ -10,11 +10,15 @@ use Rattle.up_handed.specs.OnDisk.{IsOnDisk}
 use Rattle.up_hooks.specs.declared.post_hook.PostHook as post_hook
 
 module _ {H D : Type 0} {g : Ghosts D} where
-  -- how many events earlier runs handed over
+  -- how many events that come no more earlier runs handed over
+  abbrev pub left_out_of : Continued H D g → ℕ
+  left_out_of continued = continued.left_out
+
+  -- how many events of those that come earlier runs handed over
   abbrev pub before_of : Continued H D g → ℕ
   before_of continued = continued.before
 
-  -- the events that all runs together handed over, in order
+  -- the events of those that come that all runs together handed over, in order
   abbrev pub events_of : Continued H D g → List Event
   events_of continued = continued.told.items
 
@@ -32,9 +36,11 @@ module _ {H D : Type 0} {g : Ghosts D} where
     pub further : h.handed continued.hook ≡ drop continued.before continued.told.items
 
 module _ {H D : Type 0} (g : Ghosts D) where
-  -- the number of all events that were handed over, or of those of earlier runs if these are more, is on the disk
+  -- the number of all events that were handed over, or of those of earlier runs if these are more, is on the disk, with
+  -- those that come no more
   abbrev pub IsAllCounted : Continued H D g → Type 0
-  IsAllCounted continued = IsOnDisk g continued.handed.device (max continued.before (length continued.told.items))
+  IsAllCounted continued =
+      IsOnDisk g continued.handed.device (continued.left_out + max continued.before (length continued.told.items))
 
   -- the count had a fault, as it has where one is added
   abbrev pub IsStopped : Continued H D g → Continued H D g → Type 0

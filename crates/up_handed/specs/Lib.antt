@@ -2,3 +2,4 @@ pub mod OnDisk
 pub mod Faults
 pub mod Counts
 pub mod Continues
+pub mod Notes

@@ -1,5 +1,5 @@
 //! A post-hook that goes on where earlier runs ended.
-ghost use Rattle.std.specs.Prelude.{◌≡◌, ◌⊎◌, ◌+◌, ◌<◌, ◌&&◌, [], List, length, min, max, not, true, false, OnOk, OnErr, IsTrue};
+ghost use Rattle.std.specs.Prelude.{◌≡◌, ◌⊎◌, ◌+◌, ◌<◌, ◌≤◌, ◌^◌, ◌&&◌, [], List, length, min, max, not, true, false, OnOk, OnErr, IsTrue};
 ghost use Rattle.up_events.specs.declared.event.Event.{Event as Told};
 ghost use Rattle.up_handed.specs.Counts.{count_of, device_of};
 ghost use Rattle.up_handed.specs.OnDisk.{IsOnDisk, CountsAllButOne};
@@ -15,23 +15,29 @@ use up_hooks::{Outcome, PostHook};
 /// its events, from the first on. It passes over those that earlier runs handed over, hands each further one to the
 /// post-hook within, and then adds one to the count. So the count is that of all events or of all but the last, and
 /// after a crash at most that one comes again. While an event isn't counted yet there is no room for another.
+///
+/// Events that earlier runs handed over may come no more, since a shorter log leaves them out. The count has them too.
 #[derive(Drop)]
 pub struct Continued<H, D: Disk> {
     hook: H,
     handed: Handed<D>,
     told: Trace<Event>,
-    /// How many events earlier runs handed over.
+    /// How many events that come no more earlier runs handed over.
+    left_out: u64,
+    /// How many events of those that come earlier runs handed over.
     before: u64,
     /// How many of them were passed over.
     passed: u64,
     /// Whether the last event was handed over, and isn't counted yet.
     is_owed: bool,
     ghost passes: { passed ≡ min (length told.items) before },
-    ghost all: { is_owed ≡ false → count_of handed ≡ max before (length told.items) },
+    ghost all: { is_owed ≡ false → count_of handed ≡ left_out + max before (length told.items) },
     ghost on_disk: { is_owed ≡ false → IsOnDisk D.Disk (device_of handed) (count_of handed) },
     ghost last: { is_owed ≡ true → before < length told.items },
-    ghost all_but_one: { is_owed ≡ true → count_of handed + 1 ≡ length told.items },
-    pub ghost counted: { CountsAllButOne D.Disk (device_of handed) before (length told.items) },
+    ghost all_but_one: { is_owed ≡ true → count_of handed + 1 ≡ left_out + length told.items },
+    ghost fits: { left_out + before < 2 ^ 64 },
+    pub ghost counted: { CountsAllButOne D.Disk (device_of handed)
+        (left_out + before) (left_out + length told.items) },
 }
 
 impl<H: PostHook, D: Disk + Send> PostHook for Continued<H, D> {
@@ -60,7 +66,8 @@ impl<H: PostHook, D: Disk + Send> PostHook for Continued<H, D> {
             (IsAllCounted D.Disk self.new ⊎ IsStopped D.Disk self.old self.new) }
     {
         if self.is_owed {
-            if self.handed.add(&self.hook, self.before).is_err() {
+            let earlier = self.left_out + self.before;
+            if self.handed.add(&self.hook, earlier).is_err() {
                 return Err(NoMemory);
             }
             self.is_owed = false;
@@ -74,14 +81,15 @@ impl<H: PostHook, D: Disk + Send> PostHook for Continued<H, D> {
             self.passed += 1;
             return Outcome::Done;
         }
+        let earlier = self.left_out + self.before;
         let outcome = self.hook.hand(event);
-        self.is_owed = self.handed.add(&self.hook, self.before).is_err();
+        self.is_owed = self.handed.add(&self.hook, earlier).is_err();
         outcome
     }
 }
 
 impl<H: PostHook, D: Disk + Send> Continued<H, D> {
-    ghost use Rattle.up_handed.specs.Continues.{before_of, hook_of, handed_of};
+    ghost use Rattle.up_handed.specs.Continues.{before_of, hook_of, handed_of, left_out_of};
 
     /// A post-hook that was handed nothing, of a run that goes on behind this number of events. The number is on the
     /// disk, as that of a count which was just opened.
@@ -91,15 +99,33 @@ impl<H: PostHook, D: Disk + Send> Continued<H, D> {
         requires on_disk { IsOnDisk D.Disk (device_of handed) (count_of handed) }
         ensures hook { hook_of result ≡ hook }
         ensures before { before_of result ≡ count_of handed }
+        ensures all { left_out_of result ≡ 0 }
         ensures handed { handed_of result ≡ handed }
         ensures sound { ⟦<Continued<H, D> as PostHook>⟧.is_sound result }
         ensures events { ⟦<Continued<H, D> as PostHook>⟧.handed result ≡ [] }
     {
-        let before = handed.count();
+        Continued::without(hook, handed, 0)
+    }
+
+    /// The same, of a run to which so many of these events come no more, since a shorter log leaves them out.
+    pub fn without(hook: H, handed: Handed<D>, left_out: u64) -> Self
+        requires sound { H.is_sound hook }
+        requires handed { H.handed hook ≡ [] }
+        requires on_disk { IsOnDisk D.Disk (device_of handed) (count_of handed) }
+        requires fits { left_out ≤ count_of handed }
+        ensures hook { hook_of result ≡ hook }
+        ensures before { left_out + before_of result ≡ count_of handed }
+        ensures left_out { left_out_of result ≡ left_out }
+        ensures handed { handed_of result ≡ handed }
+        ensures sound { ⟦<Continued<H, D> as PostHook>⟧.is_sound result }
+        ensures events { ⟦<Continued<H, D> as PostHook>⟧.handed result ≡ [] }
+    {
+        let before = handed.count() - left_out;
         Continued {
             hook,
             handed,
             told: Trace::new(),
+            left_out,
             before,
             passed: 0,
             is_owed: false,
@@ -108,16 +134,16 @@ impl<H: PostHook, D: Disk + Send> Continued<H, D> {
 }
 
 impl<H, D: Disk> Continued<H, D> {
-    ghost use Rattle.up_handed.specs.Continues.{before_of, events_of, hook_of, handed_of};
+    ghost use Rattle.up_handed.specs.Continues.{before_of, events_of, hook_of, handed_of, left_out_of};
 
-    /// How many events earlier runs handed over.
+    /// How many events of those that come earlier runs handed over.
     pub fn before(&self) -> u64
         ensures { result ≡ before_of self.now }
     {
         self.before
     }
 
-    /// How many events all runs together have handed over, as the disk counts them.
+    /// How many events all runs together have handed over, as the disk counts them, with those that come no more.
     pub fn count(&self) -> u64
         ensures { result ≡ count_of (handed_of self.now) }
     {
@@ -136,7 +162,7 @@ impl<H, D: Disk> Continued<H, D> {
         ensures hook { result.0 ≡ hook_of self }
         ensures handed { result.1 ≡ handed_of self }
         ensures counted { CountsAllButOne D.Disk (device_of result.1)
-            (before_of self) (length (events_of self)) }
+            (left_out_of self + before_of self) (left_out_of self + length (events_of self)) }
     {
         (self.hook, self.handed)
     }

@@ -9,6 +9,7 @@ mod fault;
 mod file;
 mod handed;
 mod handed_to;
+mod noting;
 mod restarting;
 
 pub use continued::Continued;
@@ -17,4 +18,5 @@ pub use fault::HandedFault;
 pub use file::open_handed;
 pub use handed::{Handed, Refused};
 pub use handed_to::HandedTo;
+pub use noting::{EndedUpload, Endings, Noting};
 pub use restarting::restart;

@@ -2,6 +2,7 @@ pub mod Loop
 pub mod Again
 pub mod Crash
 pub mod Batches
+pub mod Closing
 pub mod Headings
 pub mod Mending
 pub mod Parts

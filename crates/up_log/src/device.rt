@@ -61,6 +61,23 @@ pub(crate) fn len_of<D: Disk>(disk: &mut D) -> Result<usize, LogFault>
     Ok(disk.len()?)
 }
 
+/// Brings all that a file has to the disk.
+pub(crate) fn settle<D: Disk>(disk: &mut D) -> Result<(), LogFault>
+    ensures synced { OnOk result (Only (D.seen disk.new) (D.may_leave disk.new)
+        × IsTrue (D.is_usable disk.new)) }
+    ensures fault { IfErr result (λ fault. IsRefusal fault → ⊥) }
+    ensures memory { IfErr result (λ fault. fault ≢ LogFault.Memory) }
+    ensures seen { D.seen disk.new ≡ D.seen disk.old }
+    ensures calm { D.is_clean disk.new ≡ D.is_clean disk.old }
+    ensures crash { (c : List ℕ) → D.may_leave disk.new c → D.may_leave disk.old c }
+{
+    if !disk.may_be_used() {
+        return Err(LogFault::Broken);
+    }
+    disk.sync()?;
+    Ok(())
+}
+
 /// Writes bytes at this place, so that they are on the disk at `Ok`.
 pub(crate) fn write_synced<D: Disk>(disk: &mut D, at: usize, bytes: &[u8]) -> Result<(), LogFault>
     requires some { 0 < length bytes.now }
@@ -78,8 +95,7 @@ pub(crate) fn write_synced<D: Disk>(disk: &mut D, at: usize, bytes: &[u8]) -> Re
         return Err(LogFault::Broken);
     }
     disk.write_at(at, bytes)?;
-    disk.sync()?;
-    Ok(())
+    settle(disk)
 }
 
 /// Whether all that a file has is on the disk, which is tried after a write that failed.
@@ -90,7 +106,7 @@ fn settles<D: Disk>(disk: &mut D) -> bool
     ensures calm { D.is_clean disk.new ≡ D.is_clean disk.old }
     ensures crash { (c : List ℕ) → D.may_leave disk.new c → D.may_leave disk.old c }
 {
-    disk.may_be_used() && disk.sync().is_ok()
+    settle(disk).is_ok()
 }
 
 /// As `write_synced`; it also tells whether all that the file then has is on the disk, also after an error.

@@ -5,23 +5,32 @@ use crate::setup::Setup;
 use sqlite_disk::{Files, Start};
 use sqlite_std_file::{FileFrom, OpenError, open};
 
-/// Begins to open the log of a server of this setup in the file at this path, which is made if there is none. Until
-/// the log is dropped nobody else opens the file (`Busy`). An empty file with `-wal` at the end of its name stays
-/// beside it.
+/// Opens the file at this path, which is made if there is none. Until it is dropped nobody else opens it (`Busy`). An
+/// empty file with `-wal` at the end of its name stays beside it.
+pub fn open_device<S: Start>(
+    rt: &HostRuntime,
+    path: &str,
+    start: S,
+) -> Result<FileFrom<S>, LogFault> {
+    match open(rt, path, start) {
+        Ok(Files { log: _wal, db }) => Ok(db),
+        Err(OpenError::Io(error)) => Err(LogFault::Disk(error)),
+        Err(OpenError::OutOfMemory) => Err(LogFault::Memory),
+        Err(OpenError::Busy) => Err(LogFault::Busy),
+        Err(OpenError::HotJournal) => Err(LogFault::Foreign),
+    }
+}
+
+/// Begins to open the log of a server of this setup in the file at this path, as `open_device` does.
 pub fn open_file<S: Start>(
     rt: &HostRuntime,
     path: &str,
     start: S,
     setup: Setup,
 ) -> Result<LogReader<FileFrom<S>>, LogFault> {
-    match open(rt, path, start) {
-        Ok(Files { log: _wal, db }) => match LogReader::open(rt.alloc(), db, setup) {
-            Ok(reader) => Ok(reader),
-            Err(refused) => Err(refused.fault),
-        },
-        Err(OpenError::Io(error)) => Err(LogFault::Disk(error)),
-        Err(OpenError::OutOfMemory) => Err(LogFault::Memory),
-        Err(OpenError::Busy) => Err(LogFault::Busy),
-        Err(OpenError::HotJournal) => Err(LogFault::Foreign),
+    let device = open_device(rt, path, start)?;
+    match LogReader::open(rt.alloc(), device, setup) {
+        Ok(reader) => Ok(reader),
+        Err(refused) => Err(refused.fault),
     }
 }

@@ -36,7 +36,7 @@ pub struct Refused<D: Disk> {
 
 /// Puts a closed gate behind the blocks, where a crash left no gate, or a gate and nothing behind it. Anything else is
 /// closed already.
-fn mend<D: Disk>(disk: &mut D, len: usize, gate: usize) -> Result<(), LogFault>
+pub(crate) fn mend<D: Disk>(disk: &mut D, len: usize, gate: usize) -> Result<(), LogFault>
     ensures mended { (setup : Numbers) (batches : List (List Logged))
         → IsLog setup (D.seen disk.old) batches
         → gate ≡ length (written setup batches) → len ≡ length (D.seen disk.old)

@@ -6,7 +6,7 @@ ghost use Rattle.sqlite_disk.specs.Refusal.{finds_no_room};
 use sqlite_disk::{Disk, Tally};
 use std::io;
 
-/// A disk of which one call fails, and the next ones are as before.
+/// A disk of which one call fails, and the next ones are as before; if it is a sync, once the file is opened again.
 #[derive(Drop)]
 pub struct FullOnce<D: Disk> {
     inner: D,

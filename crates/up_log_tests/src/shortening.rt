@@ -119,7 +119,7 @@ fn a_shorter_log_has_what_stays(rt: HostRuntime) -> Result<(), Fail> {
     let left_out = left_out(alloc)?;
     let start = Progress::start::<Memory>();
     let reached = catch_up(alloc, &mut log, &mut shorter, &left_out, start)?;
-    assert_eq!(rt; reached.count, 5);
+    assert_eq!(rt; (reached.count, reached.stayed), (5, 1));
     assert_eq!(rt; reached.place, log.end_place());
     // What is added to the log meanwhile is added to the shorter one from there on.
     log.append(
@@ -127,7 +127,7 @@ fn a_shorter_log_has_what_stays(rt: HostRuntime) -> Result<(), Fail> {
         &spelled_of(alloc, &[(What::Put, 5, 3), (What::Make, 7, 2)])?,
     )?;
     let reached = catch_up(alloc, &mut log, &mut shorter, &left_out, reached)?;
-    assert_eq!(rt; reached.count, 7);
+    assert_eq!(rt; (reached.count, reached.stayed), (7, 3));
     assert!(rt; shorter.end_place() < log.end_place());
     let book = book_of(alloc, shorter)?;
     assert_eq!(rt; book.journal().accepted_count(), 3);

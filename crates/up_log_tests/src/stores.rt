@@ -1,6 +1,8 @@
 //! Stores over disks in memory.
+mod closing;
 mod failing;
 mod refusing;
 mod running;
+mod shorter;
 mod together;
 mod voids;

@@ -5,13 +5,17 @@ ghost use Rattle.up_dispatch.specs.Answering.{Serves, course};
 ghost use Rattle.up_dispatch.specs.Turn.{Converses, stand};
 ghost use Rattle.up_store.specs.StoredCommits.{by_stored_seat};
 
+use crate::folder::Folder;
+use crate::held::LogFile;
 use crate::notices::StoreNotices;
-use crate::restoring::restore_on;
+use crate::restoring::restore_all_on;
+use crate::shortening::Shortening;
 use crate::store::Store;
 use crate::stored::Stored;
 use sqlite_disk::Disk;
 use std::alloc::{AllocError, Global};
 use std::marker::{Send, Sync};
+use std::sync::atomic::AtomicU64;
 use std::sync::{Mutex, Wait};
 use up_dispatch::{Board, Ended, Ids, Naming, Seat, Service, converse};
 use up_hooks::PreHooks;
@@ -20,34 +24,50 @@ use up_wire::{Sink, Source};
 
 /// A store, from before its logs are read on.
 #[derive(Drop)]
-pub struct Keeping<D: Disk, N> {
+pub struct Keeping<'a, D: Disk, N, F> {
     /// The log of the changes, and that of the voids, until they are read.
     readers: Mutex<Option<(LogReader<D>, LogReader<D>)>>,
-    store: Store<D, N>,
+    pub(crate) store: Store<D, N>,
+    pub(crate) shortening: Shortening<'a, D, F>,
+    /// 1 once nobody tends the store any more. Who tends it sleeps on this.
+    pub(crate) is_over: AtomicU64,
 }
 
-impl<D: Disk, N> Keeping<D, N> {
-    /// Over the log of the changes and that of the voids, of which nothing is read yet. An error is want of memory.
+impl<'a, D: Disk, N, F> Keeping<'a, D, N, F> {
+    /// Over the log of the changes and that of the voids, of which nothing is read yet, and with what makes it shorter.
+    /// An error is want of memory.
     pub fn new(
         alloc: Global,
         changes: LogReader<D>,
         voids: LogReader<D>,
         notices: N,
-    ) -> Result<Keeping<D, N>, AllocError>
+        shortening: Shortening<'a, D, F>,
+    ) -> Result<Keeping<'a, D, N, F>, AllocError>
     where
         D: Drop,
         N: Drop,
+        F: Drop,
     {
         Ok(Keeping {
             store: Store::unread(alloc, notices)?,
             readers: Mutex::new(Some((changes, voids))),
+            shortening,
+            is_over: AtomicU64::new(0),
         })
     }
 }
 
 /// Holds one conversation from a seat of the board, with ids of this source. Each change is in the log before the board
 /// hears of it.
-pub fn converse_stored<B: Naming, D: Disk, N: StoreNotices, I: Ids, R: Source, W: Sink, T: Wait>(
+pub fn converse_stored<
+    B: Naming,
+    D: Disk + Drop,
+    N: StoreNotices + LogFile<D>,
+    I: Ids,
+    R: Source,
+    W: Sink,
+    T: Wait,
+>(
     rt: &T,
     alloc: Global,
     board: &Board<B>,
@@ -68,7 +88,11 @@ pub fn converse_stored<B: Naming, D: Disk, N: StoreNotices, I: Ids, R: Source, W
     converse(alloc, &mut stored, hooks, ids, max_size, source, sink)
 }
 
-impl<D: Disk + Drop + Send, N: StoreNotices + Drop + Send + Sync> Service for Keeping<D, N> {
+impl<
+    D: Disk + Drop + Send,
+    N: StoreNotices + LogFile<D> + Drop + Send + Sync,
+    F: Folder<D> + Drop + Sync,
+> Service for Keeping<'_, D, N, F> {
     /// Carries out the changes of the log again, and opens the store. If that fails the notices are told why.
     fn begin<B: Naming, T: Wait>(
         &self,
@@ -81,10 +105,12 @@ impl<D: Disk + Drop + Send, N: StoreNotices + Drop + Send + Sync> Service for Ke
         let Some((changes, voids)) = self.readers.lock(rt).take() else {
             return (seat, false);
         };
-        match restore_on(rt, alloc, board, &mut seat, changes, voids) {
+        let least = self.shortening.entries(rt);
+        match restore_all_on(rt, alloc, board, &mut seat, changes, voids, least) {
             Ok(logs) => {
                 let entries = logs.count;
                 self.store.open(rt, logs);
+                self.store.set_generation(self.shortening.generation(rt));
                 self.store.notices.is_restored(entries);
                 (seat, true)
             }

@@ -1,18 +1,29 @@
 //! A seat of a board whose changes are written to a log before they are made.
 #![tactic(auto)]
 
+mod ended;
+mod folder;
+mod held;
+mod holding;
 mod keeping;
 mod line;
 mod notices;
 mod restoring;
+mod shortening;
+mod shorter;
 mod store;
 mod stored;
+mod tending;
 mod voids;
 
+pub use ended::EndedUploads;
+pub use folder::Folder;
+pub use held::LogFile;
 pub use keeping::{Keeping, converse_stored};
 pub use line::{Line, Next};
 pub use notices::StoreNotices;
 pub use restoring::{Logs, restore_on};
+pub use shortening::{Current, Shortening};
 pub use store::Store;
 pub use stored::Stored;
 pub use voids::Voids;

@@ -36,6 +36,8 @@ pub struct Line {
     /// Room for a batch, while none is being written.
     room: Vec<Spelled>,
     is_writing: bool,
+    /// Whether nobody is to begin to write.
+    is_held: bool,
     /// Whether no change is made any more.
     is_over: bool,
     drawn: u64,
@@ -94,6 +96,7 @@ impl Line {
             waiting: VecDeque::new(alloc),
             room: Vec::with_capacity(alloc, MOST_CHANGES)?,
             is_writing: false,
+            is_held: false,
             is_over: false,
             drawn: 0,
             known: 0,
@@ -158,7 +161,26 @@ impl Line {
     /// Whether there is something to write, which nobody writes, and no change that could not be written waits for its
     /// turn.
     fn may_write(&self) -> bool {
-        !self.is_writing && !self.waiting.is_empty() && self.kept <= self.done
+        !self.is_writing && !self.is_held && !self.waiting.is_empty() && self.kept <= self.done
+    }
+
+    /// Nobody begins to write until it is let go.
+    pub fn hold(&mut self)
+        ensures { self.new ≡ self.old }
+    {
+        self.is_held = true;
+    }
+
+    /// Those that wait may be written again.
+    pub fn let_go(&mut self)
+        ensures { self.new ≡ self.old }
+    {
+        self.is_held = false;
+    }
+
+    /// Whether nothing is being written, and each change of which it is known whether it is on the disk had its turn.
+    pub fn is_still(&self) -> bool {
+        !self.is_writing && self.done == self.known
     }
 
     /// No change is made from now on: those that were drawn are refused, and no other is drawn.

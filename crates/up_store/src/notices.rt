@@ -20,6 +20,12 @@ pub trait StoreNotices {
     /// could not be written.
     fn stops(&self, fault: LogFault);
 
+    /// A shorter log took the place of the log: it has so many bytes, and the one before had so many.
+    fn is_shorter(&self, before: u64, now: u64);
+
+    /// A shorter log could not be written, so the store goes on with the one that it has.
+    fn is_not_shorter(&self, fault: LogFault);
+
     /// A removal could not be written. Gives up room on the disk that was kept for it, and tells whether there was some:
     /// then the removal is tried again.
     fn makes_room(&self) -> bool;

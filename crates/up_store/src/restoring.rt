@@ -11,7 +11,7 @@ use std::alloc::Global;
 use std::collections::BTreeSet;
 use std::sync::Wait;
 use up_dispatch::{Board, Naming, Seat};
-use up_log::{Entry, Log, LogReader};
+use up_log::{Entry, Log, LogFault, LogReader};
 use up_machine::Refusal;
 use up_message::Sequence;
 use up_replay::{Unreplayed, Unrestored, asked_of, fits};
@@ -102,4 +102,24 @@ where
         }),
         Err(refused) => Err(Unrestored::Log(refused.fault)),
     }
+}
+
+/// The same, of a log that has at least so many entries: one that has fewer is damaged.
+pub(crate) fn restore_all_on<B: Naming, D: Disk, R: Wait>(
+    rt: &R,
+    alloc: Global,
+    board: &Board<B>,
+    seat: &mut Seat<B>,
+    changes: LogReader<D>,
+    voids: LogReader<D>,
+    least: u64,
+) -> Result<Logs<D>, Unrestored>
+where
+    D: Drop,
+{
+    let logs = restore_on(rt, alloc, board, seat, changes, voids)?;
+    if logs.count < least {
+        return Err(Unrestored::Log(LogFault::Damaged));
+    }
+    Ok(logs)
 }

@@ -1,13 +1,14 @@
 //! What seats share whose changes are written to a log first.
+use crate::held::{Held, LogFile};
 use crate::line::{Line, Next};
 use crate::notices::StoreNotices;
 use crate::restoring::Logs;
 use crate::voids::Voids;
 use sqlite_disk::Disk;
 use std::alloc::{AllocError, Global};
-use std::sync::atomic::{AtomicBool, Ordering};
+use std::sync::atomic::{AtomicBool, AtomicU64, Ordering};
 use std::sync::{Condvar, Mutex, Wait};
-use up_log::{Log, LogFault, Spelled};
+use up_log::{LogFault, Spelled};
 
 /// How many bells there are: more connections than these share them.
 const BELLS: u64 = 64;
@@ -17,7 +18,7 @@ const BELLS: u64 = 64;
 pub(crate) enum Turn {
     /// It is on the disk, and was decided on.
     Decided,
-    /// It is on the disk, and memory for it was refused.
+    /// It is on the disk, and was not decided on: memory for it was refused, or the board was closed before.
     Void,
     /// It could not be written.
     Lost,
@@ -27,14 +28,17 @@ pub(crate) enum Turn {
 /// wait, if nobody else does, with no lock held but the log's, which nobody else wants.
 #[derive(Drop)]
 pub struct Store<D: Disk, N> {
-    line: Mutex<Line>,
-    /// None until the logs are read to their ends.
-    log: Mutex<Option<Log<D>>>,
-    voids: Mutex<Option<Voids<D>>>,
+    pub(crate) line: Mutex<Line>,
+    pub(crate) log: Mutex<Held<D>>,
+    pub(crate) voids: Mutex<Option<Voids<D>>>,
     /// Each wakes those that wait whose number has its place for a remainder.
     bells: Vec<Condvar>,
+    /// Wakes who waits until nothing is written and each change had its turn.
+    pub(crate) stillness: Condvar,
+    /// How often a shorter log took the place of the log.
+    generation: AtomicU64,
     /// Whether the last batch could not be written.
-    is_failing: AtomicBool,
+    pub(crate) is_failing: AtomicBool,
     pub(crate) notices: N,
 }
 
@@ -52,9 +56,11 @@ impl<D: Disk, N> Store<D, N> {
         let line = Line::new(alloc, 0)?;
         Ok(Store {
             line: Mutex::new(line),
-            log: Mutex::new(None),
+            log: Mutex::new(Held::Unread),
             voids: Mutex::new(None),
             bells,
+            stillness: Condvar::new(),
+            generation: AtomicU64::new(0),
             is_failing: AtomicBool::new(false),
             notices,
         })
@@ -72,17 +78,27 @@ impl<D: Disk, N> Store<D, N> {
         } = logs;
         self.line.lock(rt).begin_at(count);
         *self.voids.lock(rt) = Some(voids);
-        *self.log.lock(rt) = Some(changes);
+        *self.log.lock(rt) = Held::Open(changes);
     }
 
-    /// The logs, with all that was written to them. None if it was never opened.
+    /// How often a shorter log took the place of the log.
+    pub(crate) fn generation(&self) -> u64 {
+        self.generation.load(Ordering::SeqCst)
+    }
+
+    /// The log is of this generation.
+    pub(crate) fn set_generation(&self, generation: u64) {
+        self.generation.store(generation, Ordering::SeqCst);
+    }
+
+    /// The logs, with all that was written to them. None if it was never opened, or if one of them is closed.
     pub fn into_logs(self) -> Option<Logs<D>>
     where
         D: Drop,
         N: Drop,
     {
         let count = self.line.into_inner().place();
-        let (changes, voids) = (self.log.into_inner(), self.voids.into_inner());
+        let (changes, voids) = (self.log.into_inner().into_log(), self.voids.into_inner());
         Some(Logs {
             changes: changes?,
             voids: voids?,
@@ -102,6 +118,13 @@ impl<D: Disk, N> Store<D, N> {
         }
     }
 
+    /// Wakes those that may go on.
+    pub(crate) fn go_on(&self, first: (u64, u64)) {
+        self.ring(first.0);
+        self.ring(first.1);
+        self.stillness.notify_all();
+    }
+
     /// What comes next for the change of this number, once anything does.
     fn next<R: Wait>(&self, rt: &R, alloc: Global, number: u64) -> Next {
         let line = self.line.lock(rt);
@@ -113,13 +136,13 @@ impl<D: Disk, N> Store<D, N> {
     }
 }
 
-impl<D: Disk, N: StoreNotices> Store<D, N> {
+impl<D: Disk + Drop, N: StoreNotices + LogFile<D>> Store<D, N> {
     /// Writes a batch, tells whom it concerns where that is new, and tells the line.
     fn write<R: Wait>(&self, rt: &R, alloc: Global, batch: Vec<Spelled>) {
-        let written = match self.log.lock(rt).as_mut() {
-            Some(log) => log.append(alloc, &batch),
-            None => Err(LogFault::NotRead),
-        };
+        let written = self
+            .log
+            .lock(rt)
+            .append(alloc, &self.notices, self.generation(), &batch);
         let is_failing = written.is_err();
         let was_failing = self.is_failing.swap(is_failing, Ordering::SeqCst);
         match written {
@@ -135,12 +158,6 @@ impl<D: Disk, N: StoreNotices> Store<D, N> {
     /// Gives up room on the disk that was kept for removals. Tells whether there was some.
     pub(crate) fn makes_room(&self) -> bool {
         self.notices.makes_room()
-    }
-
-    /// Wakes those that may go on.
-    fn go_on(&self, first: (u64, u64)) {
-        self.ring(first.0);
-        self.ring(first.1);
     }
 
     /// Waits until it is the turn of the change of this number, and writes others meanwhile if nobody else does. Tells

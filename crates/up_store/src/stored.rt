@@ -1,6 +1,7 @@
 //! A seat of a board whose changes are written to a log before they are made.
 ghost use Rattle.std.specs.Prelude.{◌≡◌};
 
+use crate::held::LogFile;
 use crate::notices::StoreNotices;
 use crate::store::{Store, Turn};
 use sqlite_disk::Disk;
@@ -31,7 +32,7 @@ fn consent_of(asked: &Asked) -> Option<Consent> {
     }
 }
 
-impl<'a, B: Naming, D: Disk, N: StoreNotices, R: Wait> Stored<'a, B, D, N, R> {
+impl<'a, B: Naming, D: Disk + Drop, N: StoreNotices + LogFile<D>, R: Wait> Stored<'a, B, D, N, R> {
     /// Takes the seat.
     pub fn new(
         rt: &'a R,
@@ -51,7 +52,7 @@ impl<'a, B: Naming, D: Disk, N: StoreNotices, R: Wait> Stored<'a, B, D, N, R> {
     }
 }
 
-impl<B: Naming, D: Disk, N: StoreNotices, R: Wait> Stored<'_, B, D, N, R> {
+impl<B: Naming, D: Disk + Drop, N: StoreNotices + LogFile<D>, R: Wait> Stored<'_, B, D, N, R> {
     /// Writes a change, waits for its turn, and tells whether it is on the disk; if it isn't, its turn is over. An error is
     /// want of memory, and no turn was drawn then.
     fn write(&self, alloc: Global, entry: &Entry) -> Result<bool, AllocError> {
@@ -76,7 +77,8 @@ impl<B: Naming, D: Disk, N: StoreNotices, R: Wait> Stored<'_, B, D, N, R> {
     }
 }
 
-impl<B: Naming, D: Disk, N: StoreNotices, R: Wait> Keeper for Stored<'_, B, D, N, R> {
+impl<B: Naming, D: Disk + Drop, N: StoreNotices + LogFile<D>, R: Wait> Keeper
+    for Stored<'_, B, D, N, R> {
     ghost use Rattle.std.specs.Prelude.{◌≡◌, ℕ};
     ghost use Rattle.up_dispatch.specs.Keepers.{SeatPlans};
     ghost use Rattle.up_store.specs.StoredCommits.{StoredCommits};
@@ -120,7 +122,7 @@ impl<B: Naming, D: Disk, N: StoreNotices, R: Wait> Keeper for Stored<'_, B, D, N
             .board
             .commit(self.rt, alloc, self.seat, request, id, asked);
         let turn = match &result {
-            Err(Refusal::NoMemory) => Turn::Void,
+            Err(Refusal::NoMemory | Refusal::Closed) => Turn::Void,
             _ => Turn::Decided,
         };
         self.store.end_turn(self.rt, alloc, turn);

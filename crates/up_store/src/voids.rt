@@ -52,6 +52,20 @@ impl<D: Disk> Voids<D> {
         }
     }
 
+    /// The places that were said.
+    pub(crate) fn places(&mut self, alloc: Global) -> Result<BTreeSet<u64>, LogFault> {
+        let mut places = BTreeSet::new(alloc);
+        let mut place = Log::<D>::first_place();
+        for _ in 0..u64::MAX {
+            let Some((entries, next)) = self.log.batch_at(alloc, place)? else {
+                break;
+            };
+            take_places(&mut places, entries.as_slice())?;
+            place = next;
+        }
+        Ok(places)
+    }
+
     /// The file, which takes no more.
     pub fn into_device(self) -> D {
         self.log.into_device()

@@ -4,8 +4,9 @@ ghost use Rattle.up_dispatch.specs.Parts.{IsNamed};
 ghost use Rattle.up_events.specs.declared.limits.TheConstants.{MOST_BYTES};
 ghost use Rattle.up_headers.specs.Table.{FitsWithin};
 
+use crate::full_once::FullOnce;
 use crate::logs::{Row, SETUP, entries_of, read, spelled_of};
-use sqlite_disk::{Disk, Memory};
+use sqlite_disk::{Disk, Fuse, Memory};
 use std::alloc::Global;
 use std::marker::{Brand, Send, Sync};
 use std::sync::Wait;
@@ -21,7 +22,7 @@ use up_hooks::PreHooks;
 use up_log::{LogFault, LogReader};
 use up_machine::{Asked, Done, Refusal};
 use up_replay::{Unrestored, asked_of, fits};
-use up_store::{Logs, Store, StoreNotices, Stored, restore_on};
+use up_store::{LogFile, Logs, Store, StoreNotices, Stored, restore_on};
 use up_wire::{Output, write_response};
 
 /// How many uploads are looked at.
@@ -33,12 +34,15 @@ pub type Told = Result<(u16, Option<Accepted>), Refusal>;
 /// What a board counts, and what it answers of each upload.
 pub type Seen = (Counts, Vec<u8>);
 
-/// How often it was told that changes can't be written, that they can again, and that none is made any more.
+/// How often it was told that changes can't be written, that they can again, and that none is made any more; and that a
+/// log was made shorter, and that it could not be.
 #[derive(Drop)]
 pub struct Tally {
     fails: AtomicU64,
     works: AtomicU64,
     stops: AtomicU64,
+    shorter: AtomicU64,
+    not_shorter: AtomicU64,
 }
 
 impl Tally {
@@ -47,7 +51,17 @@ impl Tally {
             fails: AtomicU64::new(0),
             works: AtomicU64::new(0),
             stops: AtomicU64::new(0),
+            shorter: AtomicU64::new(0),
+            not_shorter: AtomicU64::new(0),
         }
+    }
+
+    /// How often a log was made shorter, and how often it could not be.
+    pub fn switches(&self) -> [u64; 2] {
+        [
+            self.shorter.load(Ordering::SeqCst),
+            self.not_shorter.load(Ordering::SeqCst),
+        ]
     }
 
     pub fn counts(&self) -> [u64; 3] {
@@ -76,8 +90,49 @@ impl StoreNotices for &Tally {
         self.stops.fetch_add(1, Ordering::SeqCst);
     }
 
+    fn is_shorter(&self, _before: u64, _now: u64) {
+        self.shorter.fetch_add(1, Ordering::SeqCst);
+    }
+
+    fn is_not_shorter(&self, _fault: LogFault) {
+        self.not_shorter.fetch_add(1, Ordering::SeqCst);
+    }
+
     fn makes_room(&self) -> bool {
         false
+    }
+}
+
+/// A disk whose file can be opened again.
+pub trait Again: Disk {
+    /// The same file, opened again.
+    fn again(self) -> Self;
+}
+
+impl Again for Memory {
+    fn again(self) -> Memory {
+        self
+    }
+}
+
+impl<D: Disk> Again for Fuse<D> {
+    fn again(self) -> Fuse<D> {
+        self
+    }
+}
+
+impl<D: Disk> Again for FullOnce<D> {
+    fn again(self) -> FullOnce<D> {
+        FullOnce::new(self.into_inner(), 0)
+    }
+}
+
+impl<D: Again> LogFile<D> for &Tally {
+    fn open_again(&self, _generation: u64, failed: Option<D>) -> Result<D, LogFault> {
+        match failed {
+            Some(disk) => Ok(disk.again()),
+            None => Err(LogFault::Busy),
+        }
     }
 }
 
@@ -154,7 +209,7 @@ fn work<K: Keeper>(alloc: Global, keeper: &mut K, job: &Job) -> Result<Outcome, 
 }
 
 /// What the board counts, and what it answers to HEAD and GET of each upload.
-fn seen<B: Naming, R: Wait>(
+pub fn seen<B: Naming, R: Wait>(
     rt: &R,
     alloc: Global,
     board: &Board<B>,
@@ -285,7 +340,7 @@ pub struct Ran<D: Disk> {
 }
 
 /// Does each job in a thread of its own, from a seat of its own, by a store whose logs are on these disks.
-fn work_each<B: Naming + Send + Sync, D: Disk + Send + Drop, R: Threads + Wait + Sync>(
+fn work_each<B: Naming + Send + Sync, D: Again + Send + Drop, R: Threads + Wait + Sync>(
     rt: &R,
     alloc: Global,
     board: &Board<B>,
@@ -311,7 +366,7 @@ fn work_each<B: Naming + Send + Sync, D: Disk + Send + Drop, R: Threads + Wait +
 
 /// Does each job in a thread of its own, from a seat of its own, by a store whose logs are on these disks. None where
 /// the logs aren't opened.
-fn run_by<B: Naming + Send + Sync, D: Disk + Send + Drop, R: Threads + Wait + Sync>(
+fn run_by<B: Naming + Send + Sync, D: Again + Send + Drop, R: Threads + Wait + Sync>(
     rt: &R,
     alloc: Global,
     parts: BoardParts,
@@ -361,7 +416,7 @@ where
 }
 
 /// Does each job in a thread of its own, by a store whose logs are on these disks. None where the logs aren't opened.
-pub fn run_on<D: Disk + Send + Drop, R: Threads + Wait + Sync>(
+pub fn run_on<D: Again + Send + Drop, R: Threads + Wait + Sync>(
     rt: &R,
     alloc: Global,
     disks: (D, D),

@@ -11,5 +11,5 @@ invariant-loop-hook g l =
       hooks : done + into_iter_len (zip_first l.hook-iterator) ≡ vec_len l.fn.hooks;
       counts : done + into_iter_len (zip_second l.hook-iterator) ≡ vec_len l.fn.counts;
       new : All (λ h. g.H.PostHook.is_sound h × (g.H.PostHook.handed h ≡ [])) (into_iter_items (zip_first l.hook-iterator));
-      made : All (λ c. GoesOn g.H.PostHook c × (events_of c ≡ [])) l.made.items;
+      made : All (λ n. GoesOn g.H.PostHook n.hook × (events_of n.hook ≡ [])) l.made.items;
     }

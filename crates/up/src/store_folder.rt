@@ -1,0 +1,102 @@
+//! The folder of a store.
+use sqlite_std_file::{FileFrom, Wary};
+use std::alloc::AllocError;
+use std::fs::DirBuilder;
+use std::marker::Sync;
+use std::os::unix::fs::DirBuilderExt;
+use std::sync::Wait;
+use std::{fs, io};
+use up_handed::{EndedUpload, Endings};
+use up_log::{LogFault, LogReader, Setup, open_file};
+use up_store::{EndedUploads, Folder};
+
+/// A file of a store. A torn write may leave any bytes of it.
+pub type StoreFile = FileFrom<Wary>;
+
+/// The folder of a store.
+#[derive(Drop)]
+pub struct StoreFolder<'a> {
+    pub rt: &'a HostRuntime,
+    pub path: String,
+    pub setup: Setup,
+}
+
+impl StoreFolder<'_> {
+    /// Makes it, unless it is there. Nobody else may look into one that is made.
+    pub fn make_folder(&self) -> io::Result<()> {
+        match DirBuilder::new()
+            .mode(0o700)
+            .create(self.rt, self.path.as_str())
+        {
+            Err(error) if error.kind() == io::ErrorKind::AlreadyExists => Ok(()),
+            made => made,
+        }
+    }
+
+    /// The path of a file.
+    pub fn path_of(&self, name: &str) -> Result<String, AllocError> {
+        let folder = self.path.as_str();
+        format!(in self.rt.alloc(); "{folder}/{name}")
+    }
+
+    /// The path of the file of this name and generation, of which that of the first has the name alone.
+    pub fn path_in(&self, name: &str, generation: u64) -> Result<String, AllocError> {
+        if generation == 0 {
+            return self.path_of(name);
+        }
+        let folder = self.path.as_str();
+        format!(in self.rt.alloc(); "{folder}/{name}.{generation}")
+    }
+
+    /// Begins to open the log at this path.
+    pub fn open_at(&self, path: &str) -> Result<LogReader<StoreFile>, LogFault> {
+        open_file(self.rt, path, Wary, self.setup)
+    }
+
+    /// Removes the file of this name and generation, if it is there, and the empty one that locks it.
+    fn remove_file(&self, name: &str, generation: u64) -> Result<(), AllocError> {
+        let path = self.path_in(name, generation)?;
+        let lock = format!(in self.rt.alloc(); "{path}-wal")?;
+        // What stays is removed at the next start.
+        let _ = fs::remove_file(self.rt, path.as_str());
+        let _ = fs::remove_file(self.rt, lock.as_str());
+        Ok(())
+    }
+}
+
+impl Folder<StoreFile> for StoreFolder<'_> {
+    fn make(
+        &self,
+        generation: u64,
+    ) -> Result<(LogReader<StoreFile>, LogReader<StoreFile>), LogFault> {
+        self.remove(generation);
+        let changes = self.open_at(self.path_in("log", generation)?.as_str())?;
+        let voids = self.open_at(self.path_in("void", generation)?.as_str())?;
+        Ok((changes, voids))
+    }
+
+    fn remove(&self, generation: u64) {
+        let _ = self.remove_file("log", generation);
+        let _ = self.remove_file("void", generation);
+    }
+}
+
+/// Notes uploads that have ended, for a log that is to leave them out.
+pub struct EndedNotes<'a, R> {
+    pub rt: &'a R,
+    pub ended: &'a EndedUploads,
+}
+
+impl<R> Clone for EndedNotes<'_, R> {
+    fn clone(&self) -> Result<Self, AllocError> {
+        Ok(*self)
+    }
+}
+
+impl<R> Copy for EndedNotes<'_, R> {}
+
+impl<R: Wait + Sync> Endings for EndedNotes<'_, R> {
+    fn note(&self, upload: EndedUpload) {
+        self.ended.note(self.rt, upload);
+    }
+}

@@ -1,0 +1,101 @@
+//! The log of the changes, as far as it is open.
+use sqlite_disk::Disk;
+use std::alloc::Global;
+use std::mem;
+use up_log::{Log, LogFault, Spelled};
+
+/// Who has the file of the changes.
+pub trait LogFile<D> {
+    /// Opens the file of this generation again, after a call on it failed. It is closed before, if it is given.
+    fn open_again(&self, generation: u64, failed: Option<D>) -> Result<D, LogFault>;
+}
+
+/// The log of the changes. After a call that failed so that the log takes no more, its file is opened again by the next one.
+#[derive(Drop)]
+pub(crate) enum Held<D: Disk> {
+    /// Nothing of it is read yet.
+    Unread,
+    Open(Log<D>),
+    /// A call failed, and the file could not be opened again. The next block begins at this place.
+    Closed(usize),
+}
+
+impl<D: Disk> Held<D> {
+    /// The log, unless it is closed.
+    pub(crate) fn into_log(self) -> Option<Log<D>>
+    where
+        D: Drop,
+    {
+        match self {
+            Held::Open(log) => Some(log),
+            _ => None,
+        }
+    }
+
+    /// The log, unless it is closed.
+    pub(crate) fn log(&self) -> Option<&Log<D>> {
+        match self {
+            Held::Open(log) => Some(log),
+            _ => None,
+        }
+    }
+
+    /// The same.
+    pub(crate) fn log_mut(&mut self) -> Option<&mut Log<D>> {
+        match self {
+            Held::Open(log) => Some(log),
+            _ => None,
+        }
+    }
+
+    /// Whether a call on it failed, so that its file is to be opened again.
+    pub(crate) fn is_failed(&self) -> bool {
+        match self {
+            Held::Unread => false,
+            Held::Open(log) => log.is_broken(),
+            Held::Closed(_) => true,
+        }
+    }
+
+    /// Opens the file again, if a call on it failed.
+    pub(crate) fn open_again<F: LogFile<D>>(
+        &mut self,
+        file: &F,
+        generation: u64,
+    ) -> Result<(), LogFault>
+    where
+        D: Drop,
+    {
+        let (place, failed) = match mem::replace(self, Held::Unread) {
+            Held::Open(log) if log.is_broken() => (log.end_place(), Some(log.into_device())),
+            Held::Closed(place) => (place, None),
+            other => {
+                *self = other;
+                return Ok(());
+            }
+        };
+        *self = Held::Closed(place);
+        let device = file.open_again(generation, failed)?;
+        let (log, resumed) = Log::resume(device, place);
+        *self = Held::Open(log);
+        resumed
+    }
+
+    /// Adds a batch, and returns once it is on the disk. After an error it isn't in the log, and it may be tried again.
+    pub(crate) fn append<F: LogFile<D>>(
+        &mut self,
+        alloc: Global,
+        file: &F,
+        generation: u64,
+        batch: &[Spelled],
+    ) -> Result<(), LogFault>
+    where
+        D: Drop,
+    {
+        self.open_again(file, generation)?;
+        match self {
+            Held::Open(log) => log.append(alloc, batch),
+            _ => Err(LogFault::NotRead),
+        }
+    }
+}

@@ -1,0 +1,240 @@
+//! Making the log of a store shorter while it is written to.
+use crate::ended::EndedUploads;
+use crate::folder::Folder;
+use crate::notices::StoreNotices;
+use crate::restoring::Logs;
+use crate::shorter::{Kept, Shorter, left_out_events};
+use crate::store::Store;
+use sqlite_disk::Disk;
+use std::alloc::Global;
+use std::sync::atomic::{AtomicU64, Ordering};
+use std::sync::{Mutex, Wait};
+use up_compact::{Head, Heads};
+use up_log::LogFault;
+
+/// How often what was added meanwhile is added to a shorter log before changes are held up for the rest, at most.
+const MOST_ROUNDS: u32 = 16;
+
+/// How many entries are few enough to hold changes up for.
+const FEW: u64 = 64;
+
+/// The heads of a store, and the one that counts.
+#[derive(Drop)]
+pub struct Current<D: Disk> {
+    pub heads: Heads<D>,
+    pub head: Head,
+}
+
+/// What makes the log of a store shorter.
+#[derive(Drop)]
+pub struct Shortening<'a, D: Disk, F> {
+    /// None while a shorter log is written.
+    current: Mutex<Option<Current<D>>>,
+    ended: &'a EndedUploads,
+    folder: F,
+    lanes: u64,
+    /// How many bytes a log has, at the least, that is made shorter.
+    least: u64,
+    /// How many it has before that is tried again.
+    next: AtomicU64,
+}
+
+impl<'a, D: Disk, F> Shortening<'a, D, F> {
+    /// For the store of so many lanes that has these heads, once its log has at least so many bytes.
+    pub fn new(
+        current: Current<D>,
+        ended: &'a EndedUploads,
+        folder: F,
+        lanes: u64,
+        least: u64,
+    ) -> Shortening<'a, D, F> {
+        Shortening {
+            current: Mutex::new(Some(current)),
+            ended,
+            folder,
+            lanes,
+            least,
+            next: AtomicU64::new(least),
+        }
+    }
+
+    /// The heads, unless a shorter log is being written.
+    pub fn into_current(self) -> Option<Current<D>>
+    where
+        D: Drop,
+        F: Drop,
+    {
+        self.current.into_inner()
+    }
+
+    /// How many entries the log has, at the least, that the last head tells of.
+    pub(crate) fn entries<R: Wait>(&self, rt: &R) -> u64 {
+        match self.current.lock(rt).as_ref() {
+            Some(current) => current.head.entries,
+            None => 0,
+        }
+    }
+
+    /// How often the log was made shorter, by the last head.
+    pub(crate) fn generation<R: Wait>(&self, rt: &R) -> u64 {
+        match self.current.lock(rt).as_ref() {
+            Some(current) => current.head.generation,
+            None => 0,
+        }
+    }
+
+    /// Whether the log of the store is long, and what it may leave out is over half of it.
+    fn is_due<N, R: Wait>(&self, rt: &R, store: &Store<D, N>) -> bool {
+        let less = self.ended.bytes(rt);
+        if less <= self.least / 2 {
+            return false;
+        }
+        let size = store.size(rt) as u64;
+        size > self.next.load(Ordering::SeqCst) && less > size / 2 && store.works()
+    }
+}
+
+impl<D: Disk + Drop, F: Folder<D>> Shortening<'_, D, F> {
+    /// Puts a shorter log in the place of a store's, if that is due and nobody is at it. Changes are made meanwhile, but
+    /// for a moment at the end. If it fails the store goes on with the log that it has.
+    pub fn shorten<N: StoreNotices, R: Wait>(&self, rt: &R, alloc: Global, store: &Store<D, N>) {
+        if !self.is_due(rt, store) {
+            return;
+        }
+        let Some(mut current) = self.current.lock(rt).take() else {
+            return;
+        };
+        let size = store.size(rt) as u64;
+        match self.replace(rt, alloc, store, &mut current) {
+            Ok(()) => {
+                self.next.store(self.least, Ordering::SeqCst);
+                store.notices.is_shorter(size, store.size(rt) as u64);
+            }
+            Err(kept) => {
+                self.next
+                    .store(size.saturating_add(size / 4), Ordering::SeqCst);
+                self.tell(store, kept);
+            }
+        }
+        *self.current.lock(rt) = Some(current);
+    }
+
+    /// Tells why no shorter log took the place of the store's.
+    fn tell<N: StoreNotices>(&self, store: &Store<D, N>, kept: Kept) {
+        match kept {
+            Kept::Long => {}
+            Kept::Fault(fault) => store.notices.is_not_shorter(fault),
+            Kept::Unknown(fault) => store.notices.stops(fault),
+        }
+    }
+
+    /// Writes a shorter log, and puts it in the place of the store's.
+    fn replace<N: StoreNotices, R: Wait>(
+        &self,
+        rt: &R,
+        alloc: Global,
+        store: &Store<D, N>,
+        current: &mut Current<D>,
+    ) -> Result<(), Kept> {
+        let old = current.head.generation;
+        let Some(generation) = old.checked_add(1) else {
+            return Err(Kept::Long);
+        };
+        match self.write(rt, alloc, store, current, generation) {
+            Ok(()) => {
+                self.folder.remove(old);
+                Ok(())
+            }
+            Err(Kept::Unknown(fault)) => Err(Kept::Unknown(fault)),
+            Err(kept) => {
+                self.folder.remove(generation);
+                Err(kept)
+            }
+        }
+    }
+
+    /// Writes the log of this generation, and switches to it.
+    fn write<N: StoreNotices, R: Wait>(
+        &self,
+        rt: &R,
+        alloc: Global,
+        store: &Store<D, N>,
+        current: &mut Current<D>,
+        generation: u64,
+    ) -> Result<(), Kept> {
+        let ended = self.ended.list(rt, alloc)?;
+        let mut shorter = Shorter::begin(rt, alloc, store, &self.folder, generation, &ended)?;
+        for _ in 0..MOST_ROUNDS {
+            if shorter.add_settled(rt, alloc, store)? <= FEW {
+                break;
+            }
+        }
+        let uploads = &shorter.left_out.uploads;
+        let head = Head {
+            generation,
+            entries: 0,
+            left_out: left_out_events(alloc, &current.head, self.lanes, &ended, uploads)?,
+        };
+        store.hold(rt);
+        let switched = self.switch(rt, alloc, store, current, shorter, head);
+        if let Err(Kept::Unknown(_)) = switched {
+            store.stop(rt);
+        }
+        store.let_go(rt);
+        switched
+    }
+
+    /// Adds what is left to a shorter log while the store's line is held up, and switches to it.
+    fn switch<N, R: Wait>(
+        &self,
+        rt: &R,
+        alloc: Global,
+        store: &Store<D, N>,
+        current: &mut Current<D>,
+        shorter: Shorter<D>,
+        head: Head,
+    ) -> Result<(), Kept> {
+        let (mut shorter, mut head) = (shorter, head);
+        shorter.add_settled(rt, alloc, store)?;
+        if shorter.progress.count != store.place(rt) || !store.works() {
+            return Err(Kept::Fault(LogFault::NotRead));
+        }
+        head.entries = shorter.progress.stayed;
+        current.change(alloc, head)?;
+        self.ended.forget(rt, &shorter.left_out.uploads);
+        store.set_generation(current.head.generation);
+        let Shorter {
+            changes,
+            voids,
+            progress,
+            ..
+        } = shorter;
+        store.open(
+            rt,
+            Logs {
+                changes,
+                voids,
+                count: progress.stayed,
+            },
+        );
+        Ok(())
+    }
+}
+
+impl<D: Disk> Current<D> {
+    /// Makes another head the one that counts. If that fails the one before counts, unless it isn't known which does.
+    fn change(&mut self, alloc: Global, head: Head) -> Result<(), Kept> {
+        match self.heads.add(alloc, &head) {
+            Ok(()) => {
+                self.head = head;
+                Ok(())
+            }
+            Err(LogFault::Memory) => Err(Kept::Fault(LogFault::Memory)),
+            // A log that takes the head of before once more has that for its last.
+            Err(fault) => match self.heads.add(alloc, &self.head) {
+                Ok(()) => Err(Kept::Fault(fault)),
+                Err(_) => Err(Kept::Unknown(fault)),
+            },
+        }
+    }
+}

@@ -1,0 +1,48 @@
+//! What is done for a store whether or not there are changes.
+use crate::folder::Folder;
+use crate::held::LogFile;
+use crate::keeping::Keeping;
+use crate::notices::StoreNotices;
+use crate::store::Store;
+use sqlite_disk::Disk;
+use std::alloc::Global;
+use std::sync::Wait;
+use std::sync::atomic::Ordering;
+use std::time::Duration;
+
+/// How many seconds pass before the store is looked at again.
+const PAUSE: u64 = 1;
+
+impl<D: Disk + Drop, N: StoreNotices + LogFile<D>> Store<D, N> {
+    /// Opens the log again if a call on it failed, and tells that it works again.
+    pub fn tend<R: Wait>(&self, rt: &R) {
+        let mut held = self.log.lock(rt);
+        if !held.is_failed() || held.open_again(&self.notices, self.generation()).is_err() {
+            return;
+        }
+        if self.is_failing.swap(false, Ordering::SeqCst) {
+            self.notices.works();
+        }
+    }
+}
+
+impl<D: Disk + Drop, N: StoreNotices + LogFile<D>, F: Folder<D>> Keeping<'_, D, N, F> {
+    /// Tends the store each second, until `stop_tending` is called: opens its log again if a call on it failed, and makes it
+    /// shorter if that is due.
+    pub fn tend<R: Wait>(&self, rt: &R, alloc: Global) {
+        for _ in rt.forever() {
+            self.is_over.park_timeout(rt, 0, Duration::from_secs(PAUSE));
+            if self.is_over.load(Ordering::SeqCst) != 0 {
+                break;
+            }
+            self.store.tend(rt);
+            self.shortening.shorten(rt, alloc, &self.store);
+        }
+    }
+
+    /// Ends `tend`.
+    pub fn stop_tending(&self) {
+        self.is_over.store(1, Ordering::SeqCst);
+        self.is_over.wake_all();
+    }
+}
