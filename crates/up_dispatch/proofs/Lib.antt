@@ -13,3 +13,4 @@ pub mod Prefixes
 pub mod Showing
 pub mod TurnLemmas
 pub mod Uploads
+pub mod Tying

@@ -15,3 +15,5 @@ pub mod Reports
 pub mod Standing
 pub mod StandingCode
 pub mod Turn
+pub mod Tied
+pub mod TiedCode

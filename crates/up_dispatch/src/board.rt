@@ -1,13 +1,15 @@
 //! The board that threads share.
-ghost use Rattle.std.specs.Prelude.{◌≡◌, ◌≤◌, ◌<◌, ◌^◌, [], length, vec_len, IfOk, IfSome};
+ghost use Rattle.std.specs.Prelude.{◌≡◌, ◌≤◌, ◌<◌, ◌^◌, [], length, vec_len, IfNone, IfOk, IfSome};
 ghost use Rattle.up_events.specs.Limits.{most_bytes};
 ghost use Rattle.up_headers.specs.Table.{FitsWithin};
 ghost use Rattle.up_dispatch.specs.Lists.{EachAt};
 ghost use Rattle.up_dispatch.specs.Parts.{IsNamed, capacities_of};
 ghost use Rattle.up_dispatch.specs.Keepers.{SeatPlans, SeatCommits};
+ghost use Rattle.up_dispatch.specs.Tied.{CommitsAt, IsNewBook};
 
 use crate::counts::Counts;
 use crate::inside::Inside;
+use crate::locked::Locked;
 use crate::naming::Naming;
 use crate::parts::BoardParts;
 use crate::seat::Seat;
@@ -16,13 +18,14 @@ use std::sync::{Condvar, Mutex, Wait};
 use up_events::{Id, MOST_BYTES, MOST_LANES, NoMemory};
 use up_headers::Request;
 use up_lanes::Refill;
+use up_log::Entry;
 use up_machine::{Asked, Done, Plan, Refusal};
 use up_queue::TakeEnd;
 
 /// A book that threads share. What lies under its lock is a lawful board whenever the lock is free.
 #[derive(Drop)]
 pub struct Board<B: Naming> {
-    pub(crate) inside: Mutex<Inside<B>>,
+    pub(crate) locked: Mutex<Locked<B>>,
     /// One for each lane. It wakes the lane where there may be something for it.
     pub(crate) bells: Vec<Condvar>,
     pub(crate) max_size: u64,
@@ -92,10 +95,11 @@ impl<B: Naming> Board<B> {
         requires named { lanes ≡ B.lanes }
         requires small { max_size ≤ MOST_BYTES }
         requires sized { max_size ≡ B.max_size }
+        requires new { IsNewBook B.lanes B.max_size inside.book }
     {
         let bells = new_bells(alloc, lanes)?;
         Ok(Board {
-            inside: Mutex::new(inside),
+            locked: Mutex::new(Locked::new(inside)),
             bells,
             max_size,
         })
@@ -113,7 +117,7 @@ impl<B: Naming> Board<B> {
     pub fn seat<R: Wait>(&self, rt: &R) -> Option<Seat<B>>
         ensures { IfSome result (λ s. s ≡ 0) }
     {
-        self.inside.lock(rt).seat()
+        self.locked.lock(rt).inside.seat()
     }
 
     /// What would come of a request, in some state of the board that has all changes made from this seat.
@@ -127,9 +131,9 @@ impl<B: Naming> Board<B> {
         ensures same { seat.new ≡ seat.old }
         ensures plan { SeatPlans B.queue B.lanes B.max_size seat.old request.now result }
     {
-        let mut inside = self.inside.lock(rt);
-        inside.audit(seat);
-        inside.plan(alloc, request)
+        let mut locked = self.locked.lock(rt);
+        locked.inside.audit(seat);
+        locked.inside.plan(alloc, request)
     }
 
     /// Decides on a request from a seat, in some state of the board that has all changes made from this seat. What the book then
@@ -147,32 +151,69 @@ impl<B: Naming> Board<B> {
         ensures { SeatCommits B.queue B.lanes B.max_size seat.old request id asked.now
             seat.new result }
     {
-        let mut inside = self.inside.lock(rt);
-        let lanes = inside.lanes();
-        let (result, remains) = inside.commit(rt, alloc, seat, request, id, asked);
-        drop(inside);
+        let mut locked = self.locked.lock(rt);
+        let lanes = locked.inside.lanes();
+        let (result, remains) = locked.commit(rt, alloc, seat, request, id, asked);
+        drop(locked);
+        self.tell(lanes, &result);
+        remains.release();
+        result
+    }
+
+    /// Decides on the entry at a place of the log from a seat. The board has then carried out the entries before it, each in its turn,
+    /// and nothing else, but for those for which it had no memory. None if it hasn't: then nothing is done.
+    pub fn commit_at<R: Wait>(
+        &self,
+        rt: &R,
+        alloc: Global,
+        seat: &mut Seat<B>,
+        place: u64,
+        entry: Entry,
+    ) -> Option<Result<Done, Refusal>>
+        requires bounded { FitsWithin MOST_BYTES entry.request }
+        ensures some { IfSome result (λ r.
+            CommitsAt B.queue B.lanes B.max_size place seat.old entry seat.new r) }
+        ensures none { IfNone result (seat.new ≡ seat.old) }
+    {
+        let mut locked = self.locked.lock(rt);
+        let lanes = locked.inside.lanes();
+        let (result, remains) = locked.commit_at(rt, alloc, seat, place, entry)?;
+        drop(locked);
+        self.tell(lanes, &result);
+        remains.release();
+        Some(result)
+    }
+
+    /// Passes over the entry at a place of the log, for which there was no memory. None if the board doesn't follow just the entries
+    /// before it.
+    pub fn pass_over<R: Wait>(&self, rt: &R, place: u64, entry: &Entry) -> Option<()> {
+        self.locked.lock(rt).pass_over(place, entry)
+    }
+
+    /// Wakes the lane that has something to take after a commit, if there is one.
+    fn tell(&self, lanes: u64, answer: &Result<Done, Refusal>)
+        requires some { 0 < lanes }
+    {
         if let Ok(
             Done {
                 change: Some(change),
                 ..
             },
-        ) = &result
+        ) = answer
         {
             self.ring(change.id().lane(lanes));
         }
-        remains.release();
-        result
     }
 
     /// What is counted on the board at one moment. The lock is held for some steps for each lane.
     pub fn counts<R: Wait>(&self, rt: &R) -> Counts
         ensures lanes { result.lanes ≡ B.lanes }
     {
-        let mut inside = self.inside.lock(rt);
-        inside.is_lawful();
-        let mut counts = inside.counts();
+        let mut locked = self.locked.lock(rt);
+        locked.inside.is_lawful();
+        let mut counts = locked.inside.counts();
         for (lane, waiting) in counts.waiting.iter_mut().enumerate() {
-            *waiting = inside.waiting(rt, lane as u64);
+            *waiting = locked.inside.waiting(rt, lane as u64);
         }
         counts
     }
@@ -187,7 +228,7 @@ impl<B: Naming> Board<B> {
     /// Accepts no change from now on. Each lane is given what its queue has room for, with the end behind its last event. Closing twice is as
     /// closing once.
     pub fn close<R: Wait>(&self, rt: &R) {
-        self.inside.lock(rt).close(rt);
+        self.locked.lock(rt).close(rt);
         for bell in &self.bells {
             bell.notify_one();
         }
@@ -196,18 +237,15 @@ impl<B: Naming> Board<B> {
 
 impl<B: Naming> Refill for Board<B> {
     fn refill<R: Wait>(&self, rt: &R, lane: u64) {
-        let mut inside = self.inside.lock(rt);
-        if lane < inside.lanes() {
-            inside.fill(rt, lane);
-        }
+        self.locked.lock(rt).fill(rt, lane);
     }
 
     fn wait<R: Wait>(&self, rt: &R, lane: u64, taken: u64) {
         if let Some(bell) = self.bells.get(lane as usize) {
             bell.wait_while(
                 rt,
-                self.inside.lock(rt),
-                |inside| inside.is_idle(lane, taken),
+                self.locked.lock(rt),
+                |locked| locked.inside.is_idle(lane, taken),
             );
         }
     }

@@ -11,6 +11,7 @@ ghost use Rattle.up_dispatch.specs.Standing.{IsLawfulStanding, Standing};
 use crate::board::Board;
 use crate::feed::Feed;
 use crate::inside::Inside;
+use crate::locked::Locked;
 use crate::naming::Naming;
 use crate::seat::Seat;
 use std::alloc::Global;
@@ -316,11 +317,15 @@ impl<B: Naming> Board<B> {
             TellEachUpload H.handed (vec_len r.lanes) r.accepted.items r.lanes.items) }
     {
         let Board {
-            inside,
+            locked,
             bells,
             max_size,
         } = self;
-        let inside = inside.into_inner();
+        let Locked {
+            inside,
+            followed,
+            is_tied,
+        } = locked.into_inner();
         inside.is_lawful();
         match inside.finish(alloc, seats, lanes) {
             Ok(report) => Ok(report),
@@ -334,7 +339,11 @@ impl<B: Naming> Board<B> {
             ) => Err(Unfinished {
                 fault,
                 board: Board {
-                    inside: Mutex::new(board),
+                    locked: Mutex::new(Locked {
+                        inside: board,
+                        followed,
+                        is_tied,
+                    }),
                     bells,
                     max_size,
                 },

@@ -132,6 +132,13 @@ impl<B: Naming> Inside<B> {
         self.feeds.len() as u64
     }
 
+    /// Whether the board takes no change any more.
+    pub fn is_closed(&self) -> bool
+        ensures { result ≡ self.now.book.closed }
+    {
+        self.book.is_closed()
+    }
+
     /// What would come of a request.
     pub fn plan(&self, alloc: Global, request: &Request) -> Result<Plan, Refusal>
         ensures { Answers result (decide_plan self.now.book request.now) }

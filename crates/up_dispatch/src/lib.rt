@@ -12,6 +12,7 @@ mod inside;
 mod keeper;
 mod law;
 mod lending;
+mod locked;
 mod naming;
 mod parts;
 mod reply;

@@ -7,8 +7,10 @@ mod front;
 mod history;
 mod receipt;
 mod rule;
+mod trail;
 
 pub use chronicle::Chronicle;
 pub use front::Front;
 pub use history::{History, Opened};
 pub use receipt::Receipt;
+pub use trail::Trail;

@@ -9,8 +9,8 @@ use crate::history::History;
 use std::marker::Model;
 use std::snapshot::Snapshot;
 
-/// What a thread keeps of an entry of a history: the number of its place, counted from 0. Contracts see the number and
-/// the entry.
+/// What a thread keeps of an entry of a history: the number of its place, counted from 0. Contracts see the number, the
+/// entry, and the entries before it.
 #[derive(Drop)]
 pub struct Receipt<E, J: Chronicle> {
     number: u64,
@@ -19,12 +19,16 @@ pub struct Receipt<E, J: Chronicle> {
 }
 
 impl<E, J: Chronicle> Model for Receipt<E, J> {
-    ghost use Rattle.std.specs.Prelude.{◌≡◌, Some, slice_get};
+    ghost use Rattle.std.specs.Prelude.{◌≡◌, Some, slice_get, take};
     ghost use Rattle.up_history.specs.Histories.{Place};
 
     ghost Value = { Place E };
 
-    ghost view = { λ r. record { number = r.number; entry = r.entry.value } };
+    ghost view = { λ r. record {
+      number = r.number;
+      entry = r.entry.value;
+      before = take r.number r.front;
+    } };
 
     ghost invariant = { λ r. slice_get r.front r.number ≡ Some r.entry.value };
 }
@@ -35,6 +39,7 @@ impl<E, J: Chronicle> Receipt<E, J> {
         requires there { slice_get front.now number ≡ Some entry.now }
         ensures number { result.number ≡ number }
         ensures entry { result.entry ≡ entry.now }
+        ensures before { result.before ≡ take number front.now }
     {
         Receipt {
             number,
@@ -53,6 +58,7 @@ impl<E, J: Chronicle> Receipt<E, J> {
         requires room { length front.old < u64.MAX }
         ensures added { OnSome result (front.new ≡ front.old ++ entry.now ∷ []) }
         ensures receipt { IfSome result (λ r. (r.number ≡ length front.old) × (r.entry ≡ entry.now)) }
+        ensures before { IfSome result (λ r. r.before ≡ front.old) }
         ensures longer { IfNone result (IsLonger front.old front.new) }
     {
         let number = front.len();
@@ -71,15 +77,18 @@ impl<E, J: Chronicle> Receipt<E, J> {
 
     /// A front that has the entry.
     pub fn front(&self) -> Front<E, J>
-        ensures { slice_get result self.now.number ≡ Some self.now.entry }
+        ensures there { slice_get result self.now.number ≡ Some self.now.entry }
+        ensures before { take self.now.number result ≡ self.now.before }
     {
         self.front.again()
     }
 
-    /// The entry stands at its place in each front that is long enough. A law: it does nothing.
+    /// The entry stands at its place in each front that is long enough, behind the same entries. A law: it does nothing.
     pub fn is_in(&self, front: &Front<E, J>)
-        ensures { self.now.number < length front.now
+        ensures there { self.now.number < length front.now
             → slice_get front.now self.now.number ≡ Some self.now.entry }
+        ensures before { self.now.number ≤ length front.now
+            → take self.now.number front.now ≡ self.now.before }
     {
         let _ = self.number;
         self.front.meets(front);

@@ -1,2 +1,3 @@
 -- The lemmas.
 mod Results
+pub mod InTurn

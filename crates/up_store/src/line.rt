@@ -50,6 +50,8 @@ pub struct Line {
     kept: u64,
     /// How many entries of the log had their turn: the place there of the next.
     place: u64,
+    /// How many entries had their turn in this run, with those that were read at its start.
+    decided: u64,
 }
 
 impl Model for Line {
@@ -104,11 +106,20 @@ impl Line {
             lost: 0,
             kept: 0,
             place,
+            decided: place,
         })
     }
 
-    /// The log has so many entries, of which none was drawn here.
+    /// The log has so many entries, which were read and had their turn before any was drawn here.
     pub fn begin_at(&mut self, place: u64)
+        ensures { self.new ≡ self.old }
+    {
+        self.place = place;
+        self.decided = place;
+    }
+
+    /// A shorter log took the place of the log, and has so many entries.
+    pub fn go_over(&mut self, place: u64)
         ensures { self.new ≡ self.old }
     {
         self.place = place;
@@ -242,12 +253,19 @@ impl Line {
         }
         if is_on_disk {
             self.place = self.place.saturating_add(1);
+            self.decided = self.decided.saturating_add(1);
         }
     }
 
     /// The place in the log of the change whose turn it is, if it is on the disk.
     pub fn place(&self) -> u64 {
         self.place
+    }
+
+    /// How many entries had their turn in this run, those of its start included. A log that becomes shorter changes the
+    /// places, but not this.
+    pub fn decided(&self) -> u64 {
+        self.decided
     }
 
     /// The number of the change whose turn comes next, and of the first of which it isn't known whether it is on the

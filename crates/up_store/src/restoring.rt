@@ -1,9 +1,8 @@
 //! Carrying out the entries of a log again, on a board.
 ghost use Rattle.std.specs.Prelude.{◌≡◌, OnOk, Result};
-ghost use Rattle.up_dispatch.specs.Keepers.{SeatCommits};
+ghost use Rattle.up_dispatch.specs.Tied.{CommitsAt};
 ghost use Rattle.up_machine.specs.declared.plan.Done.{Done as Carried};
 ghost use Rattle.up_machine.specs.declared.refusal.Refusal.{Refusal as Refused};
-ghost use Rattle.up_replay.specs.Replay.{asked_of};
 
 use crate::voids::Voids;
 use sqlite_disk::Disk;
@@ -14,7 +13,7 @@ use up_dispatch::{Board, Naming, Seat};
 use up_log::{Entry, Log, LogFault, LogReader};
 use up_machine::Refusal;
 use up_message::Sequence;
-use up_replay::{Unreplayed, Unrestored, asked_of, fits};
+use up_replay::{Unreplayed, Unrestored, fits};
 
 /// The logs of a store, which are open.
 #[derive(Drop)]
@@ -25,27 +24,25 @@ pub struct Logs<D: Disk> {
     pub count: u64,
 }
 
-/// Carries out an entry again. What refuses it refused it before, too.
+/// Carries out the entry at a place of the log again. What refuses it refused it before, too.
 fn carry_out<B: Naming, R: Wait>(
     rt: &R,
     alloc: Global,
     board: &Board<B>,
     seat: &mut Seat<B>,
+    place: u64,
     entry: Entry,
 ) -> Result<(), Unreplayed>
     ensures { OnOk result ((done : Result Carried Refused)
-        × SeatCommits B.queue B.lanes B.max_size seat.old entry.request entry.id
-        (asked_of entry.consent) seat.new done) }
+        × CommitsAt B.queue B.lanes B.max_size place seat.old entry seat.new done) }
 {
-    let Entry {
-        id,
-        consent,
-        request,
-    } = entry;
-    if !fits(&request) {
+    if !fits(&entry.request) {
         return Err(Unreplayed::TooLong);
     }
-    match board.commit(rt, alloc, seat, request, id, &asked_of(consent)) {
+    let Some(done) = board.commit_at(rt, alloc, seat, place, entry) else {
+        return Err(Unreplayed::Memory);
+    };
+    match done {
         Err(Refusal::NoMemory) => Err(Unreplayed::Memory),
         _ => Ok(()),
     }
@@ -65,7 +62,9 @@ fn carry_out_all<B: Naming, R: Wait>(
     let mut place = first;
     for entry in entries.into_vec() {
         if !voids.contains(&place) {
-            carry_out(rt, alloc, board, seat, entry)?;
+            carry_out(rt, alloc, board, seat, place, entry)?;
+        } else if board.pass_over(rt, place, &entry).is_none() {
+            return Err(Unreplayed::Memory);
         }
         place = place.saturating_add(1);
     }

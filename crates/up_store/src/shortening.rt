@@ -209,7 +209,7 @@ impl<D: Disk + Drop, F: Folder<D>> Shortening<'_, D, F> {
             progress,
             ..
         } = shorter;
-        store.open(
+        store.switch(
             rt,
             Logs {
                 changes,

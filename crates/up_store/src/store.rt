@@ -8,7 +8,7 @@ use sqlite_disk::Disk;
 use std::alloc::{AllocError, Global};
 use std::sync::atomic::{AtomicBool, AtomicU64, Ordering};
 use std::sync::{Condvar, Mutex, Wait};
-use up_log::{LogFault, Spelled};
+use up_log::{Log, LogFault, Spelled};
 
 /// How many bells there are: more connections than these share them.
 const BELLS: u64 = 64;
@@ -77,6 +77,28 @@ impl<D: Disk, N> Store<D, N> {
             count,
         } = logs;
         self.line.lock(rt).begin_at(count);
+        self.hold_logs(rt, changes, voids);
+    }
+
+    /// Goes on with shorter logs, while the line is held up.
+    pub(crate) fn switch<R: Wait>(&self, rt: &R, logs: Logs<D>)
+    where
+        D: Drop,
+    {
+        let Logs {
+            changes,
+            voids,
+            count,
+        } = logs;
+        self.line.lock(rt).go_over(count);
+        self.hold_logs(rt, changes, voids);
+    }
+
+    /// These are the logs from now on.
+    fn hold_logs<R: Wait>(&self, rt: &R, changes: Log<D>, voids: Voids<D>)
+    where
+        D: Drop,
+    {
         *self.voids.lock(rt) = Some(voids);
         *self.log.lock(rt) = Held::Open(changes);
     }
@@ -174,10 +196,20 @@ impl<D: Disk + Drop, N: StoreNotices + LogFile<D>> Store<D, N> {
         false
     }
 
+    /// The place in the log of the change whose turn it is.
+    pub(crate) fn place<R: Wait>(&self, rt: &R) -> u64 {
+        self.line.lock(rt).place()
+    }
+
+    /// How many entries had their turn in this run before the change whose turn it is.
+    pub(crate) fn decided<R: Wait>(&self, rt: &R) -> u64 {
+        self.line.lock(rt).decided()
+    }
+
     /// Says that the change whose turn it is is void. If that can't be written no other change can be made, since each
     /// would be decided otherwise once the log is read again.
     fn note_void<R: Wait>(&self, rt: &R, alloc: Global) {
-        let place = self.line.lock(rt).place();
+        let place = self.place(rt);
         let written = match self.voids.lock(rt).as_mut() {
             Some(voids) => voids.add(alloc, place),
             None => Err(LogFault::NotRead),

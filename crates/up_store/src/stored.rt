@@ -1,5 +1,8 @@
 //! A seat of a board whose changes are written to a log before they are made.
-ghost use Rattle.std.specs.Prelude.{◌≡◌};
+ghost use Rattle.std.specs.Prelude.{◌≡◌, true, IfNone, IfSome, Err};
+ghost use Rattle.up_machine.specs.Decision.{is_refusal};
+ghost use Rattle.up_machine.specs.declared.refusal.Refusal.TheVariants.{NoMemory};
+ghost use Rattle.up_replay.specs.Replay.{asked_of};
 
 use crate::held::LogFile;
 use crate::notices::StoreNotices;
@@ -23,12 +26,26 @@ pub struct Stored<'a, B: Naming, D: Disk, N, R: Wait> {
 }
 
 /// What the closures said, unless one of them refuses.
-fn consent_of(asked: &Asked) -> Option<Consent> {
+fn consent_of(asked: &Asked) -> Option<Consent>
+    ensures said { IfSome result (λ consent. asked_of consent ≡ asked.now) }
+    ensures refused { IfNone result (is_refusal asked.now ≡ true) }
+{
     match asked {
         Asked::Skipped => Some(Consent::Skipped),
         Asked::Allowed => Some(Consent::Allowed),
         Asked::AllowedFinish => Some(Consent::AllowedFinish),
         Asked::Refused { .. } => None,
+    }
+}
+
+/// The answer to a change. One that the board didn't take is answered as want of memory is.
+fn answer_of(decided: Option<Result<Done, Refusal>>) -> Result<Done, Refusal>
+    ensures taken { IfSome decided (λ answer. result ≡ answer) }
+    ensures refused { IfNone decided (result ≡ Err NoMemory) }
+{
+    match decided {
+        Some(answer) => answer,
+        None => Err(Refusal::NoMemory),
     }
 }
 
@@ -117,15 +134,16 @@ impl<B: Naming, D: Disk + Drop, N: StoreNotices + LogFile<D>, R: Wait> Keeper
         let Ok(true) = self.keep(alloc, &entry) else {
             return Err(Refusal::NoMemory);
         };
-        let Entry { request, .. } = entry;
-        let result = self
+        let place = self.store.decided(self.rt);
+        let decided = self
             .board
-            .commit(self.rt, alloc, self.seat, request, id, asked);
-        let turn = match &result {
+            .commit_at(self.rt, alloc, self.seat, place, entry);
+        let answer = answer_of(decided);
+        let turn = match &answer {
             Err(Refusal::NoMemory | Refusal::Closed) => Turn::Void,
             _ => Turn::Decided,
         };
         self.store.end_turn(self.rt, alloc, turn);
-        result
+        answer
     }
 }

@@ -1,0 +1,40 @@
+-- The value behind the board's lock: a board, and how far its book follows a log.
+use Rattle.std.specs.Prelude.{◌≡◌, ℕ, Bool, true, false, List, Result, length}
+use Rattle.up_commits.specs.Follows.{Following, IsBookAfter, IsBookOf, new_book}
+use Rattle.up_log.specs.declared.entry.Entry.{Entry}
+use Rattle.up_machine.specs.State.{State}
+use Rattle.up_machine.specs.declared.plan.Done.{Done}
+use Rattle.up_machine.specs.declared.refusal.Refusal.{Refusal}
+use Rattle.up_queue.specs.Sides.{QueueId}
+use Rattle.up_replay.specs.Replay.{asked_of}
+use Rattle.up_dispatch.specs.Commits.{CommitsTo}
+use Rattle.up_dispatch.specs.Standing.{Standing}
+
+-- the board, the entries that it follows, and whether it follows them still
+pub record Tied : Type 0 where
+  pub board : Standing
+  pub follows : Following
+  pub is_tied : Bool
+
+abbrev pub tied : Standing → Following → Bool → Tied
+tied board follows is_tied = record { board = board; follows = follows; is_tied = is_tied }
+
+-- as long as it follows the entries its book is the one that they define
+abbrev pub IsTied : ℕ → ℕ → Standing → Following → Bool → Type 0
+IsTied lanes max_size board follows is_tied = is_tied ≡ true → IsBookOf lanes max_size follows board.book
+
+-- nothing was done in the book yet
+abbrev pub IsNewBook : ℕ → ℕ → State → Type 0
+IsNewBook lanes max_size book = (keeps : Bool) × (book ≡ new_book keeps lanes max_size)
+
+-- unless the board was closed its book was the one that as many entries define as stand before this place
+abbrev pub IsDecidedAt : ℕ → ℕ → ℕ → State → Type 0
+IsDecidedAt lanes max_size place book =
+    book.closed ≡ false → (before : List Entry) × (length before ≡ place) × IsBookAfter lanes max_size before book
+
+-- the commit of the entry at this place of a log to a lawful board, which has decided on those before it, in their order
+abbrev pub CommitsAt : (ℕ → QueueId) → ℕ → ℕ → ℕ → ℕ → Entry → ℕ → Result Done Refusal → Type 0
+CommitsAt queue lanes max_size place count entry after_it result =
+    (old : Standing) × (new : Standing)
+    × CommitsTo queue lanes max_size old new count after_it entry.request entry.id (asked_of entry.consent) result
+    × IsDecidedAt lanes max_size place old.book

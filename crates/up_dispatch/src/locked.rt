@@ -1,0 +1,173 @@
+//! What lies under the board's lock: the board, and how far its book follows a log.
+ghost use Rattle.std.specs.Prelude.{◌≡◌, ◌<◌, IfNone, IfSome, IsTrue, ◌↔◌, Err, false, length};
+ghost use Rattle.up_commits.specs.Follows.{IsBookAfter};
+ghost use Rattle.up_headers.specs.Table.{FitsWithin};
+ghost use Rattle.up_machine.specs.declared.refusal.Refusal.TheVariants.{NoMemory};
+ghost use Rattle.up_replay.specs.Replay.{asked_of};
+ghost use Rattle.up_dispatch.specs.Commits.{CommitsTo};
+ghost use Rattle.up_dispatch.specs.Tied.{IsDecidedAt, IsNewBook};
+
+use crate::inside::Inside;
+use crate::naming::Naming;
+use crate::seat::Seat;
+use std::alloc::Global;
+use std::marker::Model;
+use std::snapshot::Snapshot;
+use std::sync::Wait;
+use up_commits::{Followed, books_follow};
+use up_events::{Id, MOST_BYTES};
+use up_headers::Request;
+use up_log::Entry;
+use up_machine::{Asked, Done, Refusal, Remains};
+use up_replay::asked_of;
+
+/// A board, and how far its book follows a log. A request that is carried out and isn't an entry of the log ends that.
+#[derive(Drop)]
+pub struct Locked<B: Naming> {
+    pub(crate) inside: Inside<B>,
+    pub(crate) followed: Followed,
+    pub(crate) is_tied: bool,
+}
+
+impl<B: Naming> Model for Locked<B> {
+    ghost use Rattle.up_dispatch.specs.Tied.{Tied, tied, IsTied};
+    ghost use Rattle.up_dispatch.specs.TiedCode.{tied_code};
+
+    ghost Value = { Tied };
+
+    ghost coded = { tied_code };
+
+    ghost view = { λ l. tied l.inside l.followed l.is_tied };
+
+    ghost invariant = { λ l. IsTied B.lanes B.max_size l.inside l.followed l.is_tied };
+}
+
+/// Whether there was no memory for a commit.
+fn wants_memory(answer: &Result<Done, Refusal>) -> bool
+    ensures { IsTrue result ↔ (answer.now ≡ Err NoMemory) }
+{
+    matches!(answer, Err(Refusal::NoMemory))
+}
+
+impl<B: Naming> Locked<B> {
+    /// A new board, which follows no entry yet.
+    pub fn new(inside: Inside<B>) -> Locked<B>
+        requires new { IsNewBook B.lanes B.max_size inside.book }
+    {
+        books_follow();
+        Locked {
+            inside,
+            followed: Followed::new(),
+            is_tied: true,
+        }
+    }
+
+    /// Decides on a request from a seat. If it is carried out the book follows no log any more.
+    pub fn commit<R: Wait>(
+        &mut self,
+        rt: &R,
+        alloc: Global,
+        seat: &mut Seat<B>,
+        request: Request,
+        id: Id,
+        asked: &Asked,
+    ) -> (Result<Done, Refusal>, Remains)
+        requires bounded { FitsWithin MOST_BYTES request }
+        ensures { CommitsTo B.queue B.lanes B.max_size self.old.board self.new.board
+            seat.old seat.new request id asked.now result.0 }
+    {
+        let (result, remains) = self.inside.commit(rt, alloc, seat, request, id, asked);
+        self.is_tied = self.is_tied && result.is_err();
+        (result, remains)
+    }
+
+    /// Decides on an entry of the log, which is the next that the book follows.
+    fn carry_out<R: Wait>(
+        &mut self,
+        rt: &R,
+        alloc: Global,
+        seat: &mut Seat<B>,
+        entry: Entry,
+    ) -> (Result<Done, Refusal>, Remains)
+        requires bounded { FitsWithin MOST_BYTES entry.request }
+        requires room { length self.old.follows.entries < u64.MAX }
+        requires whole { length self.old.follows.carried ≡ length self.old.follows.entries }
+        requires tied { IsTrue self.old.is_tied }
+        requires going { self.old.board.book.closed ≡ false }
+        ensures commits { CommitsTo B.queue B.lanes B.max_size self.old.board self.new.board
+            seat.old seat.new entry.request entry.id (asked_of entry.consent) result.0 }
+        ensures after { IsBookAfter B.lanes B.max_size self.old.follows.entries
+            self.old.board.book }
+    {
+        books_follow();
+        let shown = Snapshot::of(&entry);
+        let Entry {
+            id,
+            consent,
+            request,
+        } = entry;
+        let (result, remains) = self
+            .inside
+            .commit(rt, alloc, seat, request, id, &asked_of(consent));
+        let is_carried = !wants_memory(&result);
+        self.followed.follow(shown, is_carried);
+        (result, remains)
+    }
+
+    /// Decides on the entry at a place of the log from a seat. None if the book doesn't follow just the entries before it:
+    /// then nothing is done. On a closed board it is decided without being followed.
+    pub fn commit_at<R: Wait>(
+        &mut self,
+        rt: &R,
+        alloc: Global,
+        seat: &mut Seat<B>,
+        place: u64,
+        entry: Entry,
+    ) -> Option<(Result<Done, Refusal>, Remains)>
+        requires bounded { FitsWithin MOST_BYTES entry.request }
+        ensures commits { IfSome result (λ r. CommitsTo B.queue B.lanes B.max_size
+            self.old.board self.new.board seat.old seat.new
+            entry.request entry.id (asked_of entry.consent) r.0) }
+        ensures after { IfSome result (λ r.
+            IsDecidedAt B.lanes B.max_size place self.old.board.book) }
+        ensures none { IfNone result ((self.new ≡ self.old) × (seat.new ≡ seat.old)) }
+    {
+        if self.inside.is_closed() {
+            let Entry {
+                id,
+                consent,
+                request,
+            } = entry;
+            return Some(self.commit(rt, alloc, seat, request, id, &asked_of(consent)));
+        }
+        if !self.is_tied || !self.followed.is_next(place) {
+            return None;
+        }
+        Some(self.carry_out(rt, alloc, seat, entry))
+    }
+
+    /// Passes over the entry at a place of the log. None if the book doesn't follow just the entries before it.
+    pub fn pass_over(&mut self, place: u64, entry: &Entry) -> Option<()>
+        ensures { self.new.board ≡ self.old.board }
+    {
+        if !self.followed.is_next(place) {
+            return None;
+        }
+        books_follow();
+        self.followed.follow(Snapshot::of(entry), false);
+        Some(())
+    }
+
+    /// Puts what is left of the lane's log into its queue, until that takes no more.
+    pub fn fill<R: Wait>(&mut self, rt: &R, lane: u64) {
+        if lane < self.inside.lanes() {
+            self.inside.fill(rt, lane);
+        }
+    }
+
+    /// Accepts no change from now on.
+    pub fn close<R: Wait>(&mut self, rt: &R) {
+        books_follow();
+        self.inside.close(rt);
+    }
+}

@@ -1,0 +1,87 @@
+//! How far something follows a history.
+ghost use Rattle.std.specs.Prelude.{◌≡◌, ◌≤◌, ◌++◌, ◌∷◌, [], length, take, IsTrue, ◌↔◌};
+ghost use Rattle.up_history.specs.Histories.{HasFirst, first_of};
+
+use crate::chronicle::Chronicle;
+use crate::front::Front;
+use crate::receipt::Receipt;
+use std::marker::Model;
+
+/// How far something follows a history, as a log or a book does, entry by entry. Contracts see it as these entries.
+#[derive(Drop)]
+pub struct Trail<E, J: Chronicle> {
+    front: Option<Front<E, J>>,
+    count: u64,
+}
+
+impl<E, J: Chronicle> Model for Trail<E, J> {
+    ghost use Rattle.std.specs.Prelude.{List};
+    ghost use Rattle.up_history.specs.Histories.{HasFirst, first_of};
+
+    ghost Value = { List E };
+
+    ghost view = { λ t. first_of t.front t.count };
+
+    ghost invariant = { λ t. HasFirst t.front t.count };
+}
+
+/// So many entries are the same in each front that has them. A law: it does nothing.
+fn agree<E, J: Chronicle>(own: &Option<Front<E, J>>, count: u64, front: &Front<E, J>)
+    requires own { HasFirst own.now count }
+    requires long { count ≤ length front.now }
+    ensures { first_of own.now count ≡ take count front.now }
+{
+    if let Some(own) = own {
+        own.meets(front);
+    }
+}
+
+impl<E, J: Chronicle> Trail<E, J> {
+    /// It follows no entry yet.
+    pub fn new() -> Trail<E, J>
+        ensures { result ≡ [] }
+    {
+        Trail {
+            front: None,
+            count: 0,
+        }
+    }
+
+    /// It follows all entries of a front.
+    pub fn along(front: Front<E, J>) -> Trail<E, J>
+        ensures { result ≡ front }
+    {
+        let count = front.len();
+        Trail {
+            front: Some(front),
+            count,
+        }
+    }
+
+    /// How many entries it follows.
+    pub fn len(&self) -> u64
+        ensures { result ≡ length self.now }
+    {
+        self.count
+    }
+
+    /// Whether the entry of a receipt is the next.
+    pub fn is_next(&self, receipt: &Receipt<E, J>) -> bool
+        ensures { IsTrue result ↔ (receipt.now.number ≡ length self.now) }
+    {
+        receipt.number() == self.len()
+    }
+
+    /// Follows the entry of a receipt, which is the next.
+    pub fn follow(&mut self, receipt: &Receipt<E, J>)
+        requires next { receipt.now.number ≡ length self.old }
+        ensures before { self.old ≡ receipt.now.before }
+        ensures follows { self.new ≡ self.old ++ receipt.now.entry ∷ [] }
+    {
+        let front = receipt.front();
+        let _ = front.len();
+        agree(&self.front, self.count, &front);
+        self.front = Some(front);
+        self.count += 1;
+    }
+}
