@@ -22,11 +22,6 @@ impl<D: Disk, N> Store<D, N> {
         !self.is_failing.load(Ordering::SeqCst)
     }
 
-    /// How many entries of the log had their turn.
-    pub(crate) fn place<R: Wait>(&self, rt: &R) -> u64 {
-        self.line.lock(rt).place()
-    }
-
     /// The batch at a place of the log, and the place behind it; None at the end.
     pub(crate) fn batch_at<R: Wait>(
         &self,

@@ -196,7 +196,7 @@ impl<D: Disk + Drop, N: StoreNotices + LogFile<D>> Store<D, N> {
         false
     }
 
-    /// The place in the log of the change whose turn it is.
+    /// The place in the log of the change whose turn it is: how many entries of the log had their turn before.
     pub(crate) fn place<R: Wait>(&self, rt: &R) -> u64 {
         self.line.lock(rt).place()
     }
