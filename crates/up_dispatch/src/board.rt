@@ -160,8 +160,9 @@ impl<B: Naming> Board<B> {
         result
     }
 
-    /// Decides on the entry at a place of the log from a seat. The board has then carried out the entries before it, each in its turn,
-    /// and nothing else, but for those for which it had no memory. None if it hasn't: then nothing is done.
+    /// Decides on the entry at a place of the log from a seat. Places are counted from the first entry that the board was given. The
+    /// board has then carried out the entries before it, each in its turn, and nothing else, but for those for which it had no memory.
+    /// None if it hasn't: then nothing is done.
     pub fn commit_at<R: Wait>(
         &self,
         rt: &R,
