@@ -133,6 +133,16 @@ impl<D: Disk, N> Store<D, N> {
         self.line.lock(rt).draw(change)
     }
 
+    /// The place in the log of the change whose turn it is: how many entries of the log had their turn before.
+    pub(crate) fn place<R: Wait>(&self, rt: &R) -> u64 {
+        self.line.lock(rt).place()
+    }
+
+    /// How many entries had their turn in this run before the change whose turn it is.
+    pub(crate) fn decided<R: Wait>(&self, rt: &R) -> u64 {
+        self.line.lock(rt).decided()
+    }
+
     /// Wakes those that wait whose number may be this.
     fn ring(&self, number: u64) {
         if let Some(bell) = self.bells.get((number % BELLS) as usize) {
@@ -194,16 +204,6 @@ impl<D: Disk + Drop, N: StoreNotices + LogFile<D>> Store<D, N> {
             }
         }
         false
-    }
-
-    /// The place in the log of the change whose turn it is: how many entries of the log had their turn before.
-    pub(crate) fn place<R: Wait>(&self, rt: &R) -> u64 {
-        self.line.lock(rt).place()
-    }
-
-    /// How many entries had their turn in this run before the change whose turn it is.
-    pub(crate) fn decided<R: Wait>(&self, rt: &R) -> u64 {
-        self.line.lock(rt).decided()
     }
 
     /// Says that the change whose turn it is is void. If that can't be written no other change can be made, since each
