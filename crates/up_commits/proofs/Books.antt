@@ -1,7 +1,5 @@
 -- Books that follow a log.
-use Rattle.std.proofs.Common.{◌≡◌, Bool, true, false, List, [], ◌∷◌, ◌++◌, length, map, Option, Some, None, Result, Ok, Err, refl, ap, sym, ◌∙◌, arith}
-use Rattle.std.proofs.lemmas.List.{map-append}
-use Rattle.std.specs.declared.snapshot.Snapshot.{Snapshot}
+use Rattle.std.proofs.Common.{◌≡◌, Bool, true, false, List, [], ◌∷◌, ◌++◌, length, Option, Some, None, Result, Ok, Err, refl, ap, sym, ◌∙◌, arith}
 use Rattle.up_log.specs.declared.entry.Entry.{Entry}
 use Rattle.up_events.specs.declared.event.Accepted.{Accepted}
 use Rattle.up_machine.specs.Decision.{decide}
@@ -9,11 +7,7 @@ use Rattle.up_machine.specs.State.{State, after}
 use Rattle.up_machine.specs.declared.plan.Done.{Done}
 use Rattle.up_machine.specs.declared.refusal.Refusal.{Refusal}
 use Rattle.up_replay.specs.Replay.{asked_of, carried, replayed, replayed_one, ReplaysGoOn}
-use Rattle.up_commits.specs.Follows.{carried_of, new_book, shown_of, NewBooksFollow, ClosedBooksFollow, BooksFollow, BooksPassOver}
-
--- a snapshot more
-pub shown_push : (shown : List (Snapshot Entry)) (more : Snapshot Entry) → shown_of (shown ++ more ∷ []) ≡ shown_of shown ++ more.value ∷ []
-shown_push shown more = map-append (λ (s : Snapshot Entry). s.value) shown (more ∷ [])
+use Rattle.up_commits.specs.Follows.{carried_of, new_book, NewBooksFollow, ClosedBooksFollow, BooksFollow, BooksPassOver}
 
 -- entries close no book
 after_closed : (s : State) (entry : Entry) (change : Option Accepted) → (after s entry.request entry.id change).closed ≡ s.closed

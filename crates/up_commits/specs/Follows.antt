@@ -1,6 +1,5 @@
 -- How far a book follows a log.
-use Rattle.std.specs.Prelude.{◌≡◌, ℕ, Bool, true, false, List, [], ◌∷◌, ◌++◌, length, map}
-use Rattle.std.specs.declared.snapshot.Snapshot.{Snapshot}
+use Rattle.std.specs.Prelude.{◌≡◌, ℕ, Bool, true, false, List, [], ◌∷◌, ◌++◌, length}
 use Rattle.up_events.specs.Records.{empty_records}
 use Rattle.up_log.specs.declared.entry.Entry.{Entry}
 use Rattle.up_machine.specs.State.{State, empty_state}
@@ -13,10 +12,6 @@ pub record Following : Type 0 where
 
 abbrev pub following : List Entry → List Bool → Following
 following entries carried = record { entries = entries; carried = carried }
-
--- what these snapshots show
-abbrev pub shown_of : List (Snapshot Entry) → List Entry
-shown_of shown = map (λ (s : Snapshot Entry). s.value) shown
 
 -- one entry more
 abbrev pub followed_by : Following → Entry → Bool → Following

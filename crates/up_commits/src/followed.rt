@@ -1,9 +1,8 @@
 //! How far a book follows a log.
-ghost use Rattle.std.specs.Prelude.{◌≡◌, ◌<◌, [], length, IsTrue, ◌↔◌};
-ghost use Rattle.up_commits.specs.Follows.{followed_by, following};
+ghost use Rattle.std.specs.Prelude.{◌≡◌, ◌<◌, ◌++◌, ◌∷◌, [], length, IsTrue, ◌↔◌};
+ghost use Rattle.up_commits.specs.Follows.{following};
 
 use std::marker::Model;
-use std::snapshot::Snapshot;
 use up_events::Trace;
 use up_log::Entry;
 
@@ -12,20 +11,19 @@ use up_log::Entry;
 #[derive(Drop)]
 pub struct Followed {
     count: u64,
-    entries: Trace<Snapshot<Entry>>,
+    entries: Trace<Entry>,
     carried: Trace<bool>,
 }
 
 impl Model for Followed {
     ghost use Rattle.std.specs.Prelude.{◌≡◌, length};
-    ghost use Rattle.up_commits.specs.Follows.{Following, following, shown_of};
+    ghost use Rattle.up_commits.specs.Follows.{Following, following};
 
     ghost Value = { Following };
 
-    ghost view = { λ f. following (shown_of f.entries.items) f.carried.items };
+    ghost view = { λ f. following f.entries.items f.carried.items };
 
-    ghost invariant = { λ f. (f.count ≡ length (shown_of f.entries.items))
-        × (length f.carried.items ≡ length (shown_of f.entries.items)) };
+    ghost invariant = { λ f. f.count ≡ length f.entries.items };
 }
 
 impl Followed {
@@ -49,21 +47,24 @@ impl Followed {
 
     /// Whether an entry of this place in the log is the next, and can be followed: of 2^64 - 1 entries none is.
     pub fn is_next(&self, place: u64) -> bool
-        ensures next { IsTrue result
-            ↔ (place ≡ length self.now.entries) × (place < u64.MAX) }
-        ensures whole { length self.now.carried ≡ length self.now.entries }
+        ensures { IsTrue result ↔ (place ≡ length self.now.entries) × (place < u64.MAX) }
     {
         place == self.count && place < u64::MAX
     }
 
-    /// Follows one entry more, which was carried out or not.
-    #[tactic(auto, using(crate::proofs::Books::shown_push))]
-    pub fn follow(&mut self, entry: Snapshot<Entry>, is_carried: bool)
+    /// Begins with one entry more. Whether it was carried out is to be told by `end`.
+    pub fn begin(&mut self, entry: &Entry)
         requires room { length self.old.entries < u64.MAX }
-        ensures { self.new ≡ followed_by self.old entry.value is_carried }
+        ensures { self.new ≡ following (self.old.entries ++ entry.now ∷ []) self.old.carried }
     {
-        self.entries.push(&entry);
-        self.carried.push(&is_carried);
+        self.entries.push(entry);
         self.count += 1;
+    }
+
+    /// The entry with which it began last was carried out, or it wasn't.
+    pub fn end(&mut self, is_carried: bool)
+        ensures { self.new ≡ following self.old.entries (self.old.carried ++ is_carried ∷ []) }
+    {
+        self.carried.push(&is_carried);
     }
 }

@@ -1,5 +1,5 @@
 -- What keeps a lane's queue in step with its log.
-use Rattle.std.proofs.Common.{◌≡◌, ℕ, ◌+◌, ◌-◌, ◌≤◌, ◌<◌, List, [], ◌∷◌, ◌++◌, Some, Result, Ok, Err, OnOk, length, take, drop, slice_get, get_or, Bool, true, false, true≢false, refl, sym, ap, ◌∙◌, subst, arith, length-append, append-nil, take-append-drop}
+use Rattle.std.proofs.Common.{◌≡◌, ℕ, ◌+◌, ◌<◌, List, [], ◌∷◌, ◌++◌, Some, Result, Ok, Err, OnOk, length, take, drop, slice_get, get_or, Bool, true, false, true≢false, refl, sym, ap, ◌∙◌, subst, arith, length-append, append-nil, take-append-drop}
 use Rattle.std.specs.Result.{is_err}
 use Rattle.std.proofs.lemmas.Option.{get_or_from_slice_get, slice_get_within}
 use Rattle.std.proofs.lemmas.List.{take_more, take-append-le, map-append}

@@ -1,6 +1,7 @@
 -- A book behind the board's lock, which follows a log.
-use Rattle.std.proofs.Common.{◌≡◌, ◌≢◌, ◌⊎◌, inl, inr, ℕ, Bool, true, false, not, is_err, length, Result, Ok, Err, refl, ap, subst, sym, ◌∙◌}
-use Rattle.up_commits.specs.Follows.{BooksFollow, BooksPassOver, Following, IsBookOf, followed_by}
+use Rattle.std.proofs.Common.{◌≡◌, ◌≢◌, inl, inr, ℕ, ◌+◌, Bool, true, false, not, is_err, List, [], ◌∷◌, ◌++◌, length, Result, Ok, Err, refl, ap, subst, sym, ◌∙◌}
+use Rattle.std.proofs.lemmas.List.{length-append}
+use Rattle.up_commits.specs.Follows.{BooksFollow, BooksPassOver, Following, IsBookOf, followed_by, following}
 use Rattle.up_headers.specs.declared.request.Request.{Request}
 use Rattle.up_log.specs.declared.entry.Entry.{Entry}
 use Rattle.up_machine.specs.Decision.{Answers, decide}
@@ -11,6 +12,10 @@ use Rattle.up_machine.specs.declared.refusal.Refusal.TheVariants.{NoMemory}
 use Rattle.up_replay.specs.Replay.{asked_of, carried, replayed_one}
 use Rattle.up_dispatch.specs.Commits.{Leaves}
 use Rattle.up_dispatch.specs.Standing.{Standing}
+
+same_after : (flags : List Bool) (entries : List Entry) (c : Bool) (entry : Entry) → length flags ≡ length entries → length (flags ++ c ∷ []) ≡ length (entries ++ entry ∷ [])
+same_after flags entries c entry same =
+    length-append flags (c ∷ []) ∙ (ap (λ (n : ℕ). n + 1) same ∙ sym (length-append entries (entry ∷ [])))
 
 left : (old new : Standing) (before after_it : ℕ) (entry : Entry) (result : Result Done Refusal) → Leaves old new before after_it entry.request entry.id result → new.book ≡ carried old.book entry result
 left old new before after_it entry (Ok done) leaves = leaves.book
@@ -27,6 +32,17 @@ carried_is old new before after_it entry result answer leaves decided = elim ans
 
 passed_is : (old new : Standing) (before after_it : ℕ) (entry : Entry) (result : Result Done Refusal) → Leaves old new before after_it entry.request entry.id result → result ≡ Err NoMemory → new.book ≡ old.book
 passed_is old new before after_it entry result leaves wants = left old new before after_it entry result leaves ∙ ap (carried old.book entry) wants
+
+-- an entry that was begun with and ended
+pub has_ended : (f begun g : Following) (entry : Entry) (is_carried : Bool) → begun ≡ following (f.entries ++ entry ∷ []) f.carried
+    → g ≡ following begun.entries (begun.carried ++ is_carried ∷ []) → g ≡ followed_by f entry is_carried
+has_ended f begun g entry is_carried begins ends = ends ∙ ap (λ (b : Following). following b.entries (b.carried ++ is_carried ∷ [])) begins
+
+pub ended : (f g : Following) (entry : Entry) (is_carried : Bool) → length f.carried ≡ length f.entries → g ≡ followed_by f entry is_carried
+    → length g.carried ≡ length g.entries
+ended f g entry is_carried whole follows =
+    ap (λ (h : Following). length h.carried) follows
+    ∙ (same_after f.carried f.entries is_carried entry whole ∙ sym (ap (λ (h : Following). length h.entries) follows))
 
 -- an entry more
 pub tied_on : BooksFollow → BooksPassOver → (lanes max_size : ℕ) (f : Following) (old new : Standing) (before after_it : ℕ) (entry : Entry) (result : Result Done Refusal) (wants : Bool)

@@ -19,9 +19,10 @@ pub record Tied : Type 0 where
 abbrev pub tied : Standing → Following → Bool → Tied
 tied board follows is_tied = record { board = board; follows = follows; is_tied = is_tied }
 
--- as long as it follows the entries its book is the one that they define
+-- of each entry it is known whether it was carried out, and as long as the board follows them its book is the one that they define
 abbrev pub IsTied : ℕ → ℕ → Standing → Following → Bool → Type 0
-IsTied lanes max_size board follows is_tied = is_tied ≡ true → IsBookOf lanes max_size follows board.book
+IsTied lanes max_size board follows is_tied =
+    (length follows.carried ≡ length follows.entries) × (is_tied ≡ true → IsBookOf lanes max_size follows board.book)
 
 -- nothing was done in the book yet
 abbrev pub IsNewBook : ℕ → ℕ → State → Type 0

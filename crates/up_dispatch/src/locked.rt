@@ -12,7 +12,6 @@ use crate::naming::Naming;
 use crate::seat::Seat;
 use std::alloc::Global;
 use std::marker::Model;
-use std::snapshot::Snapshot;
 use std::sync::Wait;
 use up_commits::{Followed, books_follow};
 use up_events::{Id, MOST_BYTES};
@@ -91,7 +90,6 @@ impl<B: Naming> Locked<B> {
     ) -> (Result<Done, Refusal>, Remains)
         requires bounded { FitsWithin MOST_BYTES entry.request }
         requires room { length self.old.follows.entries < u64.MAX }
-        requires whole { length self.old.follows.carried ≡ length self.old.follows.entries }
         requires tied { IsTrue self.old.is_tied }
         requires going { self.old.board.book.closed ≡ false }
         ensures commits { CommitsTo B.queue B.lanes B.max_size self.old.board self.new.board
@@ -100,7 +98,7 @@ impl<B: Naming> Locked<B> {
             self.old.board.book }
     {
         books_follow();
-        let shown = Snapshot::of(&entry);
+        self.followed.begin(&entry);
         let Entry {
             id,
             consent,
@@ -110,7 +108,7 @@ impl<B: Naming> Locked<B> {
             .inside
             .commit(rt, alloc, seat, request, id, &asked_of(consent));
         let is_carried = !wants_memory(&result);
-        self.followed.follow(shown, is_carried);
+        self.followed.end(is_carried);
         (result, remains)
     }
 
@@ -154,7 +152,8 @@ impl<B: Naming> Locked<B> {
             return None;
         }
         books_follow();
-        self.followed.follow(Snapshot::of(entry), false);
+        self.followed.begin(entry);
+        self.followed.end(false);
         Some(())
     }
 
