@@ -1,5 +1,5 @@
-//! What a head says about the connection: that it closes after the message, or that the client waits for `100
-//! Continue`.
+//! What a head says about the connection: that it closes after the message, or that the client waits for
+//! `100 Continue`.
 ghost use Rattle.std.specs.Prelude.{◌≡◌, codes};
 ghost use Rattle.std.specs.List.{list_any};
 ghost use Rattle.httparse.specs.Grammar.{skip_ows, trim_ows};
