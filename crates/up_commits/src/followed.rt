@@ -7,8 +7,8 @@ use std::snapshot::Snapshot;
 use up_events::Trace;
 use up_log::Entry;
 
-/// How far a book follows a log. It has a count alone; contracts see it as the first entries of the log, and which of them
-/// were carried out.
+/// How far a book follows a log. It stores only a count; contracts describe it as the first entries of the log, and
+/// which of them were carried out.
 #[derive(Drop)]
 pub struct Followed {
     count: u64,
@@ -40,14 +40,15 @@ impl Followed {
         }
     }
 
-    /// How many entries it follows: the place in the log of the next.
+    /// The number of entries that the book follows, which is the place of the next entry in the log.
     pub fn len(&self) -> u64
         ensures { result ≡ length self.now.entries }
     {
         self.count
     }
 
-    /// Whether an entry of this place in the log is the next, and can be followed: of 2^64 - 1 entries none is.
+    /// Whether the entry at this place of the log is the next one, and can be followed. After 2^64 - 1 entries, none
+    /// can.
     pub fn is_next(&self, place: u64) -> bool
         ensures next { IsTrue result
             ↔ (place ≡ length self.now.entries) × (place < u64.MAX) }
@@ -56,7 +57,7 @@ impl Followed {
         place == self.count && place < u64::MAX
     }
 
-    /// Follows one entry more, which was carried out or not.
+    /// Follows one more entry, which was carried out or not.
     #[tactic(auto, using(crate::proofs::Books::shown_push))]
     pub fn follow(&mut self, entry: Snapshot<Entry>, is_carried: bool)
         requires room { length self.old.entries < u64.MAX }
