@@ -1,4 +1,4 @@
-//! What is known of a log and of a book, out of their locks.
+//! Laws about a log and a book that are not under their locks.
 ghost use Rattle.std.specs.Prelude.{◌≡◌, ◌≤◌, length, take};
 ghost use Rattle.up_tie.specs.Ties.{IsWritten, IsTied, book_of};
 
@@ -9,8 +9,8 @@ use sqlite_disk::Disk;
 use up_log::Log;
 use up_machine::Book;
 
-/// Of the entries that were written and of those that were committed, the ones begin with the others. A law: it does
-/// nothing.
+/// Of the entries that were written and those that were committed, one list is a prefix of the other. This is a law:
+/// the function does nothing.
 pub fn agree<D: Disk, J: Site>(written: &Written<D, J>, committed: &Committed<J>)
     ensures behind { length committed.now ≤ length written.now
         → committed.now ≡ take (length committed.now) written.now }
@@ -23,7 +23,8 @@ pub fn agree<D: Disk, J: Site>(written: &Written<D, J>, committed: &Committed<J>
     written.front.meets(&committed.front);
 }
 
-/// The log and the book. If as many entries were committed as were written, the book is the one that the log defines.
+/// The log and the book. If the same number of entries was committed as was written, the book is the one that the log
+/// defines.
 pub fn taken_apart<D: Disk, J: Site>(
     written: Written<D, J>,
     committed: Committed<J>,
