@@ -55,6 +55,7 @@ impl<E, J: Chronicle> Front<E, J> {
         ensures alike { (n : ℕ) → n ≤ length self.now → n ≤ length other.now
             → take n self.now ≡ take n other.now }
     {
+        // For the prover: using the fields brings in the invariants.
         let _ = self.count;
         let _ = other.count;
         let mut both = self.seen.again();

