@@ -103,6 +103,7 @@ impl<J: Site> Committed<J> {
     {
         replays_begin_alike();
         let front = receipt.follow(&self.front);
+        // For the prover: the length of a front is below 2^64, so the sum does not overflow.
         let _ = front.len();
         let result = commit_entry(alloc, &mut self.book, entry, remains);
         if wants_memory(&result) {
