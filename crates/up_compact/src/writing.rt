@@ -72,7 +72,8 @@ fn spell_staying(
 }
 
 /// Appends those of the entries of a batch that stay to a shorter log, and returns how much of the longer log is then
-/// processed. `next` is the place after the batch. After `Ok` the entries are on the disk.
+/// processed. `next` is the place after the batch. After `Ok` the entries are on the disk. The errors are those of
+/// `Log::append`, `Memory` if memory runs out, and `Damaged` if there are too many entries to count.
 pub fn add_staying<D: Disk>(
     alloc: Global,
     shorter: &mut Log<D>,
@@ -124,6 +125,7 @@ impl Progress {
 }
 
 /// Appends all entries that stay, from this place of a log to its end, to a shorter log. The longer log is unchanged.
+/// The errors are those of `Log::batch_at` and of `add_staying`.
 pub fn catch_up<D: Disk, S: Disk>(
     alloc: Global,
     log: &mut Log<D>,

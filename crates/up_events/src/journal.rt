@@ -95,7 +95,7 @@ impl Journal {
         })
     }
 
-    /// The same, but the journal counts the changes and does not keep them.
+    /// The same, but the journal counts the changes and does not keep them. `NoMemory` if memory runs out.
     pub fn forgetting(alloc: Global, lanes: u64) -> Result<Journal, NoMemory>
         requires some_lane { 0 < lanes }
         requires few_lanes { lanes ≤ MOST_LANES }

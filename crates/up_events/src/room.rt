@@ -26,7 +26,8 @@ pub(crate) fn make_room_by<T>(
     list.reserve_exact(places)
 }
 
-/// Makes room for `count` more items. A full list grows by an eighth, and by at least 1,024 places.
+/// Makes room for `count` more items. A full list grows by an eighth, and by at least 1,024 places. `AllocError` if
+/// memory runs out.
 pub fn make_room<T>(list: &mut Vec<T>, count: usize) -> Result<(), AllocError>
     ensures items { list.new.items ≡ list.old.items }
     ensures len { vec_len list.new ≡ vec_len list.old }

@@ -27,7 +27,8 @@ pub struct Refused<D: Disk> {
 impl<D: Disk> Handed<D> {
     ghost use Rattle.up_handed.specs.Counts.{count_of, device_of, file_of};
 
-    /// The number that a file contains: its length, so 0 for an empty file. It is on the disk.
+    /// The number that a file contains: its length, so 0 for an empty file. It is on the disk. `Disk` if the disk
+    /// fails, and `Broken` if a sync has failed before.
     pub fn open(device: D) -> Result<Handed<D>, Refused<D>>
         ensures count { IfOk result (λ handed. IsTrue (D.is_clean (device_of handed))
             → count_of handed ≡ length (D.seen device)) }

@@ -10,6 +10,7 @@ use sqlite_disk::Crash;
 
 /// Makes the machine crash, and opens the count again, as the next run does. It then includes all events that were
 /// handed over, or all but the last, and at least those of earlier runs. For tests, and for statements about two runs.
+/// The errors are those of `Handed::open`.
 pub fn restart<H: Drop, D: Crash>(earlier: Continued<H, D>) -> Result<Handed<D>, Refused<D>>
     ensures count { IfOk result (λ handed. IsTrue (D.Disk.is_clean (device_of handed))
         → IsAllButOne (left_out_of earlier + before_of earlier)

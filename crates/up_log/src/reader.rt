@@ -86,7 +86,8 @@ fn end<D: Disk>(disk: &mut D, len: usize, gate: usize) -> Result<(), LogFault>
 
 impl<D: Disk> LogReader<D> {
     /// Starts to open the log of a server with this setup. If the file has no heading yet, like an empty one, the
-    /// heading is written.
+    /// heading is written. `Foreign`, `Version`, `Lanes` or `MaxSize` if the file is not the log of such a server;
+    /// `Disk` or `Broken` if the disk fails or has failed; `Memory` if memory runs out.
     pub fn open(alloc: Global, device: D, setup: Setup) -> Result<LogReader<D>, Refused<D>>
         // A file that is not the log of such a server is not opened,
         ensures ours { IfOk result (λ reader. IsCleanReader D.Disk reader

@@ -81,7 +81,7 @@ impl Book {
         })
     }
 
-    /// The same, with a journal that counts the changes and does not keep them.
+    /// The same, with a journal that counts the changes and does not keep them. `NoMemory` if memory runs out.
     pub fn forgetting(alloc: Global, lanes: u64, max_size: u64) -> Result<Book, NoMemory>
         requires some_lane { 0 < lanes }
         requires few_lanes { lanes ≤ MOST_LANES }

@@ -25,7 +25,7 @@ pub struct Step {
     pub completes: bool,
 }
 
-/// The refusal of a PATCH about which the closures said this, or else its result.
+/// The refusal of a PATCH, given what the closures said, or else its result.
 pub fn check_take(
     uploads: &Uploads,
     closed: bool,
@@ -128,7 +128,8 @@ pub fn change_by(id: Id, declared: Option<u64>, count: u64) -> Option<Accepted>
     }
 }
 
-/// The refusal of a request because of what the closures said, or were not asked.
+/// The refusal of a request if a closure refuses it, or if it would complete an upload and the closures were not asked
+/// about that.
 pub fn check_asked(completes: bool, asked: &Asked) -> Result<(), Refusal>
     ensures { result ≡ checked (asked_rows completes asked.now) tt }
 {

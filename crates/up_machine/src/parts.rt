@@ -140,7 +140,7 @@ fn join(alloc: Global, uploads: &Uploads, parts: &[Id]) -> Result<Segments, NoMe
 }
 
 /// The first bytes of a new upload: those of its parts if it is a final one, and otherwise none. An announced length
-/// takes no room.
+/// takes no room. `NoMemory` if memory runs out.
 pub fn first_bytes(alloc: Global, uploads: &Uploads, new: &NewUpload) -> Result<Segments, NoMemory>
     requires { length (first_bytes uploads.now new.now) < 2 ^ 64 }
     ensures { IfOk result (λ bytes. bytes ≡ first_bytes uploads.now new.now) }

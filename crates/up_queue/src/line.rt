@@ -15,7 +15,7 @@ use up_events::NoMemory;
 /// The array under a queue.
 pub type Line = RuledArrayQueue<Item, EndView, InOrder>;
 
-/// An empty line, with the pass that puts and the pass that takes.
+/// An empty line, with the pass that puts and the pass that takes. `NoMemory` if memory runs out.
 pub fn open<N: Room>(
     alloc: Global,
     capacity: usize,

@@ -16,7 +16,8 @@ use up_machine::Book;
 use up_replay::{replay, replays_begin_alike};
 
 /// Reads a log to its end. Each batch is added to the history, which has no entry yet, and is committed to the book.
-/// Then the committed entries are the written ones: all entries of the log.
+/// Then the committed entries are the written ones: all entries of the log. `Late` if the history has other entries or
+/// accepts no more, `Log` if the log cannot be read, `Entry` if an entry cannot be committed again.
 pub fn reopen<D: Disk, J: Site>(
     alloc: Global,
     reader: LogReader<D>,
