@@ -12,5 +12,6 @@ pub fn books_follow()
     ensures carried { BooksFollow }
     ensures passed { BooksPassOver }
 {
+    // For the prover: a law, which does nothing when it runs.
     replays_begin_alike();
 }

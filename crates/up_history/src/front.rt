@@ -68,6 +68,7 @@ impl<E, J: Chronicle> Front<E, J> {
         ensures this { IsPrefix self.now result }
         ensures that { IsPrefix other.now result }
     {
+        // For the prover: a law, which does nothing when it runs.
         self.meets(other);
         if self.count < other.count {
             other.again()

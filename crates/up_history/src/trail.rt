@@ -82,6 +82,7 @@ impl<E, J: Chronicle> Trail<E, J> {
         let front = receipt.front();
         // For the prover: the length of a front is below 2^64, so the sum does not overflow.
         let _ = front.len();
+        // For the prover: a law, which does nothing when it runs.
         agree(&self.front, self.count, &front);
         self.front = Some(front);
         self.count += 1;

@@ -10,5 +10,6 @@ pub fn replays_begin_alike()
     ensures changes { ChangesBeginAlike }
     ensures logs { LogsBeginAlike }
 {
+    // For the prover: a law, which does nothing when it runs.
     logs_grow_at_their_end();
 }

@@ -101,6 +101,7 @@ impl<J: Site> Committed<J> {
         ensures committed { result ≢ Err NoMemory → self.new ≡ self.old ++ entry ∷ [] }
         ensures memory { result ≡ Err NoMemory → self.new ≡ self.old }
     {
+        // For the prover: a law, which does nothing when it runs.
         replays_begin_alike();
         let front = receipt.follow(&self.front);
         // For the prover: the length of a front is below 2^64, so the sum does not overflow.

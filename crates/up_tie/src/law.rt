@@ -32,6 +32,7 @@ pub fn taken_apart<D: Disk, J: Site>(
 ) -> (Log<D>, Book)
     ensures tied { length committed ≡ length written → IsTied D.Disk result.0 J.setup J.premise result.1 }
 {
+    // For the prover: a law, which does nothing when it runs.
     agree(&written, &committed);
     (written.into_log(), committed.into_book())
 }

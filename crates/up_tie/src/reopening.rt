@@ -33,6 +33,7 @@ where
     requires front { front ≡ [] }
     ensures { IfOk result (λ r. r.1 ≡ r.0) }
 {
+    // For the prover: a law, which does nothing when it runs.
     replays_begin_alike();
     let mut reader = reader;
     let mut book = book;

@@ -28,6 +28,7 @@ fn log_of(alloc: Global, uploads: u64) -> Result<Vec<Event>, NoMemory>
             })?;
         }
     }
+    // For the prover: a law, which does nothing when it runs.
     logs_are_lawful();
     let _legal = journal.accepted();
     journal.lane_log(alloc, 0)
