@@ -56,9 +56,9 @@ impl<D: Disk> Handed<D> {
 
     /// Adds one for an event that this post-hook has been handed, in a run that continued after `before` events.
     /// Returns once the new number is on the disk. A crash during the call, or after an error, leaves the old number or
-    /// the new one. After an error the number is the old one, and the call can be retried: `Disk` if the disk failed or
-    /// is full, `Broken` if a sync has failed before, so that the file must be opened again, and `Full` if the number
-    /// is 2^64 - 1.
+    /// the new one. After an error the number is the old one, and the call may be made again: `Disk` if the disk failed
+    /// or is full; `Broken` if a sync has failed before, until the file is opened again; `Full` if the number is 2^64 -
+    /// 1.
     pub fn add<T: HandedTo>(&mut self, hook: &T, before: u64) -> Result<(), HandedFault>
         requires handed_over { count_of self.old < before + length (T.events hook.now) }
         ensures count { OnOk result (count_of self.new ≡ count_of self.old + 1) }
