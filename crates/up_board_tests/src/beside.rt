@@ -1,4 +1,4 @@
-//! Lanes over a board's queues that run while something else is done.
+//! Running the lanes of a board's queues while something else is done.
 ghost use Rattle.std.specs.Prelude.{◌≡◌, All, [], IfOk, length};
 ghost use Rattle.up_dispatch.specs.Lists.{EachAt};
 ghost use Rattle.up_dispatch.specs.Parts.{IsNamed};
@@ -15,7 +15,8 @@ use up_hooks::PostHook;
 use up_lanes::{Lane, LaneEnd, Refill};
 use up_queue::TakeEnd;
 
-/// A new board of these parts, which have two queues: one that keeps the accepted changes, or one that counts them.
+/// A new board with these parts, which have two queues. It keeps the accepted changes if `keeps`, and otherwise counts
+/// them.
 fn new_board<B: Naming>(
     alloc: Global,
     parts: BoardParts,
@@ -34,8 +35,8 @@ fn new_board<B: Naming>(
     }
 }
 
-/// A new board of these parts, which have two queues, and a lane over each of them, with its post-hook. The board keeps the accepted
-/// changes, or counts them.
+/// A new board with these parts, which have two queues, and a lane with a post-hook for each queue. The board keeps the
+/// accepted changes if `keeps`, and otherwise counts them.
 pub fn open_board<B: Naming, H: PostHook + Drop>(
     alloc: Global,
     parts: BoardParts,
@@ -60,7 +61,8 @@ pub fn open_board<B: Naming, H: PostHook + Drop>(
     Ok((board, lanes))
 }
 
-/// Runs each lane of a board to its end, in a thread of its own. `refill` is what the lanes call, the board itself or what stands before it.
+/// Runs each lane of a board to its end, in a thread of its own. The lanes call `refill`, which is the board itself or
+/// a wrapper of it.
 pub fn run_each<B: Naming + Send + Sync, H: PostHook + Drop, R: Threads + Wait + Sync, L: Refill>(
     rt: &R,
     board: &Board<B>,
@@ -83,8 +85,8 @@ pub fn run_each<B: Naming + Send + Sync, H: PostHook + Drop, R: Threads + Wait +
     )
 }
 
-/// Runs each lane in a thread of its own while the work is done, and behind that closes the board. Gives what the work gave, and how the
-/// lanes ended.
+/// Runs each lane in a thread of its own while the work is done, and then closes the board. Returns the result of the
+/// work, and how the lanes ended.
 pub fn run_beside<
     B: Naming + Send + Sync,
     H: PostHook + Drop,
@@ -119,7 +121,7 @@ pub fn run_beside<
     )
 }
 
-/// The report of a board that is brought to its end with all of its lanes, and with the seats from which it was changed.
+/// The report of a board that is finished with all of its lanes, and with the seats from which it was changed.
 pub fn finished<B: Naming, H: PostHook + Drop>(
     alloc: Global,
     board: Board<B>,

@@ -17,7 +17,7 @@ use up_hooks::{Outcome, PostHook, PreHooks, new_recorders};
 use up_lanes::{Lane, Refill, StepEnd};
 use up_machine::{Asked, Plan, Refusal};
 
-/// Makes an upload from a seat, and tells why it wasn't made.
+/// Creates an upload from a seat, and returns why it was not created, if so.
 pub fn makes<B: Naming, R: Wait>(
     rt: &R,
     alloc: Global,
@@ -36,7 +36,8 @@ pub fn makes<B: Naming, R: Wait>(
     board.commit(rt, alloc, seat, request, id, &asked).err()
 }
 
-/// Holds that the lane is handed the first of two events, and the other one once its queue is refilled. Closes the board.
+/// Checks that the lane is handed the first of two events, and the other one after its queue is refilled. Closes the
+/// board.
 fn step_each<B: Naming, H: PostHook + Drop, R: Wait + Abort>(
     rt: &R,
     board: &Board<B>,
@@ -58,7 +59,7 @@ fn step_each<B: Naming, H: PostHook + Drop, R: Wait + Abort>(
     );
 }
 
-/// One lane over a queue of one place.
+/// One lane with a queue that has one place.
 fn stepped<B: Naming, H: PostHook + Drop, R: Wait + Abort>(
     rt: &R,
     alloc: Global,
@@ -91,7 +92,7 @@ fn a_refill_moves_what_found_no_room(rt: HostRuntime) -> Result<(), Fail> {
     stepped::<Brand, _, _>(&rt, rt.alloc(), parts, hooks)
 }
 
-/// What comes of a request before it is committed: the status of its answer, where it is answered already, or why it is refused.
+/// The plan of a request: the status of its response, if there is one already, or why the request is refused.
 fn planned<B: Naming, R: Wait>(
     rt: &R,
     alloc: Global,
@@ -105,7 +106,7 @@ fn planned<B: Naming, R: Wait>(
     }
 }
 
-/// Holds that a closed board with the upload 1 says that it is closed, and goes on to show the upload.
+/// Checks that a closed board with the upload 1 says that it is closed, and still shows the upload.
 fn says_that_it_is_closed<B: Naming, R: Wait + Abort>(
     rt: &R,
     alloc: Global,
@@ -123,7 +124,8 @@ fn says_that_it_is_closed<B: Naming, R: Wait + Abort>(
     Ok(())
 }
 
-/// Holds that requests to make another upload and to bring the upload 1 to its end are refused by a closed board, and that it is shown.
+/// Checks that a closed board refuses requests to create another upload and to complete the upload 1, and still shows
+/// the upload.
 fn refuses<K: Keeper>(rt: &impl Abort, alloc: Global, keeper: &mut K) -> Result<(), Fail> {
     let append = append(alloc, Id::new(1), 0, b"abc")?;
     let made = status_of(alloc, keeper, creation(alloc, Some(3)), Id::new(2));
@@ -133,7 +135,7 @@ fn refuses<K: Keeper>(rt: &impl Abort, alloc: Global, keeper: &mut K) -> Result<
     Ok(())
 }
 
-/// How many seats are left, if fewer than a board has.
+/// The number of seats that are left, if it is less than that of a board.
 pub fn seats_left<B: Naming, R: Wait>(rt: &R, board: &Board<B>) -> u64 {
     for count in 0..MOST_SEATS {
         if board.seat(rt).is_none() {
@@ -143,7 +145,7 @@ pub fn seats_left<B: Naming, R: Wait>(rt: &R, board: &Board<B>) -> u64 {
     MOST_SEATS
 }
 
-/// A board of two lanes that is closed over one upload, and all its seats.
+/// A board of two lanes that is closed when it has one upload, and all of its seats.
 fn closed<B: Naming, R: Wait + Abort>(rt: &R, alloc: Global, parts: BoardParts) -> Result<(), Fail>
     requires named { IsNamed B.name B.parts B.queue B.lanes parts }
     requires lanes { length parts.queues ≡ 2 }
@@ -169,13 +171,13 @@ fn a_closed_board_answers_and_changes_nothing(rt: HostRuntime) -> Result<(), Fai
     closed::<Brand, _>(&rt, rt.alloc(), parts)
 }
 
-/// What a server can do whose uploads have one byte at most.
+/// The response to OPTIONS of a server whose uploads have at most one byte.
 const ABILITIES: &str =
     "HTTP/1.1 204 No Content\r\nTus-Resumable: 1.0.0\r\nCache-Control: no-store\r\n\
     Tus-Version: 1.0.0\r\nTus-Extension: creation,creation-defer-length,termination,concatenation\r\n\
     Tus-Max-Size: 1\r\n\r\n";
 
-/// A board of two lanes whose uploads have one byte at most.
+/// A board of two lanes whose uploads have at most one byte.
 fn smallest<B: Naming, R: Wait + Abort>(
     rt: &R,
     alloc: Global,

@@ -1,4 +1,4 @@
-//! Conversations over a lent book, and from the seats of a board, and the ids that their uploads get.
+//! Conversations with a lent book and from the seats of a board, and the ids of their uploads.
 ghost use Rattle.std.specs.Prelude.{◌≡◌, ◌<◌, ◌≤◌, length};
 ghost use Rattle.up_dispatch.specs.Parts.{IsNamed};
 
@@ -23,10 +23,10 @@ const CUT: &str =
     PATCH /files/00000000000000000000000000000001 HTTP/1.1\r\nHost: a\r\nTus-Resumable: 1.0.0\r\n\
     Content-Type: application/offset+octet-stream\r\nUpload-Offset: 0\r\nContent-Length: 10\r\n\r\nabcd";
 
-/// How the upload stands.
+/// Asks for the state of the upload.
 const HEAD: &str = "HEAD /files/00000000000000000000000000000001 HTTP/1.1\r\nHost: a\r\n\r\n";
 
-/// Two creations, a removal of the upload with the id 5, and one more creation.
+/// Two creations, a removal of the upload with the id 5, and another creation.
 const CREATIONS: &str =
     "POST /files/ HTTP/1.1\r\nHost: a\r\nTus-Resumable: 1.0.0\r\nUpload-Length: 1\r\n\r\n\
     POST /files/ HTTP/1.1\r\nHost: a\r\nTus-Resumable: 1.0.0\r\nUpload-Length: 1\r\n\r\n\
@@ -47,7 +47,7 @@ pub fn talk<K: Keeper, I: Ids>(
     (ended, sink.into_inner())
 }
 
-/// Holds that a conversation ends so, and writes this.
+/// Checks how a conversation ends, and what it writes.
 fn hold<K: Keeper, I: Ids, R: Abort>(
     rt: &R,
     alloc: Global,
@@ -62,7 +62,7 @@ fn hold<K: Keeper, I: Ids, R: Abort>(
     Ok(())
 }
 
-/// The append has no answer.
+/// The append gets no response.
 fn breaks_off<K: Keeper, I: Ids, R: Abort>(
     rt: &R,
     alloc: Global,
@@ -74,7 +74,7 @@ fn breaks_off<K: Keeper, I: Ids, R: Abort>(
     hold(rt, alloc, keeper, ids, CUT, (Ended::Cut, created))
 }
 
-/// The bytes that came before it broke off are there.
+/// The bytes that arrived before it broke off are there.
 fn has_four<K: Keeper, I: Ids, R: Abort>(
     rt: &R,
     alloc: Global,
@@ -94,7 +94,7 @@ fn keeps_what_came_of_a_cut_append(rt: HostRuntime) -> Result<(), Fail> {
     has_four(&rt, rt.alloc(), &mut Lent::new(&mut book), &mut ids)
 }
 
-/// The upload is made from one seat and asked for from the other, with one source of ids.
+/// The upload is created from one seat and requested from the other, with one source of ids.
 fn talk_from_two_seats<B: Naming, R: Wait + Abort>(
     rt: &R,
     alloc: Global,
@@ -121,7 +121,7 @@ fn talk_from_two_seats<B: Naming, R: Wait + Abort>(
     Ok(())
 }
 
-/// Two seats of a new board of these parts.
+/// Two seats of a new board with these parts.
 fn two_seats<B: Naming, R: Wait + Abort>(
     rt: &R,
     alloc: Global,
@@ -141,7 +141,7 @@ fn shows_one_seat_what_another_did(rt: HostRuntime) -> Result<(), Fail> {
     two_seats::<Brand, _>(&rt, rt.alloc(), parts)
 }
 
-/// A source that has one id alone.
+/// A source that has only one id.
 #[derive(Drop)]
 struct Five;
 

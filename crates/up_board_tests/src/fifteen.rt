@@ -1,5 +1,5 @@
-//! Fifteen requests from a seat of a board whose queues have one place each: all are answered before any lane takes an event, and every
-//! event is handed over afterwards.
+//! Fifteen requests from a seat of a board whose queues have one place each. All of them get their response before any
+//! lane takes an event, and every event is handed over afterwards.
 ghost use Rattle.std.specs.Prelude.{◌≡◌, [], length};
 ghost use Rattle.up_dispatch.specs.Parts.{IsNamed};
 ghost use Rattle.up_events.specs.declared.limits.TheConstants.{MOST_BYTES};
@@ -19,14 +19,14 @@ use up_headers::Request;
 use up_hooks::{Outcome, PostHook, PreHooks, Recorder};
 use up_lanes::How;
 
-/// The status with which a request is answered where no closure is asked.
+/// The status of the response to a request if no closure is asked.
 pub fn status_of<K: Keeper>(alloc: Global, keeper: &mut K, request: Request, id: Id) -> u16
     requires { FitsWithin MOST_BYTES request }
 {
     answer(alloc, keeper, &PreHooks::new(Vec::new(alloc)), request, id).status
 }
 
-/// Five uploads of two bytes are made, and each gets a byte, and then each the other.
+/// Creates five uploads of two bytes, then appends a byte to each, and then the other byte to each.
 pub fn fifteen<K: Keeper, R: Abort>(rt: &R, alloc: Global, keeper: &mut K) -> Result<(), Fail> {
     for number in 1..6u8 {
         let id = Id::new(u128::from(number));
@@ -57,7 +57,7 @@ fn grown(id: u128) -> Accepted {
     }
 }
 
-/// The changes that are accepted of them.
+/// The accepted changes of these requests.
 fn changes() -> [Accepted; 15] {
     [
         made(1),
@@ -88,7 +88,7 @@ fn event(id: u128, number: u64, hook: Hook, offset: u64) -> Event {
     }
 }
 
-/// What lane 0 is to be handed: the events of uploads 2 and 4.
+/// The events that lane 0 must be handed: those of the uploads 2 and 4.
 pub fn events_of_lane_0() -> [Event; 8] {
     [
         event(2, 1, Hook::Create, 0),
@@ -102,7 +102,7 @@ pub fn events_of_lane_0() -> [Event; 8] {
     ]
 }
 
-/// What lane 1 is to be handed: the events of uploads 1, 3 and 5.
+/// The events that lane 1 must be handed: those of the uploads 1, 3 and 5.
 fn events_of_lane_1() -> [Event; 12] {
     [
         event(1, 1, Hook::Create, 0),
@@ -120,7 +120,7 @@ fn events_of_lane_1() -> [Event; 12] {
     ]
 }
 
-/// The report of a board that was closed twice behind the fifteen, and whose two lanes run then.
+/// The report of a board that is closed twice after the fifteen requests, and whose two lanes only then run.
 fn crowded<B: Naming + Send + Sync, H: PostHook + Drop, R: Threads + Wait + Abort + Sync>(
     rt: &R,
     alloc: Global,
@@ -146,7 +146,7 @@ fn crowded<B: Naming + Send + Sync, H: PostHook + Drop, R: Threads + Wait + Abor
     finished(alloc, board, seats, ends)
 }
 
-/// Holds that a lane is drained, and that its post-hook was handed these events and was done with each.
+/// Checks that a lane is drained, and that its post-hook was handed these events and returned `Done` for each.
 fn hold_lane<F, R: Abort>(rt: &R, lane: &LaneReport<Recorder<F>>, number: u64, events: &[Event]) {
     let list = lane.hook.list();
     assert_eq!(rt;
@@ -158,7 +158,7 @@ fn hold_lane<F, R: Abort>(rt: &R, lane: &LaneReport<Recorder<F>>, number: u64, e
     }
 }
 
-/// Holds that a report is that of the fifteen.
+/// Checks that a report is that of the fifteen requests.
 fn hold<F, R: Abort>(rt: &R, report: &Report<Recorder<F>>) -> Result<(), Fail> {
     let (Some(accepted), [first, second]) = (report.accepted.list(), report.lanes.as_slice()) else {
         return Err("changes that are kept, and two lanes".into());

@@ -1,5 +1,5 @@
-//! A closure that waits until another request than its own was answered. Whoever waits gives up in the end, so that a server that holds one
-//! request up for another fails a test and doesn't hang.
+//! A closure that waits until another request than its own got its response. Every wait ends at some time, so that a
+//! server that makes one request wait for another fails a test instead of hanging.
 ghost use Rattle.std.specs.Prelude.{IsTrue};
 ghost use Rattle.up_hooks.specs.Verdicts.{is_lawful};
 
@@ -7,15 +7,15 @@ use std::sync::atomic::{AtomicBool, Ordering};
 use std::thread;
 use up_machine::{Reason, Verdict};
 
-/// A request that makes an upload of one byte.
+/// A request that creates an upload of one byte.
 pub const POST: &[u8] = b"POST /files/ HTTP/1.1\r\nHost: a\r\nTus-Resumable: 1.0.0\r\n\
     Upload-Length: 1\r\nConnection: close\r\n\r\n";
 
-/// A request that asks for an upload that isn't there.
+/// A request for an upload that does not exist.
 pub const HEAD: &[u8] = b"HEAD /files/00000000000000000000000000000009 HTTP/1.1\r\nHost: a\r\n\
     Tus-Resumable: 1.0.0\r\nConnection: close\r\n\r\n";
 
-/// Waits until the flag is set, and tells whether it was.
+/// Waits until the flag is set, and returns whether it was.
 pub fn is_set_in_time(flag: &AtomicBool) -> bool {
     for _ in 0..1_000_000u32 {
         if flag.load(Ordering::SeqCst) {
@@ -26,17 +26,17 @@ pub fn is_set_in_time(flag: &AtomicBool) -> bool {
     false
 }
 
-/// What the closure of one request and the caller of another tell each other.
+/// Connects the closure of one request with the caller of another.
 #[derive(Drop)]
 pub struct Gate {
     /// The closure was called.
     inside: AtomicBool,
-    /// The other request was answered.
+    /// The other request got its response.
     answered: AtomicBool,
 }
 
 impl Gate {
-    /// The closure wasn't called, and nothing was answered.
+    /// The closure was not called, and no request got a response.
     pub fn new() -> Gate {
         Gate {
             inside: AtomicBool::new(false),
@@ -44,7 +44,8 @@ impl Gate {
         }
     }
 
-    /// The closure's answer: it allows once the other request was answered, and refuses with 429 where that takes too long.
+    /// The closure's verdict: it allows once the other request got its response, and refuses with 429 if that takes too
+    /// long.
     pub fn judge(&self) -> Verdict
         ensures { IsTrue (is_lawful result) }
     {
@@ -59,12 +60,12 @@ impl Gate {
         }
     }
 
-    /// Waits until the closure was called, and tells whether it was.
+    /// Waits until the closure was called, and returns whether it was.
     pub fn is_called_in_time(&self) -> bool {
         is_set_in_time(&self.inside)
     }
 
-    /// Tells the closure that the other request was answered.
+    /// Notifies the closure that the other request got its response.
     pub fn open(&self) {
         self.answered.store(true, Ordering::SeqCst);
     }

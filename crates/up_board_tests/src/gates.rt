@@ -1,3 +1,3 @@
-//! Closures that wait for what happens elsewhere, and a lane that stops and goes on.
+//! Closures that wait for events elsewhere, and a lane that stops and continues.
 mod boards;
 mod stopping;

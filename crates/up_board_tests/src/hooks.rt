@@ -1,3 +1,3 @@
-//! What the proofs can't see of closures: how often they are called, and that calls succeed.
+//! What is not proved about closures: how often they are called, and that calls succeed.
 mod asking;
 mod recording;

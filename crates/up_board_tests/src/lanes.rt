@@ -1,5 +1,5 @@
-//! What the proofs can't see of lanes: that queues are made and items come through, that steps succeed, how often a lane is refilled and
-//! sleeps, and two threads.
+//! What is not proved about lanes: that queues are made and items pass through, that steps succeed, how often a lane is
+//! refilled and sleeps, and the use of two threads.
 pub mod parts;
 mod queues;
 mod running;

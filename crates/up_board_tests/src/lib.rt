@@ -1,5 +1,5 @@
-//! The tests of the crates from the closures to the board, which use them from outside, as a program does: what no contract says of them.
-//! Outside its tests the crate has what the tests of the server need too.
+//! Tests of the crates from the closures to the board, for what no contract says about them. They use the crates from
+//! outside, as a program does. The modules that are not only for these tests are used by the tests of the server too.
 #![tactic(auto)]
 
 #[cfg(test)]

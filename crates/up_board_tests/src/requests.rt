@@ -1,4 +1,4 @@
-//! Requests that a board is given with no message.
+//! Requests for a board, without messages.
 ghost use Rattle.std.specs.Prelude.{◌≡◌, [], None, Some, true, IfOk};
 ghost use Rattle.up_events.specs.declared.event.Kind.TheVariants.{Plain};
 ghost use Rattle.up_events.specs.declared.limits.TheConstants.{MOST_BYTES};
@@ -11,7 +11,7 @@ use up_events::{Id, Kind, NoMemory};
 use up_headers::{NewUpload, Patch, Request};
 use up_message::{Piece, Sequence};
 
-/// To make a plain upload without metadata. Where no length is given it is declared later.
+/// Creates a plain upload without metadata. If no length is given, it is declared later.
 pub fn creation(alloc: Global, length: Option<u64>) -> Request
     requires { IsWithin MOST_BYTES length }
     ensures within { FitsWithin MOST_BYTES result }
@@ -27,7 +27,7 @@ pub fn creation(alloc: Global, length: Option<u64>) -> Request
     })
 }
 
-/// To append the bytes to an upload.
+/// Appends the bytes to an upload.
 pub fn append(alloc: Global, id: Id, offset: u64, bytes: &[u8]) -> Result<Request, NoMemory>
     ensures within { IfOk result (FitsWithin MOST_BYTES) }
     ensures request { IfOk result (λ made. made ≡ request.Patch (record { id = id; media = true; offset = Some offset; length = None; bytes = bytes.now })) }

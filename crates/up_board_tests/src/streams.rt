@@ -1,5 +1,5 @@
-//! Conversations whose streams break off or are interrupted, wherever they may be, and the most that one conversation
-//! takes: what is answered, how it ends, and what is kept.
+//! Conversations whose streams break off or are interrupted at any place, and the maximum that one conversation takes:
+//! the responses, how it ends, and what is kept.
 ghost use Rattle.std.specs.Prelude.{◌≤◌};
 
 use std::alloc::{AllocError, Global};
@@ -14,22 +14,22 @@ use up_wire::{Input, Slip, Source, Tape};
 
 const MAX_SIZE: u64 = 1 << 20;
 
-/// A creation of 75 bytes, and an append whose head ends behind 249 bytes and whose body ends behind 260.
+/// A creation of 75 bytes, and an append whose head ends after 249 bytes and whose body ends after 260.
 const INPUT: &str =
     "POST /files/ HTTP/1.1\r\nHost: a\r\nTus-Resumable: 1.0.0\r\nUpload-Length: 11\r\n\r\n\
     PATCH /files/00000000000000000000000000000001 HTTP/1.1\r\nHost: a\r\nTus-Resumable: 1.0.0\r\n\
     Content-Type: application/offset+octet-stream\r\nUpload-Offset: 0\r\nContent-Length: 11\r\n\r\nhello world";
 
-/// The answer to the creation, of 141 bytes.
+/// The response to the creation, of 141 bytes.
 const CREATED: &str = "HTTP/1.1 201 Created\r\nTus-Resumable: 1.0.0\r\nCache-Control: no-store\r\n\
     Location: /files/00000000000000000000000000000001\r\nContent-Length: 0\r\n\r\n";
 
-/// The answer to the append, of 93 bytes.
+/// The response to the append, of 93 bytes.
 const REACHED: &str =
     "HTTP/1.1 204 No Content\r\nTus-Resumable: 1.0.0\r\nCache-Control: no-store\r\n\
     Upload-Offset: 11\r\n\r\n";
 
-/// The answer to what is no head.
+/// The response to bytes that are no head.
 const BAD_HEAD: &str =
     "HTTP/1.1 400 Bad Request\r\nTus-Resumable: 1.0.0\r\nCache-Control: no-store\r\n\
     Content-Type: text/plain\r\nContent-Length: 10\r\nConnection: close\r\n\r\n1 BadHead\n";
@@ -41,7 +41,7 @@ const IN_CHUNKS: &str =
     Content-Type: application/offset+octet-stream\r\nUpload-Offset: 0\r\nTransfer-Encoding: chunked\r\n\r\n\
     4\r\nhell\r\n7\r\no world\r\n0\r\nX-T: 1\r\n\r\n";
 
-/// An append to no upload, by a client that waits to go on.
+/// An append to an upload that does not exist, by a client that waits to continue.
 const WAITING: &str =
     "PATCH /files/00000000000000000000000000000001 HTTP/1.1\r\nHost: a\r\nTus-Resumable: 1.0.0\r\n\
     Content-Type: application/offset+octet-stream\r\nUpload-Offset: 0\r\nContent-Length: 3\r\n\
@@ -55,7 +55,7 @@ const NOT_FOUND: &str =
 
 const OPTIONS: &str = "OPTIONS * HTTP/1.1\r\n\r\n";
 
-/// What the server can do, but for the empty line.
+/// The response to OPTIONS, without the empty line.
 const ABILITIES: &str =
     "HTTP/1.1 204 No Content\r\nTus-Resumable: 1.0.0\r\nCache-Control: no-store\r\n\
     Tus-Version: 1.0.0\r\nTus-Extension: creation,creation-defer-length,termination,concatenation\r\n\
@@ -77,7 +77,7 @@ const BODY_TOO_LARGE: &str =
     "HTTP/1.1 413 Payload Too Large\r\nTus-Resumable: 1.0.0\r\nCache-Control: no-store\r\n\
     Content-Type: text/plain\r\nContent-Length: 15\r\nConnection: close\r\n\r\n5 BodyTooLarge\n";
 
-/// How a message is framed, and what comes of that.
+/// The framing of a message, and the response to it.
 const FRAMINGS: [(&str, &str); 6] = [
     ("Content-Length: +5\r\n\r\nabcde", BAD_FRAMING),
     ("Content-Length: 5, 5\r\n\r\nabcde", BAD_FRAMING),
@@ -99,16 +99,17 @@ const FRAMINGS: [(&str, &str); 6] = [
 /// Room for two replies.
 const ROOM: usize = 1024;
 
-/// How a conversation ended, how many changes the book accepted, and how far the first upload has come, where it was made.
+/// How a conversation ended, the number of changes that the book accepted, and the offset of the first upload, if it
+/// was created.
 type Left = (Ended, usize, Option<u64>);
 
-/// What comes of a conversation: two replies at most, and what it leaves.
+/// The expected result of a conversation: at most two replies, and what it leaves.
 type Wanted<'a> = ([&'a str; 2], Left);
 
 /// All of the input was served.
 const SERVED: Left = (Ended::Closed, 2, Some(11));
 
-/// Serves a conversation over a new book.
+/// Serves a conversation with a new book.
 fn serve<S: Source>(alloc: Global, source: &mut S, sink: &mut Slip) -> Result<Left, Fail> {
     let mut book = Book::new(alloc, 2, MAX_SIZE)?;
     let hooks = PreHooks::new(Vec::new(alloc));
@@ -121,7 +122,7 @@ fn serve<S: Source>(alloc: Global, source: &mut S, sink: &mut Slip) -> Result<Le
     Ok((ended, book.journal().accepted().len(), offset))
 }
 
-/// Serves a conversation, and compares the replies and what it leaves. `at` is told where they differ.
+/// Serves a conversation, and checks the replies and what it leaves. If they differ, `at` is reported.
 fn hold<S: Source, R: Abort>(
     rt: &R,
     alloc: Global,
@@ -138,7 +139,7 @@ fn hold<S: Source, R: Abort>(
     Ok(())
 }
 
-/// What comes of the input where it ends behind so many bytes, or a read fails there.
+/// The expected result if the input ends after this number of bytes, or a read fails there.
 fn wanted_after(count: u64, fails: bool) -> Wanted<'static> {
     match (count, fails) {
         (0, false) => (["", ""], (Ended::Closed, 0, None)),
@@ -216,7 +217,7 @@ fn counts_the_interruptions_of_each_call(rt: HostRuntime) -> Result<(), Fail> {
     Ok(())
 }
 
-/// A reader that gives one byte at each call.
+/// A reader that returns one byte per call.
 #[derive(Drop)]
 struct Dripping<'a> {
     bytes: &'a [u8],
@@ -248,7 +249,7 @@ fn takes_one_byte_at_a_time_as_all_at_once(rt: HostRuntime) -> Result<(), Fail> 
     Ok(())
 }
 
-/// The text so many times, between two others.
+/// The text, repeated, between two others.
 fn repeated(
     alloc: Global,
     before: &str,
@@ -264,7 +265,7 @@ fn repeated(
     Ok(whole)
 }
 
-/// Serves a request whose head has so many bytes, and compares the reply.
+/// Serves a request whose head has this number of bytes, and checks the reply.
 fn hold_head(rt: &impl Abort, alloc: Global, size: u64, reply: &str) -> Result<(), Fail>
     requires { 27 ≤ size }
 {
@@ -283,7 +284,7 @@ fn takes_a_head_of_16384_bytes_and_no_longer_one(rt: HostRuntime) -> Result<(), 
     hold_head(&rt, rt.alloc(), 16_385, HEAD_TOO_LARGE)
 }
 
-/// Serves an append of five bytes that is framed so, and compares the reply.
+/// Serves an append of five bytes with this framing, and checks the reply.
 fn hold_framing(rt: &impl Abort, alloc: Global, framing: &str, reply: &str) -> Result<(), Fail> {
     let start = "PATCH /files/00000000000000000000000000000001 HTTP/1.1\r\nHost: a\r\n\
         Tus-Resumable: 1.0.0\r\n";

@@ -1,4 +1,4 @@
-//! Boards with several seats, of both kinds, brought to their end.
+//! Boards of both kinds with several seats, until they are finished.
 ghost use Rattle.std.specs.Prelude.{◌≡◌, [], length};
 ghost use Rattle.up_dispatch.specs.Parts.{IsNamed};
 
@@ -17,19 +17,19 @@ use up_hooks::{Outcome, PostHook, Recorder};
 use up_lanes::How;
 use up_machine::Asked;
 
-/// How many uploads there are.
+/// The number of uploads.
 const UPLOADS: usize = 10;
 
-/// How many changes are made from each seat.
+/// The number of changes from each seat.
 const CHANGES: usize = 1_000;
 
-/// Makes an upload whose length comes later.
+/// Creates an upload whose length is declared later.
 fn make<B: Naming, R: Wait>(rt: &R, alloc: Global, board: &Board<B>, seat: &mut Seat<B>, id: Id) {
     let request = requests::creation(alloc, None);
     let _ = board.commit(rt, alloc, seat, request, id, &Asked::Allowed);
 }
 
-/// Puts a byte at the offset, and tells whether it was taken.
+/// Appends a byte at the offset, and returns whether it was accepted.
 fn append<B: Naming, R: Wait>(
     rt: &R,
     alloc: Global,
@@ -46,7 +46,7 @@ fn append<B: Naming, R: Wait>(
         .is_ok()
 }
 
-/// Makes the changes, each at the next upload and where that then ends.
+/// Makes the changes, each to the next upload at its current end.
 fn change<B: Naming, R: Wait>(
     rt: &R,
     alloc: Global,
@@ -67,7 +67,7 @@ fn change<B: Naming, R: Wait>(
     seat
 }
 
-/// Of each upload every event was handed over: it was made, and then it has a byte more each time.
+/// Every event of each upload was handed over: its creation, and then one more byte each time.
 fn tells_all<F, R: Abort>(rt: &R, report: &Report<Recorder<F>>) -> Result<(), Fail> {
     assert_eq!(rt; report.accepted.len(), (UPLOADS + 2 * CHANGES) as u64);
     let mut counts = [0u64; UPLOADS];
@@ -96,7 +96,7 @@ fn tells_all<F, R: Abort>(rt: &R, report: &Report<Recorder<F>>) -> Result<(), Fa
     Ok(())
 }
 
-/// A seat from which the uploads were made, and two others.
+/// A seat from which the uploads were created, and two others.
 fn seats_of<B: Naming, R: Wait>(
     rt: &R,
     alloc: Global,
@@ -147,8 +147,8 @@ fn changed_at_once<B: Naming + Send + Sync, H: PostHook + Drop, R: Threads + Wai
     finished(alloc, board, seats, ends)
 }
 
-/// Holds that all is told of a board that is changed from two seats at once. A board that counts its changes has no list of them; what is
-/// compared of either kind is their number, and each event that was handed over.
+/// Checks that everything is reported about a board that is changed from two seats at once. A board that counts its
+/// changes has no list of them. So only their number is compared, and each event that was handed over.
 fn hold<R: Threads + Wait + Abort + Sync>(rt: &R, alloc: Global, keeps: bool) -> Result<(), Fail> {
     let parts = BoardParts::new(alloc, 2, 4)?;
     let done = |_: &Event| Outcome::Done;

@@ -1,5 +1,6 @@
-//! Conversations that are served by a book alone, and from a seat of a board whose lanes run meanwhile, of one that keeps its changes and of
-//! one that counts them: the same is answered, and the same changes are accepted. Of those that are counted the number is compared.
+//! Conversations that are served by a book alone, and from a seat of a board whose lanes run meanwhile. One board keeps
+//! its changes, and another counts them. The responses are the same, and the same changes are accepted. For the board
+//! that counts its changes, the number is compared.
 ghost use Rattle.std.specs.Prelude.{◌≡◌, IsTrue, [], length};
 ghost use Rattle.up_dispatch.specs.Parts.{IsNamed};
 ghost use Rattle.up_hooks.specs.Verdicts.{is_lawful};
@@ -24,13 +25,13 @@ enum Asked {
     Post(&'static str),
     /// Bytes for the upload with this digit, from an offset on.
     Patch(&'static str, u64, &'static str),
-    /// A method at the upload with this digit.
+    /// A method for the upload with this digit.
     At(&'static str, &'static str),
-    /// A line of method and target, fields but for `Host`, and a body.
+    /// A line with method and target, fields other than `Host`, and a body.
     Whole(&'static str, &'static str, &'static str),
 }
 
-/// What is asked, and how many changes are accepted of it.
+/// The requests, and the number of changes that are accepted.
 type Talk = (&'static [Asked], u64);
 
 /// The conversations of servers without closures.
@@ -201,7 +202,7 @@ const TALKS: [Talk; 16] = [
     ),
 ];
 
-/// The conversation of a server that wants a key and keeps uploads.
+/// The conversation of a server that requires a key and refuses removals.
 const RULED: Talk = (
     &[
         Asked::Post("Upload-Length: 5"),
@@ -293,7 +294,7 @@ fn on_board<B: Naming + Send + Sync, H: PostHook + Drop, R: Threads + Wait + Abo
     Ok((finished(alloc, board, seats, ends)?, told))
 }
 
-/// Serves the conversation on a new board of two lanes, and gives what was told and the accepted changes.
+/// Serves the conversation with a new board of two lanes, and returns its end and output, and the accepted changes.
 fn reported<R: Threads + Wait + Abort + Sync>(
     rt: &R,
     alloc: Global,
@@ -308,8 +309,9 @@ fn reported<R: Threads + Wait + Abort + Sync>(
     Ok((told, report.accepted))
 }
 
-/// Holds that a book alone and boards of both kinds answer the same to a talk, and accept the same changes, which are as many as is said. The
-/// board that keeps them has the book's list. The one that counts them has no list to show, and so their number alone is compared.
+/// Checks that a book alone and boards of both kinds give the same responses to a talk, and accept the same changes, of
+/// which the number is given. The board that keeps its changes has the same list as the book. The other board has no
+/// list, so only the number is compared.
 fn hold<R: Threads + Wait + Abort + Sync>(
     rt: &R,
     alloc: Global,
@@ -328,7 +330,7 @@ fn hold<R: Threads + Wait + Abort + Sync>(
     Ok(())
 }
 
-/// Serves the conversation by the book alone.
+/// Serves the conversation with the book alone.
 fn talked(alloc: Global, book: &mut Book, hooks: &PreHooks, asked: &[u8]) -> Told {
     let mut keeper = Lent::new(book);
     talk(alloc, &mut keeper, hooks, &mut Counting::new(), asked)
@@ -343,7 +345,7 @@ fn a_book_and_a_board_answer_and_accept_the_same(rt: HostRuntime) -> Result<(), 
     Ok(())
 }
 
-/// Refuses a new upload whose metadata has no such key.
+/// Refuses a new upload whose metadata does not have the key.
 fn needs_a_key(ask: &Ask) -> Verdict
     ensures { IsTrue (is_lawful result) }
 {

@@ -1,4 +1,4 @@
-//! Boards that are not finished at the first try: what was given comes back, and serves on as before.
+//! Boards that cannot be finished at first: everything that was passed in is returned, and serves as before.
 ghost use Rattle.std.specs.Prelude.{◌≡◌, All, [], length};
 ghost use Rattle.up_dispatch.specs.Parts.{IsNamed};
 
@@ -21,7 +21,7 @@ use up_events::{Event, Id};
 use up_hooks::{Outcome, PostHook, Recorder};
 use up_lanes::{How, LaneEnd, Refill};
 
-/// A board as its lanes see it, and how often they went to sleep and woke.
+/// A board as its lanes see it, and how often they fell asleep and woke.
 #[derive(Drop)]
 struct Watched<B: Naming> {
     board: Board<B>,
@@ -38,7 +38,7 @@ impl<B: Naming> Watched<B> {
         }
     }
 
-    /// How often a lane went to sleep, and how often one woke.
+    /// How often a lane fell asleep, and how often one woke.
     fn counts(&self) -> (u64, u64) {
         (
             self.asleep.load(Ordering::SeqCst),
@@ -46,7 +46,8 @@ impl<B: Naming> Watched<B> {
         )
     }
 
-    /// Waits until these are the counts, for ten seconds at most, and then for a twentieth of a second more, and gives the counts.
+    /// Waits until these are the counts, for at most ten seconds, then for another twentieth of a second, and returns
+    /// the counts.
     fn settled<R: Wait>(&self, rt: &R, wanted: (u64, u64)) -> (u64, u64) {
         let alarm = Parker::new();
         for _ in 0..10_000u32 {
@@ -72,7 +73,7 @@ impl<B: Naming + Send + Sync> Refill for Watched<B> {
     }
 }
 
-/// The board, once it was not finished since a seat is missing.
+/// The board, after it could not be finished because a seat was missing.
 fn without_a_seat<B: Naming, H: PostHook + Drop, R: Abort>(
     rt: &R,
     alloc: Global,
@@ -88,7 +89,7 @@ fn without_a_seat<B: Naming, H: PostHook + Drop, R: Abort>(
     Ok(board)
 }
 
-/// Puts a byte into the upload 1 once both lanes sleep, and waits until its lane was woken and sleeps again.
+/// Appends a byte to the upload 1 once both lanes sleep, and waits until its lane was woken and sleeps again.
 fn wakes<B: Naming, R: Wait + Abort>(
     rt: &R,
     alloc: Global,
@@ -103,7 +104,8 @@ fn wakes<B: Naming, R: Wait + Abort>(
     Ok(seat)
 }
 
-/// The report of a board that came back once, after an upload of one byte was made, and whose lanes run since.
+/// The report of a board that was returned once, after an upload of one byte was created, and whose lanes have run
+/// since.
 fn came_back<B: Naming + Send + Sync, H: PostHook + Drop, R: Threads + Wait + Abort + Sync>(
     rt: &R,
     alloc: Global,
@@ -143,12 +145,13 @@ fn came_back<B: Naming + Send + Sync, H: PostHook + Drop, R: Threads + Wait + Ab
     finished(alloc, board, seats, ends)
 }
 
-/// The lane, how it ended, how many events were left, and how many were handed over.
+/// The lane, how it ended, the number of events left, and the number handed over.
 fn told<F>(lane: &LaneReport<Recorder<F>>) -> (u64, How, u64, usize) {
     (lane.lane, lane.how, lane.left, lane.hook.list().len())
 }
 
-/// Holds that so many changes were accepted, and that the lanes are drained once they handed over so many events.
+/// Checks that this number of changes was accepted, and that the lanes are drained after they handed over these numbers
+/// of events.
 fn hold<F>(
     rt: &impl Abort,
     report: &Report<Recorder<F>>,
@@ -176,7 +179,7 @@ fn a_board_that_came_back_wakes_its_lanes(rt: HostRuntime) -> Result<(), Fail> {
     hold(&rt, &report, 2, [0, 3])
 }
 
-/// The report of a board that comes back where the second of its two lanes is missing.
+/// The report of a board that is returned if the second of its two lanes is missing.
 fn two_lanes<B: Naming, H: PostHook + Drop, R: Abort>(
     rt: &R,
     alloc: Global,
@@ -208,7 +211,8 @@ fn two_lanes<B: Naming, H: PostHook + Drop, R: Abort>(
     finished(alloc, board, seats, lanes)
 }
 
-/// The report of a board on which an upload was made from each of two seats, and that comes back where the second is missing.
+/// The report of a board on which an upload was created from each of two seats, and that is returned if the second seat
+/// is missing.
 fn two_seats<B: Naming, H: PostHook + Drop, R: Abort>(
     rt: &R,
     alloc: Global,
@@ -238,7 +242,7 @@ fn two_seats<B: Naming, H: PostHook + Drop, R: Abort>(
     two_lanes(rt, alloc, board, seats, lanes)
 }
 
-/// That report, where the lanes run behind the close.
+/// That report if the lanes run after the board was closed.
 fn each_missing<B: Naming + Send + Sync, H: PostHook + Drop, R: Threads + Wait + Abort + Sync>(
     rt: &R,
     alloc: Global,

@@ -6,8 +6,8 @@ use std::marker::Model;
 use up_events::Trace;
 use up_log::Entry;
 
-/// How far a book follows a log. It has a count alone; contracts see it as the first entries of the log, and which of them
-/// were carried out.
+/// How far a book follows a log. It stores only a count; contracts describe it as the first entries of the log, and
+/// which of them were carried out.
 #[derive(Drop)]
 pub struct Followed {
     count: u64,
@@ -38,21 +38,22 @@ impl Followed {
         }
     }
 
-    /// How many entries it follows: the place in the log of the next.
+    /// The number of entries that the book follows, which is the place of the next entry in the log.
     pub fn len(&self) -> u64
         ensures { result ≡ length self.now.entries }
     {
         self.count
     }
 
-    /// Whether an entry of this place in the log is the next, and can be followed: of 2^64 - 1 entries none is.
+    /// Whether the entry at this place of the log is the next one, and can be followed. After 2^64 - 1 entries, none
+    /// can.
     pub fn is_next(&self, place: u64) -> bool
         ensures { IsTrue result ↔ (place ≡ length self.now.entries) × (place < u64.MAX) }
     {
         place == self.count && place < u64::MAX
     }
 
-    /// Begins with one entry more. Whether it was carried out is to be told by `end`.
+    /// Begins to follow one more entry. `end` then says whether it was carried out.
     pub fn begin(&mut self, entry: &Entry)
         requires room { length self.old.entries < u64.MAX }
         ensures { self.new ≡ following (self.old.entries ++ entry.now ∷ []) self.old.carried }
@@ -61,7 +62,7 @@ impl Followed {
         self.count += 1;
     }
 
-    /// The entry with which it began last was carried out, or it wasn't.
+    /// Says whether the entry that was begun last was carried out.
     pub fn end(&mut self, is_carried: bool)
         ensures { self.new ≡ following self.old.entries (self.old.carried ++ is_carried ∷ []) }
     {

@@ -1,4 +1,4 @@
--- A shorter log: one from which the entries about some uploads are left out.
+-- A shorter log: the entries about some uploads are left out.
 use Rattle.std.specs.Prelude.{◌≡◌, ◌≤◌, ◌-◌, ℕ, Bool, true, false, not, List, [], drop, filter, length, None, if◌then◌else◌}
 use Rattle.std.specs.FinMap as map
 use Rattle.std.specs.List.{All, list_any}
@@ -14,7 +14,7 @@ use Rattle.up_machine.specs.State.{Contents, State}
 use Rattle.up_machine.specs.declared.plan.Asked.{Asked}
 use Rattle.up_replay.specs.Replay.{replayed}
 
--- whether a request makes, changes, removes or looks at one of these uploads
+-- whether a request creates, changes, removes or reads one of these uploads
 abbrev pub is_about : (ℕ → Bool) → Request → ℕ → Bool
 is_about among request.Options id = false
 is_about among (request.Create new) id = among id
@@ -23,7 +23,7 @@ is_about among (request.Patch p) id = among p.id
 is_about among (request.Delete u) id = among u
 is_about among (request.Get u) id = among u
 
--- the uploads that a request joins: those of a final upload that is to be made
+-- the uploads that a request joins: the parts of a final upload to be created
 abbrev pub parts_of : Request → List ℕ
 parts_of request.Options = []
 parts_of (request.Create new) = if is_final_kind new.kind then new.parts else []
@@ -32,7 +32,7 @@ parts_of (request.Patch p) = []
 parts_of (request.Delete u) = []
 parts_of (request.Get u) = []
 
--- whether an entry is left out, with all that are about these uploads
+-- whether an entry is left out when all entries about these uploads are
 abbrev pub is_left_out : (ℕ → Bool) → Entry → Bool
 is_left_out among entry = is_about among entry.request entry.id
 
@@ -40,7 +40,7 @@ is_left_out among entry = is_about among entry.request entry.id
 abbrev pub kept : (ℕ → Bool) → List Entry → List Entry
 kept among entries = filter (λ (entry : Entry). not (is_left_out among entry)) entries
 
--- an entry that stays joins none of these uploads
+-- an entry that stays does not join any of these uploads
 abbrev pub JoinsKept : (ℕ → Bool) → Entry → Type 0
 JoinsKept among entry = is_left_out among entry ≡ false → list_any among (parts_of entry.request) ≡ false
 
@@ -52,12 +52,12 @@ changes_without among changes = filter (λ (c : Accepted). not (among (id_of c))
 abbrev pub events_without : (ℕ → Bool) → List Event → List Event
 events_without among events = filter (λ (e : Event). not (among e.id)) events
 
--- nothing was done yet
+-- a book before its first change
 pub record IsNew (s : State) : Type 0 where
   pub content : s.content ≡ map.empty
   pub changes : s.journal.accepted ≡ []
 
--- no upload among these is there
+-- none of these uploads exists
 abbrev pub AreGone : (ℕ → Bool) → Contents → Type 0
 AreGone among content = (u : ℕ) → among u ≡ true → map.get content u ≡ None
 
@@ -70,35 +70,35 @@ pub record IsWithout (among : ℕ → Bool) (s t : State) : Type 0 where
   pub content : (u : ℕ) → among u ≡ false → map.get t.content u ≡ map.get s.content u
   pub gone : AreGone among t.content
 
--- a shorter log defines the book without the uploads of which nothing stays
+-- a shorter log defines the book without the uploads that are left out
 abbrev pub ShorterDefines : Type 0
 ShorterDefines =
     (among : ℕ → Bool) (s : State) (entries : List Entry)
     → IsNew s → All (JoinsKept among) entries → IsWithout among (replayed s entries) (replayed s (kept among entries))
 
--- other uploads are known to it alike
+-- the other uploads are known in both books or in neither
 abbrev pub OthersAreKnown : Type 0
 OthersAreKnown =
     (among : ℕ → Bool) (s t : State) (u : ℕ)
     → IsWithout among s t → among u ≡ false → is_known t.journal.accepted u ≡ is_known s.journal.accepted u
 
--- each lane's log is that of the longer log, without the events of the uploads of which nothing stays: the events of
--- the others are the same, with the same numbers, in the same order
+-- each lane's log is that of the longer log, without the events of the uploads that are left out: the events of the
+-- others are the same, with the same numbers, in the same order
 abbrev pub LogsAreWithout : Type 0
 LogsAreWithout =
     (among : ℕ → Bool) (s t : State) (lane : ℕ)
     → IsWithout among s t → lane_log t.journal lane ≡ events_without among (lane_log s.journal lane)
 
--- requests about others, which join others alone, are decided alike
+-- the decision is the same for requests about other uploads that join only other uploads
 abbrev pub OthersAreDecidedAlike : Type 0
 OthersAreDecidedAlike =
     (among : ℕ → Bool) (s t : State) (r : Request) (id : ℕ) (asked : Asked)
     → IsWithout among s t → is_about among r id ≡ false → list_any among (parts_of r) ≡ false
     → decide t r id asked ≡ decide s r id asked
 
--- ---- uploads that have ended
+-- ---- uploads that were removed
 
--- whether the request makes one of these uploads
+-- whether the request creates one of these uploads
 abbrev pub makes : (ℕ → Bool) → Request → ℕ → Bool
 makes among request.Options id = false
 makes among (request.Create new) id = among id
@@ -107,27 +107,27 @@ makes among (request.Patch p) id = false
 makes among (request.Delete u) id = false
 makes among (request.Get u) id = false
 
--- the second book is the first without these uploads, which have ended
+-- the second book is the first without these uploads, which were removed
 pub record IsWithoutEnded (among : ℕ → Bool) (s t : State) : Type 0 where
   pub without : IsWithout among s t
   pub ended : AreGone among s.content
 
--- both have the same uploads
+-- both books have the same uploads
 abbrev pub EndedContentsAreEqual : Type 0
 EndedContentsAreEqual = (among : ℕ → Bool) (s t : State) → IsWithoutEnded among s t → t.content ≡ s.content
 
--- each request is decided alike, unless it makes an upload with the id of one that has ended
+-- the decision is the same for each request, unless it creates an upload with the id of one that was removed
 abbrev pub EndedAreDecidedAlike : Type 0
 EndedAreDecidedAlike =
     (among : ℕ → Bool) (s t : State) (r : Request) (id : ℕ) (asked : Asked)
     → IsWithoutEnded among s t → makes among r id ≡ false → decide t r id asked ≡ decide s r id asked
 
--- and each is planned alike
+-- the plan is the same for each request
 abbrev pub EndedArePlannedAlike : Type 0
 EndedArePlannedAlike =
     (among : ℕ → Bool) (s t : State) (r : Request) → IsWithoutEnded among s t → decide_plan t r ≡ decide_plan s r
 
--- and so it stays, whatever is committed to both
+-- and this stays so, whatever is committed to both books
 abbrev pub EndedStayAlike : Type 0
 EndedStayAlike =
     (among : ℕ → Bool) (s t : State) (more : List Entry)
@@ -138,8 +138,8 @@ EndedStayAlike =
 abbrev pub left_out_events : State → State → ℕ → ℕ
 left_out_events s t lane = length (lane_log s.journal lane) - length (lane_log t.journal lane)
 
--- once all that there was of a lane's log has been handed over, the same events are still to be handed over of both
--- logs: of the shorter one so many fewer were handed over
+-- once all events of a lane's log have been handed over, the same events remain to be handed over from both logs; the
+-- number of events handed over from the shorter one is less by those left out
 abbrev pub RestIsHandedAlike : Type 0
 RestIsHandedAlike =
     (among : ℕ → Bool) (s t : State) (more : List Entry) (lane handed : ℕ)
@@ -148,8 +148,8 @@ RestIsHandedAlike =
     → drop (handed - left_out_events s t lane) (lane_log (replayed t more).journal lane)
     ≡ drop handed (lane_log (replayed s more).journal lane)
 
--- once all events of the uploads that are left out have been handed over, however far a lane has come with the others,
--- the same events are still to be handed over of both logs
+-- once all events of the uploads that are left out have been handed over, the same events remain to be handed over from
+-- both logs, however far a lane is with the other events
 abbrev pub OthersAreHandedAlike : Type 0
 OthersAreHandedAlike =
     (among : ℕ → Bool) (s t : State) (lane handed : ℕ)

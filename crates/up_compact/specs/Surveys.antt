@@ -1,4 +1,4 @@
--- What is seen of the entries of a log, before it is known which of them can be left out.
+-- What is collected from the entries of a log, before it is known which of them can be left out.
 use Rattle.std.specs.Prelude.{◌≡◌, ℕ, Bool, true, false, List, [], ◌∷◌, ◌++◌, if◌then◌else◌}
 use Rattle.std.specs.BTreeSet as set
 use Rattle.std.specs.BTreeSet.{BTreeSet}
@@ -14,11 +14,11 @@ use Rattle.up_compact.specs.declared.joining.Joining.{Joining}
 abbrev pub has : BTreeSet ℕ → ℕ → Bool
 has ids u = set.contains nat_cmp ids u
 
--- each id of the first set is one of the second
+-- each id of the first set is also in the second
 abbrev pub IsWithin : BTreeSet ℕ → BTreeSet ℕ → Type 0
 IsWithin ids others = (u : ℕ) → has ids u ≡ true → has others u ≡ true
 
--- the upload that a request is to make
+-- the upload that a request asks to create
 abbrev pub makes_of : Request → ℕ → List ℕ
 makes_of request.Options id = []
 makes_of (request.Create new) id = id ∷ []
@@ -27,7 +27,7 @@ makes_of (request.Patch p) id = []
 makes_of (request.Delete u) id = []
 makes_of (request.Get u) id = []
 
--- the final upload that a request is to make, with its parts
+-- the final upload that a request asks to create, with its parts
 abbrev pub joinings_of : Request → ℕ → List Joining
 joinings_of request.Options id = []
 joinings_of (request.Create new) id = if is_final_kind new.kind then record { id = id; parts = new.parts } ∷ [] else []
@@ -36,7 +36,7 @@ joinings_of (request.Patch p) id = []
 joinings_of (request.Delete u) id = []
 joinings_of (request.Get u) id = []
 
--- the uploads that entries are to make, and the final ones of them
+-- the uploads that entries ask to create, and the final ones among them
 pub record Seen : Type 0 where
   pub uploads : List ℕ
   pub joinings : List Joining
@@ -44,14 +44,14 @@ pub record Seen : Type 0 where
 abbrev pub nothing_seen : Seen
 nothing_seen = record { uploads = []; joinings = [] }
 
--- with one entry more
+-- with one more entry
 abbrev pub saw : Seen → Entry → Seen
 saw seen entry = record {
   uploads = seen.uploads ++ makes_of entry.request entry.id;
   joinings = seen.joinings ++ joinings_of entry.request entry.id;
 }
 
--- with these entries more, the first of them first
+-- with more entries, in order
 abbrev pub saw_all : Seen → List Entry → Seen
 saw_all seen [] = seen
 saw_all seen (entry ∷ entries) = saw_all (saw seen entry) entries

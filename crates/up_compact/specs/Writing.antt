@@ -1,4 +1,4 @@
--- A shorter log as it is written.
+-- Writing a shorter log.
 use Rattle.std.specs.Prelude.{◌≡◌, ℕ, ◌+◌, Bool, List, [], ◌∷◌, length, if◌then◌else◌, ◌++◌, false}
 use Rattle.sqlite_disk.specs.declared.Disk.{Ghosts}
 use Rattle.std.specs.List.{All}
@@ -12,7 +12,7 @@ use Rattle.up_log.specs.declared.setup.Setup.{Setup}
 use Rattle.up_machine.specs.State.{State}
 use Rattle.up_replay.specs.Replay.{entries_of, replayed}
 
--- the entries that were carried out, of those from this place of the log on: all but those whose places are void
+-- of the entries from this place of the log on, those that were carried out: all but those whose places are void
 abbrev pub carried_out : (ℕ → Bool) → ℕ → List Entry → List Entry
 carried_out is_void place [] = []
 carried_out is_void place (entry ∷ entries) =
@@ -24,16 +24,17 @@ pub record HasEntries {D : Type 0} (g : Ghosts D) (log : Log D) (setup : Setup) 
   pub settled : IsSettled g log setup batches
   pub are : entries_of batches ≡ entries
 
--- so far these batches of a log were gone through
+-- these batches of a log were processed so far
 abbrev pub IsBehind : Progress → Setup → List (List Entry) → Type 0
 IsBehind progress setup read =
     (progress.place ≡ length (written setup read)) × (progress.count ≡ length (entries_of read))
 
--- what stays of the entries of these batches: those that were carried out, and are about none of these uploads
+-- the entries of these batches that stay: those that were carried out, and are not about these uploads
 abbrev pub staying : (ℕ → Bool) → (ℕ → Bool) → List (List Entry) → List Entry
 staying is_void among batches = kept among (carried_out is_void 0 (entries_of batches))
 
--- what was written defines the book without these uploads, if no entry that stays makes a final upload of one of them
+-- what was written defines the book without these uploads, if no entry that stays creates a final upload with one of
+-- them as a part
 abbrev pub WrittenDefines : Type 0
 WrittenDefines =
     (is_void among : ℕ → Bool) (s : State) (batches : List (List Entry))
@@ -41,8 +42,8 @@ WrittenDefines =
     → IsWithout among (replayed s (carried_out is_void 0 (entries_of batches)))
     (replayed s (staying is_void among batches))
 
--- and so it is while the log goes on: if the uploads had ended after some batches, and no later entry makes an upload
--- with the id of one of them, what was written of all batches defines the book without these uploads
+-- and this stays so while the log grows: if the uploads were removed after some batches, and no later entry creates an
+-- upload with the id of one of them, then what was written of all batches defines the book without these uploads
 abbrev pub WrittenGoesOn : Type 0
 WrittenGoesOn =
     (is_void among : ℕ → Bool) (s : State) (read left : List (List Entry))

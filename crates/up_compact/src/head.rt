@@ -8,18 +8,19 @@ use up_headers::Request;
 use up_log::{Consent, Entry, LogFault, Spelled};
 use up_message::Sequence;
 
-/// The log that counts, of those that were written one after another, and how it goes on from the one before.
+/// The current log, of those that were written one after another, and how it continues the one before.
 #[derive(Drop)]
 pub struct Head {
-    /// How many logs were written before it.
+    /// The number of logs that were written before it.
     pub generation: u64,
-    /// How many entries it had when it became the one that counts.
+    /// The number of entries that it had when it became the current one.
     pub entries: u64,
-    /// How many events of each lane it leaves out, with those that were left out earlier. They were all handed over.
+    /// The number of events that it leaves out of each lane, including those that were left out earlier. They were all
+    /// handed over.
     pub left_out: Sequence<u64>,
 }
 
-/// An entry that asks for nothing, and has this number for its id.
+/// An entry that asks for nothing, with this number as its id.
 fn entry_of(number: u64) -> Entry
     ensures { result ≡ numbered number }
 {
@@ -30,7 +31,7 @@ fn entry_of(number: u64) -> Entry
     }
 }
 
-/// The ids of entries as numbers below 2^64.
+/// The ids of entries, as numbers below 2^64.
 fn numbers_of(alloc: Global, entries: &[Entry]) -> Result<Vec<u64>, LogFault>
     ensures { IfOk result (λ numbers. numbers.items ≡ ids_of entries.now) }
 {
@@ -46,7 +47,7 @@ fn numbers_of(alloc: Global, entries: &[Entry]) -> Result<Vec<u64>, LogFault>
 }
 
 impl Head {
-    /// The head of the log that was made first.
+    /// The head of the first log.
     pub fn first(alloc: Global) -> Head
         ensures { result ≡ first_head }
     {
@@ -57,7 +58,7 @@ impl Head {
         }
     }
 
-    /// The head that a batch says.
+    /// The head in a batch. `Damaged` if the batch is not a head.
     pub(crate) fn read(alloc: Global, batch: &[Entry]) -> Result<Head, LogFault>
         ensures { IfOk result (λ head. head_of (ids_of batch.now) ≡ Some head) }
     {
@@ -73,7 +74,7 @@ impl Head {
         })
     }
 
-    /// The batch that says it.
+    /// The batch for this head.
     pub(crate) fn spelled(&self, alloc: Global) -> Result<Vec<Spelled>, AllocError>
         ensures { IfOk result (λ batch. batch.items ≡ batch_of self.now) }
     {

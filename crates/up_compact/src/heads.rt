@@ -1,4 +1,4 @@
-//! The log of heads: a switch to a shorter log is one batch of it.
+//! The log of heads. Switching to a shorter log appends one batch to it.
 ghost use Rattle.std.specs.Prelude.{◌≡◌, ◌⊎◌, ◌++◌, ◌∷◌, [], List, ℕ, IfOk, OnOk, OnErr, IsTrue};
 ghost use Rattle.up_compact.specs.Heads.{LastHeadHolds, batch_of, first_head, head_after};
 ghost use Rattle.up_log.specs.Blocks.{IsBeforeOrAfter};
@@ -11,19 +11,20 @@ use sqlite_disk::Disk;
 use std::alloc::Global;
 use up_log::{Log, LogFault, LogReader};
 
-/// The heads of all logs but the first, in a log of their own. The last one counts.
+/// The heads of all logs but the first, in a log of their own. The last one is the current one.
 #[derive(Drop)]
 pub struct Heads<D: Disk> {
     log: Log<D>,
 }
 
-/// If a head is added, that one holds.
+/// After a head was added, it is the current one.
 pub fn last_head_holds()
     ensures { LastHeadHolds }
 {}
 
 impl<D: Disk> Heads<D> {
-    /// Reads them to the end, and tells the one that holds.
+    /// Reads all heads, and returns the current one. `Damaged` if a batch is not a head; otherwise the errors of
+    /// reading and finishing the log.
     pub fn read(alloc: Global, reader: LogReader<D>) -> Result<(Heads<D>, Head), LogFault>
     where
         D: Drop,
@@ -43,8 +44,8 @@ impl<D: Disk> Heads<D> {
         }
     }
 
-    /// Adds a head, which holds from `Ok` on, whatever crash comes. A crash in the call, or after an error, leaves it or
-    /// the one before.
+    /// Adds a head. After `Ok` it is the current one, whatever crash follows. A crash during the call, or after an
+    /// error, leaves either this head or the one before as the current one.
     pub fn add(&mut self, alloc: Global, head: &Head) -> Result<(), LogFault>
         ensures durable { (setup : Numbers) (batches : List (List Logged))
             → IsSettled D.Disk self.old.log setup batches
@@ -63,7 +64,7 @@ impl<D: Disk> Heads<D> {
         self.log.append(alloc, &batch)
     }
 
-    /// The file, which takes no more.
+    /// The file. The heads are then used up.
     pub fn into_device(self) -> D
         ensures { result ≡ self.log.device }
     {

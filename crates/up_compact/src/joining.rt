@@ -10,14 +10,14 @@ use up_headers::Request;
 use up_log::Entry;
 use up_message::Sequence;
 
-/// A final upload that an entry asks to make, and the uploads that it joins.
+/// A final upload that an entry asks to create, and the uploads that it joins.
 #[derive(Drop)]
 pub struct Joining {
     pub id: Id,
     pub parts: Sequence<Id>,
 }
 
-/// The final upload that an entry asks to make, if it does.
+/// The final upload that an entry asks to create, if any.
 pub(crate) fn joining_of(alloc: Global, entry: &Entry) -> Result<Option<Joining>, AllocError>
     ensures { IfOk result (λ found. MatchOption found
         (joinings_of entry.now.request entry.now.id ≡ [])
@@ -35,14 +35,14 @@ pub(crate) fn joining_of(alloc: Global, entry: &Entry) -> Result<Option<Joining>
     }))
 }
 
-/// Whether any of these uploads is among the others.
+/// Whether any of these uploads is in the set.
 fn has_any(ids: &BTreeSet<Id>, parts: &[Id]) -> bool
     ensures { result ≡ list_any (has ids.now) parts.now }
 {
     parts.iter().any(|part| ids.contains(part))
 }
 
-/// Whether a final upload would stay, and one of its parts be left out.
+/// Whether a final upload would stay while one of its parts is left out.
 pub(crate) fn misses_part(ids: &BTreeSet<Id>, joining: &Joining) -> bool
     ensures { result
         ≡ (not (has ids.now joining.now.id) && list_any (has ids.now) joining.now.parts) }

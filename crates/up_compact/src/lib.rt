@@ -1,4 +1,4 @@
-//! A shorter log of the same uploads: what it may leave out, how it is written, and how it becomes the current one.
+//! A shorter log of the same uploads: what it may leave out, how it is written, and how it becomes the current log.
 #![tactic(auto)]
 
 mod head;

@@ -1,4 +1,4 @@
-//! What a log is about: the uploads that its entries make.
+//! A survey of a log: the uploads that its entries create.
 ghost use Rattle.std.specs.Prelude.{◌≡◌, ◌&&◌, not, List, IfOk, OnOk, IsTrue, true};
 ghost use Rattle.std.specs.List.{All};
 ghost use Rattle.up_compact.specs.Shorter.{JoinsKept};
@@ -13,8 +13,8 @@ use up_events::Id;
 use up_headers::Request;
 use up_log::Entry;
 
-/// The uploads that entries are to make, and the final ones of them with their parts. Each takes 16 bytes, and each
-/// part as many.
+/// The uploads that entries ask to create, and the final ones among them with their parts. Each upload takes 16 bytes,
+/// and so does each part.
 #[derive(Drop)]
 pub struct Survey {
     uploads: Vec<Id>,
@@ -29,7 +29,7 @@ impl Model for Survey {
     ghost view = { λ s. record { uploads = s.uploads.items; joinings = s.joinings.items } };
 }
 
-/// Takes the ids of parts out.
+/// Removes the ids of parts.
 fn take_out(ids: &mut BTreeSet<Id>, parts: &[Id])
     ensures { IsWithin ids.new ids.old }
 {
@@ -38,7 +38,7 @@ fn take_out(ids: &mut BTreeSet<Id>, parts: &[Id])
     }
 }
 
-/// Takes the parts out of the final uploads that stay.
+/// Removes the parts of the final uploads that stay.
 fn take_out_parts(ids: &mut BTreeSet<Id>, joinings: &[Joining])
     ensures { IsWithin ids.new ids.old }
 {
@@ -61,7 +61,7 @@ fn keeps_parts(ids: &BTreeSet<Id>, joinings: &[Joining]) -> bool
     true
 }
 
-/// Those of these uploads of which nothing has to stay: all but the parts of final uploads that stay.
+/// Those of these uploads that can be left out: all but the parts of final uploads that stay.
 fn without_parts(ended: BTreeSet<Id>, joinings: &[Joining]) -> BTreeSet<Id>
     ensures ended { IsWithin result ended }
     ensures joins { All (JoinsOnly (has result)) joinings.now }
@@ -80,7 +80,7 @@ fn without_parts(ended: BTreeSet<Id>, joinings: &[Joining]) -> BTreeSet<Id>
 }
 
 impl Survey {
-    /// Nothing was seen yet. Takes no memory.
+    /// An empty survey. Takes no memory.
     pub fn new(alloc: Global) -> Survey
         ensures { result ≡ nothing_seen }
     {
@@ -90,7 +90,7 @@ impl Survey {
         }
     }
 
-    /// Notes what an entry makes.
+    /// Adds the upload that an entry creates.
     fn see_one(&mut self, alloc: Global, entry: &Entry) -> Result<(), AllocError>
         ensures { OnOk result (self.new ≡ saw self.old entry.now) }
     {
@@ -103,7 +103,7 @@ impl Survey {
         Ok(())
     }
 
-    /// Notes what entries make.
+    /// Adds the uploads that entries create. `AllocError` if memory runs out.
     pub fn see(&mut self, alloc: Global, entries: &[Entry]) -> Result<(), AllocError>
         ensures { OnOk result (self.new ≡ saw_all self.old entries.now) }
     {
@@ -113,14 +113,14 @@ impl Survey {
         Ok(())
     }
 
-    /// The uploads that entries are to make, in their order.
+    /// The uploads that entries ask to create, in order.
     pub fn uploads(&self) -> &[Id]
         ensures { result.now ≡ self.now.uploads }
     {
         &self.uploads
     }
 
-    /// Of uploads that have ended, those of which nothing has to stay: all but the parts of final uploads that stay.
+    /// Of uploads that were removed, those that can be left out: all but the parts of final uploads that stay.
     pub fn left_out(&self, ended: BTreeSet<Id>) -> BTreeSet<Id>
         ensures ended { IsWithin result ended }
         ensures joins { All (JoinsOnly (has result)) self.now.joinings }

@@ -1,4 +1,4 @@
-//! Writing a shorter log while others are added to the longer one.
+//! Writing a shorter log while entries are appended to the longer one.
 ghost use Rattle.std.specs.Prelude.{◌≡◌, ◌+◌, ◌^◌, ◌<◌, ◌++◌, [], ℕ, List, length, IfOk, OnOk, IsTrue};
 ghost use Rattle.up_compact.specs.Shorter.{is_left_out, kept};
 ghost use Rattle.up_compact.specs.Surveys.{has};
@@ -15,14 +15,14 @@ use up_events::Id;
 use up_headers::Request;
 use up_log::{Entry, Log, LogFault, Spelled};
 
-/// How far a log was gone through.
+/// How much of a log has been processed.
 #[derive(Clone, Copy, Debug, PartialEq, Eq)]
 pub struct Progress {
-    /// Where the next batch begins.
+    /// The place of the next batch.
     pub place: usize,
-    /// How many entries stand before it.
+    /// The number of entries before it.
     pub count: u64,
-    /// How many of them stayed.
+    /// The number of these entries that stayed.
     pub stayed: u64,
 }
 
@@ -31,7 +31,7 @@ pub struct Progress {
 pub struct LeftOut {
     /// The places of entries that were not carried out.
     pub voids: BTreeSet<u64>,
-    /// Uploads of which nothing stays.
+    /// The uploads that are left out.
     pub uploads: BTreeSet<Id>,
 }
 
@@ -49,7 +49,7 @@ pub fn is_left_out(uploads: &BTreeSet<Id>, entry: &Entry) -> bool
     }
 }
 
-/// Spells those of these entries that stay, of which the first has this place in the log.
+/// Encodes those of these entries that stay. `first` is the place of the first entry in the log.
 fn spell_staying(
     alloc: Global,
     left_out: &LeftOut,
@@ -71,8 +71,9 @@ fn spell_staying(
     Ok(spelled)
 }
 
-/// Adds those of the entries of a batch that stay to a shorter log, and tells how far the longer one was gone through
-/// with them. `next` is the place behind the batch. They are on the disk at `Ok`.
+/// Appends those of the entries of a batch that stay to a shorter log, and returns how much of the longer log is then
+/// processed. `next` is the place after the batch. After `Ok` the entries are on the disk. The errors are those of
+/// `Log::append`, `Memory` if memory runs out, and `Damaged` if there are too many entries to count.
 pub fn add_staying<D: Disk>(
     alloc: Global,
     shorter: &mut Log<D>,
@@ -92,7 +93,7 @@ pub fn add_staying<D: Disk>(
         + length (kept (has left_out.now.uploads)
         (carried_out (has left_out.now.voids) progress.count entries.now))) }
 {
-    // No log has so many entries.
+    // No log has that many entries.
     let Some(count) = progress.count.checked_add(entries.len() as u64) else {
         return Err(LogFault::Damaged);
     };
@@ -111,7 +112,7 @@ pub fn add_staying<D: Disk>(
 }
 
 impl Progress {
-    /// Nothing of a log was gone through.
+    /// Nothing of a log has been processed.
     pub fn start<D: Disk>() -> Progress
         ensures { (setup : Numbers) → IsBehind result setup [] }
     {
@@ -123,7 +124,8 @@ impl Progress {
     }
 }
 
-/// Adds all entries that stay, from this place of a log to its end, to a shorter log. The log stays as it is.
+/// Appends all entries that stay, from this place of a log to its end, to a shorter log. The longer log is unchanged.
+/// The errors are those of `Log::batch_at` and of `add_staying`.
 pub fn catch_up<D: Disk, S: Disk>(
     alloc: Global,
     log: &mut Log<D>,

@@ -1,5 +1,5 @@
-//! Texts that stand for bytes, with Rust's escapes: `\r`, `\n`, `\t`, `\\`, `\'`, `\"` and `\xHH`; and the first line in which
-//! two texts differ.
+//! Texts for bytes, with Rust's escapes: `\r`, `\n`, `\t`, `\\`, `\'`, `\"` and `\xHH`; and the first line in which two
+//! texts differ.
 #![tactic(auto)]
 
 ghost use Rattle.std.specs.Prelude.{◌<◌, IfOk, length};
@@ -10,7 +10,7 @@ pub use crate::line_difference::{LineDifference, difference};
 use std::alloc::AllocError;
 use thiserror::Error;
 
-/// Why a text stands for no bytes.
+/// Why a text cannot be decoded to bytes.
 #[derive(Clone, Copy, Debug, PartialEq, Eq, Error)]
 pub enum EscapeFault {
     #[error("no such escape")]
@@ -31,7 +31,7 @@ fn digit(byte: u8) -> Result<u8, EscapeFault>
     }
 }
 
-/// The byte that a text behind a backslash begins with, and what stands behind it.
+/// The byte that the text after a backslash begins with, and the text after it.
 fn take_escape(text: &[u8]) -> Result<(u8, &[u8]), EscapeFault>
     ensures { IfOk result (λ taken. length taken.1.now < length text.now) }
 {
@@ -45,7 +45,7 @@ fn take_escape(text: &[u8]) -> Result<(u8, &[u8]), EscapeFault>
     }
 }
 
-/// Puts the bytes for which a text stands at the end of `bytes`.
+/// Appends the bytes that a text encodes to `bytes`. `Escape` if an escape is unknown, `Memory` if memory runs out.
 pub fn put_bytes(bytes: &mut Vec<u8>, text: &str) -> Result<(), EscapeFault> {
     let mut rest = text.as_bytes();
     while let [first, behind @ ..] = rest {

@@ -6,11 +6,11 @@ use std::fmt;
 /// The first line in which two texts differ.
 #[derive(Clone, Copy)]
 pub struct LineDifference<'a> {
-    /// Its number, counted from 1.
+    /// The number of the line, counted from 1.
     pub number: usize,
-    /// The line in the one text, with its end; empty where that text has ended.
+    /// The line in the first text, with its line feed; empty if that text has ended.
     pub wanted: &'a [u8],
-    /// The line in the other, so too.
+    /// The line in the second text, likewise.
     pub written: &'a [u8],
 }
 
@@ -26,7 +26,7 @@ impl<'a> fmt::Display for LineDifference<'a> {
     }
 }
 
-/// How many bytes two texts have in common at their fronts.
+/// The number of bytes that two texts have in common at their start.
 fn common(one: &[u8], other: &[u8]) -> usize
     ensures { (result ≤ length one.now) × (result ≤ length other.now) }
 {
@@ -36,7 +36,7 @@ fn common(one: &[u8], other: &[u8]) -> usize
         .count()
 }
 
-/// The line that begins at a place, with its end.
+/// The line from a place on, with its line feed.
 fn line_at(text: &[u8], start: usize) -> &[u8]
     requires { start ≤ length text.now }
 {
@@ -47,7 +47,7 @@ fn line_at(text: &[u8], start: usize) -> &[u8]
     }
 }
 
-/// The first line in which the texts differ, where they do. A line ends behind its line feed.
+/// The first line in which the texts differ, if they do. A line ends with its line feed.
 pub fn difference<'a>(wanted: &'a [u8], written: &'a [u8]) -> Option<LineDifference<'a>>
     ensures { IsNone result ↔ (wanted.now ≡ written.now) }
 {

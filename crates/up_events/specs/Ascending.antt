@@ -6,23 +6,23 @@ use Rattle.std.specs.declared.alloc.Global.{Global}
 use Rattle.up_events.specs.Blocks.{IsBlock}
 use Rattle.up_events.specs.declared.sorted_ids.TheConstants.{BLOCK}
 
--- whether an id is among these
+-- whether an id is in the list
 abbrev pub has : List ℕ → ℕ → Bool
 has ids u = list_any (λ id. id == u) ids
 
--- the new list has this id, and else what the old one has
+-- the new list has this id and the ids of the old list, and no other
 abbrev pub Adds : List ℕ → ℕ → List ℕ → Type 0
 Adds old id new = (u : ℕ) → has new u ≡ (has old u || id == u)
 
--- the blocks have the ids in turn
+-- the blocks have the ids, in order
 abbrev pub AreBlocks : List ℕ → List (Vec ℕ Global) → Type 0
 AreBlocks ids blocks = (k : ℕ) (block : Vec ℕ Global) → slice_get blocks k ≡ Some block → IsBlock BLOCK ids (k * BLOCK) block
 
--- the ids that stand in these blocks
+-- the ids in these blocks
 abbrev pub ids_in : List (Vec ℕ Global) → List ℕ
 ids_in blocks = flat_map (λ (block : Vec ℕ Global). block.items) blocks
 
--- there are so many ids, and they ascend
+-- there are `len` ids, and they ascend
 pub record AreAscending (len : ℕ) (blocks : List (Vec ℕ Global)) : Type 0 where
   pub ascends : IsNonDecreasing (ids_in blocks)
   pub counted : len ≡ length (ids_in blocks)

@@ -1,4 +1,4 @@
--- The list of accepted changes: when it is legal, what it says of each upload, and which events it defines.
+-- The list of accepted changes: when it is legal, what it says about each upload, and which events it results in.
 use Rattle.std.specs.Prelude.{◌≡◌, ℕ, ◌+◌, ◌≤◌, Bool, true, false, ◌&&◌, not, Option, Some, None, is_some, is_none, unwrap_or, List, [], ◌∷◌, ◌++◌, sum_by, if◌then◌else◌, ◌==◌}
 use Rattle.std.specs.List.{list_any}
 use Rattle.up_events.specs.Lists.{gather, EachFollows, first_given}
@@ -10,21 +10,21 @@ use Rattle.up_events.specs.declared.event.Hook.TheVariants.{Create, Receive, Fin
 use Rattle.up_events.specs.declared.event.Kind.{Kind}
 use Rattle.up_events.specs.declared.event.Kind.TheVariants.{Plain, Partial, Final}
 
--- the upload that a change is of
+-- the upload that a change belongs to
 abbrev pub id_of : Accepted → ℕ
 id_of (Created id length kind) = id
 id_of (Appended id count) = id
 id_of (Declared id length count) = id
 id_of (Terminated id) = id
 
--- the kind of this upload, where the change tells it
+-- the kind of this upload, if the change gives it
 abbrev pub kind_in : ℕ → Accepted → Option Kind
 kind_in u (Created id length kind) = if id == u then Some kind else None
 kind_in u (Appended id count) = None
 kind_in u (Declared id length count) = None
 kind_in u (Terminated id) = None
 
--- the length of this upload, where the change tells it
+-- the length of this upload, if the change gives it
 abbrev pub length_in : ℕ → Accepted → Option ℕ
 length_in u (Created id length kind) = if id == u then length else None
 length_in u (Appended id count) = None
@@ -49,15 +49,15 @@ ends u (Terminated id) = id == u
 unfoldable pub kind_of : List Accepted → ℕ → Option Kind
 kind_of changes u = first_given (kind_in u) changes
 
--- how many bytes an upload has once it is complete: none while its length isn't known
+-- the length of the complete upload, in bytes: none while it is not known
 unfoldable pub length_of : List Accepted → ℕ → Option ℕ
 length_of changes u = first_given (length_in u) changes
 
--- how many bytes were appended to an upload
+-- the number of bytes that were appended to an upload
 unfoldable pub received : List Accepted → ℕ → ℕ
 received changes u = sum_by (bytes_in u) changes
 
--- whether an upload of this kind has its bytes from the parts that it joins
+-- whether an upload of this kind gets its bytes from the parts that it joins
 abbrev pub is_final_kind : Kind → Bool
 is_final_kind Plain = false
 is_final_kind Partial = false
@@ -68,7 +68,7 @@ abbrev pub is_final : Option Kind → Bool
 is_final None = false
 is_final (Some kind) = is_final_kind kind
 
--- how far an upload has come: a final one to its length, any other to all that was appended to it
+-- the offset of an upload: the length of a final one, and for any other the number of bytes that were appended to it
 unfoldable pub offset_of : List Accepted → ℕ → ℕ
 offset_of changes u = if is_final (kind_of changes u) then unwrap_or (length_of changes u) 0 else received changes u
 
@@ -76,33 +76,35 @@ offset_of changes u = if is_final (kind_of changes u) then unwrap_or (length_of 
 abbrev pub is_known : List Accepted → ℕ → Bool
 is_known changes u = is_some (kind_of changes u)
 
--- whether some change ended an upload
+-- whether some change terminated an upload
 unfoldable pub is_terminated : List Accepted → ℕ → Bool
 is_terminated changes u = list_any (ends u) changes
 
--- whether an upload is there: created, and not ended
+-- whether an upload exists: it was created, and not terminated
 abbrev pub is_alive : List Accepted → ℕ → Bool
 is_alive changes u = is_known changes u && not (is_terminated changes u)
 
--- the most bytes that an upload of this length may have: 2^30 while it isn't known
+-- the maximum number of bytes of an upload of this length: 2^30 while the length is not known
 abbrev pub most_of : Option ℕ → ℕ
 most_of length = unwrap_or length MOST_BYTES
 
--- an upload that is there, and isn't final
+-- an upload that exists and is not final
 abbrev pub IsOpen : List Accepted → ℕ → Type 0
 IsOpen before u = (is_alive before u ≡ true) × (is_final (kind_of before u) ≡ false)
 
--- what may be accepted after these changes: the creation of a new upload of at most 2^30 bytes, whose
--- length is known if it is a final one; at least one more byte of an upload that is there and isn't
--- final, up to its length; the length of such an upload while it isn't known, of at most 2^30 bytes,
--- with bytes up to it, perhaps none; or the end of an upload that is there
+-- the changes that may be accepted after these:
+-- - the creation of a new upload of at most 2^30 bytes, with a known length if it is a final one
+-- - the append of at least one byte to an upload that exists and is not final, up to its length
+-- - the declaration of a length of at most 2^30 bytes for such an upload while its length is not known, with bytes up
+--   to that length, perhaps none
+-- - the termination of an upload that exists
 abbrev pub CanFollow : List Accepted → Accepted → Type 0
 CanFollow before (Created id length kind) = (is_known before id ≡ false) × (most_of length ≤ MOST_BYTES) × ((is_final_kind kind && is_none length) ≡ false)
 CanFollow before (Appended id count) = IsOpen before id × (1 ≤ count) × (offset_of before id + count ≤ most_of (length_of before id))
 CanFollow before (Declared id length count) = IsOpen before id × (length_of before id ≡ None) × (offset_of before id + count ≤ length) × (length ≤ MOST_BYTES)
 CanFollow before (Terminated id) = is_alive before id ≡ true
 
--- each change could follow those before it
+-- each change can follow those before it
 abbrev pub IsLegal : List Accepted → Type 0
 IsLegal changes = EachFollows CanFollow [] changes
 
@@ -112,27 +114,27 @@ IsLegal changes = EachFollows CanFollow [] changes
 abbrev pub Step : Type 0
 Step = Hook × ℕ × Option ℕ
 
--- whether all bytes are there: the length is known, and the offset is the length
+-- whether all bytes have arrived: the length is known, and the offset is the length
 abbrev pub is_whole : ℕ → Option ℕ → Bool
 is_whole offset None = false
 is_whole offset (Some length) = offset == length
 
--- a post-finish, where the offset is the length
+-- a post-finish, if the offset is the length
 abbrev pub finish_at : ℕ → Option ℕ → List Step
 finish_at offset length = if is_whole offset length then (Finish, offset, length) ∷ [] else []
 
--- a post-receive, where bytes came
+-- a post-receive, if there are bytes
 abbrev pub receive_at : ℕ → ℕ → Option ℕ → List Step
 receive_at count offset length = if count == 0 then [] else (Receive, offset, length) ∷ []
 
--- the events of a change, at the offset that it reaches and the length of its upload, as far as it is then known
+-- the events of a change, at the offset that it reaches and with the length of its upload, if that is then known
 abbrev pub steps_at : Accepted → ℕ → Option ℕ → List Step
 steps_at (Created id _ kind) offset length = (Create, offset, length) ∷ finish_at offset length
 steps_at (Appended id count) offset length = (Receive, offset, length) ∷ finish_at offset length
 steps_at (Declared id _ count) offset length = receive_at count offset length ++ finish_at offset length
 steps_at (Terminated id) offset length = (Terminate, offset, length) ∷ []
 
--- the events of a change that comes after these
+-- the events of a change that follows these
 abbrev pub steps_of : List Accepted → Accepted → List Step
 steps_of before c =
     let through = before ++ c ∷ [] in

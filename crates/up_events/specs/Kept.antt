@@ -1,4 +1,4 @@
--- What holds of the fields of every journal.
+-- The invariant of the fields of a journal.
 use Rattle.std.specs.Prelude.{◌≡◌, ℕ, ◌<◌, ◌≤◌, Some, None, if◌then◌else◌, List, length, drop, slice_get}
 use Rattle.std.specs.Ordering.{nat_cmp}
 use Rattle.std.specs.BTreeMap.{get}
@@ -12,17 +12,17 @@ use Rattle.up_events.specs.declared.event.Accepted.{Accepted}
 use Rattle.up_events.specs.declared.track.Track.{Track}
 use Rattle.up_events.specs.declared.journal.Journal.TheInside.{Inside}
 
--- how far an upload has come with these changes
+-- the state of an upload after these changes
 abbrev pub track_of : List Accepted → ℕ → Track
 track_of changes u = record { events = length (events_of changes u); offset = offset_of changes u; length = length_of changes u }
 
--- what is left of a log
+-- the tail is the rest of the log
 pub record IsTailOf (log : List Event) (tail : Left) : Type 0 where
   pub within : tail.first ≤ length log
   pub events_are : tail.events ≡ drop tail.first log
 
--- there are 1 to 16 lanes, the changes are legal, the tails are those of the logs that the changes
--- define, the tracks those of the uploads that are there, and the ids those of the uploads that were ended
+-- there are 1 to 16 lanes, the changes are legal, each tail is that of the log that the changes define, the tracks are
+-- the states of the uploads that exist, and the ids are those of the terminated uploads
 pub record IsKept (a : Inside) : Type 0 where
   pub some_lane : 0 < a.lanes
   pub few_lanes : a.lanes ≤ MOST_LANES

@@ -1,9 +1,9 @@
--- The accepted changes as a program has them: all of them, or how many they are.
+-- The accepted changes as a program has them: all of them, or only their number.
 use Rattle.std.specs.Prelude.{◌≡◌, ℕ, ◌+◌, ◌^◌, Bool, true, false, ◌&&◌, nat_lt, List, Option, Some, None, length, Vec, vec_len, vec_capacity}
 use Rattle.std.specs.declared.alloc.Global.{Global}
 use Rattle.up_events.specs.declared.event.Accepted.{Accepted}
 
--- all of them, whether the program has them, and whether there is room for one more
+-- all changes, whether the program keeps them, and whether there is room for one more
 pub record Listing : Type 0 where
   pub items : List Accepted
   pub keeps : Bool
@@ -14,7 +14,7 @@ abbrev pub are_kept : Option (Vec Accepted Global) → Bool
 are_kept None = false
 are_kept (Some list) = true
 
--- whether the list, if there is one, has a place that is free
+-- whether the list, if there is one, has room for another item
 abbrev pub has_place : Option (Vec Accepted Global) → Bool
 has_place None = true
 has_place (Some list) = nat_lt (vec_len list) (vec_capacity list)
@@ -28,7 +28,7 @@ abbrev pub HasAll : List Accepted → Option (Vec Accepted Global) → Type 0
 HasAll all None = Unit {0}
 HasAll all (Some list) = list.items ≡ all
 
--- they were counted, and the list, if there is one, has all of them
+-- the count is right, and the list, if there is one, has all changes
 pub record IsListed (all : List Accepted) (count : ℕ) (kept : Option (Vec Accepted Global)) : Type 0 where
   pub counted : count ≡ length all
   pub has_all : HasAll all kept

@@ -8,8 +8,8 @@ use crate::trace::Trace;
 use std::alloc::Global;
 use std::marker::Model;
 
-/// The accepted changes, in order. Proofs know all of them. So does the program if it keeps them, and
-/// otherwise it knows how many they are.
+/// The accepted changes, in order. Contracts always describe all of them. The program holds them if it keeps them, and
+/// otherwise only their number.
 #[derive(Drop)]
 pub struct Changes {
     all: Trace<Accepted>,
@@ -28,7 +28,7 @@ impl Model for Changes {
 }
 
 impl Changes {
-    /// No changes, all of which will be kept.
+    /// No changes. Those that are added will be kept.
     pub(crate) fn kept(alloc: Global) -> Changes
         ensures items { result.items ≡ [] }
         ensures keeps { result.keeps ≡ true }
@@ -40,7 +40,7 @@ impl Changes {
         }
     }
 
-    /// No changes, which will be counted and not kept.
+    /// No changes. Those that are added will be counted and not kept.
     pub fn counted() -> Changes
         ensures items { result.items ≡ [] }
         ensures keeps { result.keeps ≡ false }
@@ -52,14 +52,14 @@ impl Changes {
         }
     }
 
-    /// How many they are.
+    /// The number of changes.
     pub fn len(&self) -> u64
         ensures { result ≡ length self.now.items }
     {
         self.count
     }
 
-    /// All of them, if they are kept.
+    /// All of the changes, if they are kept.
     pub fn list(&self) -> Option<&[Accepted]>
         ensures kept { IsSome result ↔ (self.now.keeps ≡ true) }
         ensures all { IfSome result (λ list. list.now ≡ self.now.items) }
@@ -70,8 +70,8 @@ impl Changes {
         }
     }
 
-    /// Makes room for one more. `NoMemory` if memory was refused, or if there are 2^64 - 1, the most
-    /// that can be counted.
+    /// Makes room for one more change. `NoMemory` if memory runs out, or if there are already 2^64 - 1 changes, the
+    /// most that can be counted.
     pub(crate) fn reserve(&mut self) -> Result<(), NoMemory>
         ensures items { self.new.items ≡ self.old.items }
         ensures keeps { self.new.keeps ≡ self.old.keeps }
@@ -86,7 +86,7 @@ impl Changes {
         Ok(())
     }
 
-    /// Adds a change at the end, for which `reserve` has made room.
+    /// Adds a change at the end. `reserve` must have made room for it.
     pub(crate) fn push_reserved(&mut self, change: Accepted)
         requires { self.old.has_room ≡ true }
         ensures items { self.new.items ≡ self.old.items ++ change ∷ [] }

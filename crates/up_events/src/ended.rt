@@ -1,4 +1,4 @@
-//! The ids of ended uploads.
+//! The ids of terminated uploads.
 ghost use Rattle.std.specs.Prelude.{◌≡◌, ◌++◌, ◌∷◌, [], OnOk, OnErr, IfOk};
 ghost use Rattle.up_events.specs.Ascending.{has};
 ghost use Rattle.up_events.specs.Ended.{AreEmptyBuckets};
@@ -10,11 +10,11 @@ use crate::trace::Trace;
 use std::alloc::Global;
 use std::marker::Model;
 
-/// How many buckets there are.
+/// The number of buckets.
 const BUCKETS: u64 = 4_096;
 
-/// Ids that were put in, and stay. Each takes the 16 bytes of its number and little more. It stands in
-/// the bucket of its number modulo `BUCKETS`. So one that is put in moves only what stands after it there.
+/// A set of ids that only grows. Each id takes the 16 bytes of its number and little more. The id `n` is in the bucket
+/// `n` modulo `BUCKETS`, so that inserting an id moves only the ids after it in its bucket.
 #[derive(Drop)]
 pub struct Ended {
     all: Trace<Id>,
@@ -32,7 +32,7 @@ impl Model for Ended {
     ghost invariant = { λ e. AreSpread e.all.items e.buckets.items };
 }
 
-/// As many empty buckets as there are.
+/// `BUCKETS` empty buckets.
 fn empty_buckets(alloc: Global) -> Result<Vec<SortedIds>, NoMemory>
     ensures { IfOk result (λ buckets. AreEmptyBuckets BUCKETS buckets.items) }
 {
@@ -44,7 +44,7 @@ fn empty_buckets(alloc: Global) -> Result<Vec<SortedIds>, NoMemory>
 }
 
 impl Ended {
-    /// No ids. `NoMemory` where memory for the buckets was refused.
+    /// No ids. `NoMemory` if memory for the buckets runs out.
     pub fn empty(alloc: Global) -> Result<Ended, NoMemory>
         ensures { IfOk result (λ ended. ended ≡ []) }
     {
@@ -54,14 +54,14 @@ impl Ended {
         })
     }
 
-    /// Whether the id was put in.
+    /// Whether the id was inserted.
     pub fn contains(&self, id: Id) -> bool
         ensures { result ≡ has self.now id }
     {
         self.buckets[id.modulo(BUCKETS) as usize].contains(id)
     }
 
-    /// Puts an id in. `NoMemory` where memory was refused; the ids are then those that they were.
+    /// Inserts an id. `NoMemory` if memory runs out; the set is then unchanged.
     pub fn insert(&mut self, id: Id) -> Result<(), NoMemory>
         ensures ok { OnOk result (self.new ≡ self.old ++ id ∷ []) }
         ensures err { OnErr result (self.new ≡ self.old) }

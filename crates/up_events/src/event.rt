@@ -1,61 +1,61 @@
-//! What a request changed, and what is told of it.
+//! What a request changed, and the events that report it.
 ghost use Rattle.std.specs.Prelude.{◌≡◌, codes};
 
 use crate::id::Id;
 
-/// How an upload comes by its bytes.
+/// How an upload gets its bytes.
 #[derive(Clone, Copy, Debug, PartialEq, Eq)]
 pub enum Kind {
-    /// By appends alone.
+    /// By appends only.
     Plain,
-    /// By appends alone, and it is there to be a part of final uploads (tus 1.0.0, Concatenation).
+    /// By appends only, and it is meant to become a part of final uploads (tus 1.0.0, Concatenation).
     Partial,
-    /// From the parts that it joins: it is complete from its creation on (tus 1.0.0, Concatenation).
+    /// From the parts that it joins: it is complete as soon as it is created (tus 1.0.0, Concatenation).
     Final,
 }
 
-/// A change of one upload that was accepted. A list of them is the history of all uploads.
+/// An accepted change of one upload. A list of them is the history of all uploads.
 #[derive(Clone, Copy, Debug, PartialEq, Eq)]
 pub enum Accepted {
-    /// The upload was created: a final one with all of its bytes, any other with none yet.
+    /// The upload was created: a final one with all of its bytes, any other without bytes.
     Created {
         id: Id,
-        /// How long the upload is once it is complete, in bytes (`Upload-Length` of tus 1.0.0). None
-        /// where that is declared later, which a final upload's isn't.
+        /// The length of the complete upload, in bytes (`Upload-Length` of tus 1.0.0). `None` if it is declared later,
+        /// which is never so for a final upload.
         length: Option<u64>,
         kind: Kind,
     },
-    /// Bytes were appended to the upload, which isn't a final one.
+    /// Bytes were appended to the upload, which is not a final one.
     Appended {
         id: Id,
-        /// How many bytes.
+        /// The number of bytes.
         count: u64,
     },
-    /// The length of the upload, which wasn't known, was declared (tus 1.0.0, Creation: deferred
-    /// length), and bytes were appended with it.
+    /// The length of the upload was not known and was declared (tus 1.0.0, Creation: deferred length). Bytes were
+    /// appended with it.
     Declared {
         id: Id,
-        /// How long the upload is once it is complete, in bytes.
+        /// The length of the complete upload, in bytes.
         length: u64,
-        /// How many bytes were appended, perhaps none.
+        /// The number of bytes that were appended. It may be 0.
         count: u64,
     },
-    /// The upload was ended. Its id stays known, and nothing follows (tus 1.0.0, Termination).
+    /// The upload was terminated. Its id stays known, and no change of it follows (tus 1.0.0, Termination).
     Terminated {
         id: Id,
     },
 }
 
-/// What an event tells of its upload.
+/// What an event reports about its upload.
 #[derive(Clone, Copy, Debug, PartialEq, Eq)]
 pub enum Hook {
-    /// It was created.
+    /// The upload was created.
     Create,
-    /// Bytes were appended to it.
+    /// Bytes were appended to the upload.
     Receive,
-    /// It is complete: the offset is the length.
+    /// The upload is complete: the offset is the length.
     Finish,
-    /// It was ended. This is its last event.
+    /// The upload was terminated. This is its last event.
     Terminate,
 }
 
@@ -64,19 +64,19 @@ pub enum Hook {
 pub struct Event {
     /// The upload.
     pub id: Id,
-    /// The event's place among the events of its upload: 1, 2, 3 and so on.
+    /// The index of the event among the events of its upload: 1, 2, 3 and so on.
     pub number: u64,
     pub hook: Hook,
-    /// How many bytes the upload then has (`Upload-Offset` of tus 1.0.0).
+    /// The number of bytes that the upload has after the change (`Upload-Offset` of tus 1.0.0).
     pub offset: u64,
-    /// How many bytes the upload has once it is complete, if that was known then.
+    /// The length of the complete upload, in bytes, if it is known after the change.
     pub length: Option<u64>,
 }
 
 impl Hook {
     ghost use Rattle.up_events.specs.Names.{name_of};
 
-    /// The name that the hook has in an event's text, as `post-create`.
+    /// The name of the hook in the text of an event, such as `post-create`.
     pub fn name(&self) -> &'static str
         ensures { result.now ≡ name_of self.now }
     {
@@ -92,7 +92,7 @@ impl Hook {
 impl Accepted {
     ghost use Rattle.up_events.specs.History.{id_of};
 
-    /// The upload that the change is of.
+    /// The upload that the change belongs to.
     pub fn id(&self) -> Id
         ensures { result ≡ id_of self.now }
     {

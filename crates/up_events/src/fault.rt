@@ -1,8 +1,8 @@
-//! Want of memory.
+//! Running out of memory.
 use std::alloc::{AllocError, AllocFailed};
 use thiserror::Error;
 
-/// Memory was refused. What the call was to change is as it was before.
+/// Memory ran out. Everything that the call was to change is as it was before.
 #[derive(Clone, Copy, Debug, PartialEq, Eq, Error)]
 #[error("out of memory")]
 pub struct NoMemory;

@@ -1,4 +1,4 @@
-//! The id of an upload: a number, and a text of 32 digits.
+//! The id of an upload: a number, and its text of 32 digits.
 ghost use Rattle.std.specs.Prelude.{◌≡◌, ◌≢◌, ◌%◌, ◌<◌, ℕ, Some};
 ghost use Rattle.std.specs.Option.{IfSome, IfNone};
 ghost use Rattle.up_events.specs.IdText.{text_of, hex_digit};
@@ -6,7 +6,7 @@ ghost use Rattle.up_events.specs.IdText.{text_of, hex_digit};
 use std::fmt;
 use std::marker::Model;
 
-/// The id of an upload. Ids are ordered as their numbers are.
+/// The id of an upload. Ids have the order of their numbers.
 #[derive(Clone, Copy, Debug, PartialEq, Eq, PartialOrd, Ord, Hash)]
 pub struct Id(u128);
 
@@ -18,7 +18,7 @@ impl Model for Id {
     ghost inverse = { λ n. record { 0 = n } };
 }
 
-/// The ASCII code of a digit, a letter in lower case.
+/// The ASCII code of a hexadecimal digit, in lower case.
 fn hex_digit(digit: u8) -> u8
     requires { digit < 16 }
     ensures { result ≡ hex_digit digit }
@@ -30,7 +30,7 @@ fn hex_digit(digit: u8) -> u8
     }
 }
 
-/// The digit that has this ASCII code.
+/// The digit with this ASCII code.
 fn digit_value(byte: u8) -> Option<u8>
     ensures some { IfSome result (λ digit. (digit < 16) × (byte ≡ hex_digit digit)) }
     ensures none { IfNone result ((digit : ℕ) → digit < 16 → byte ≢ hex_digit digit) }
@@ -57,8 +57,7 @@ impl Id {
         self.0
     }
 
-    /// The id that has this text: just 32 hexadecimal digits, letters in lower case.
-    /// `None` for any other text.
+    /// The id with this text, which must be exactly 32 hexadecimal digits in lower case. `None` for any other text.
     pub fn parse(text: &[u8]) -> Option<Self>
         ensures some { IfSome result (λ id. text.now ≡ text_of id) }
         ensures none { IfNone result ((id : ℕ) → text.now ≢ text_of id) }
@@ -73,7 +72,7 @@ impl Id {
         Some(Id(number))
     }
 
-    /// The remainder of the id's number.
+    /// The remainder of the id's number, divided by `divisor`.
     pub(crate) fn modulo(&self, divisor: u64) -> u64
         requires { 0 < divisor }
         ensures { result ≡ self.now % divisor }
@@ -81,7 +80,7 @@ impl Id {
         (self.0 % u128::from(divisor)) as u64
     }
 
-    /// The lane, from 0 on, that the events of this upload go to where there are so many lanes.
+    /// The lane for the events of this upload if there are `lanes` lanes. The first lane is 0.
     pub fn lane(&self, lanes: u64) -> u64
         requires { 0 < lanes }
         ensures { result ≡ self.now % lanes }
@@ -89,7 +88,7 @@ impl Id {
         self.modulo(lanes)
     }
 
-    /// The id in 32 hexadecimal digits, the highest first and letters in lower case.
+    /// The id as 32 hexadecimal digits in lower case, the highest digit first.
     pub fn text(&self) -> [u8; 32]
         ensures { result ≡ text_of self.now }
     {
@@ -107,7 +106,7 @@ impl fmt::Display for Id {
     }
 }
 
-/// The 32 digits of a number, the highest first.
+/// The 32 digits of a number, the highest digit first.
 fn hex_text(number: u128) -> [u8; 32]
     ensures { result ≡ text_of number }
 {

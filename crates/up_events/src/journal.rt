@@ -17,35 +17,32 @@ use std::marker::Model;
 /// The places of a change's events in the log of its lane.
 #[derive(Clone, Copy, Debug, PartialEq, Eq)]
 pub struct Added {
-    /// The lane, from 0 on.
+    /// The lane. The first lane is 0.
     pub lane: u64,
-    /// How many events the log had before.
+    /// The length of the log before the change.
     pub first: u64,
-    /// How many events the change gave: none where a length was declared without bytes, and is still to
-    /// be reached.
+    /// The number of events of the change. It is 0 if a length was declared without bytes and is not reached yet.
     pub count: u64,
 }
 
-/// The accepted changes, and for each lane the log of the events that they give.
+/// The accepted changes, and for each lane the log of their events.
 ///
-/// A creation gives post-create, at offset 0 or, where the upload is a final one, at its length. An
-/// append gives post-receive at the offset that it reaches, and so does the declaration of a length
-/// where bytes come with it. Where the offset is the length, post-finish follows. A termination gives
-/// post-terminate. Each upload numbers its own events 1, 2, 3 and so on, and they all go to the lane of
-/// its id, whose log has them in the order of the changes.
+/// A creation results in post-create, at offset 0 or, if the upload is a final one, at its length. An append results in
+/// post-receive at the offset that it reaches. So does the declaration of a length if bytes come with it. If the offset
+/// is then the length, post-finish follows. A termination results in post-terminate. Each upload numbers its own events
+/// 1, 2, 3 and so on. They all go to the lane of its id, whose log has them in the order of the changes.
 ///
-/// A journal that is made by `new` keeps the changes. One that is made by `forgetting` counts them, and
-/// proofs still speak of all of them. In both the first events of a log can be forgotten. Of an upload
-/// that was ended only the id is kept.
+/// A journal from `new` keeps the changes. A journal from `forgetting` only counts them; contracts still describe all
+/// of them. In both, the first events of a log can be forgotten. Of a terminated upload only the id is kept.
 #[derive(Drop)]
 pub struct Journal {
     lanes: u64,
     accepted: Changes,
     logs: Vec<Tail>,
-    /// Those of the uploads that are there.
+    /// The state of each upload that exists.
     tracks: BTreeMap<Id, Track>,
     ended: Ended,
-    /// How many bytes the uploads that are there have in all.
+    /// The total number of bytes of these uploads, modulo 2^64.
     bytes: u64,
 }
 
@@ -65,7 +62,7 @@ impl Model for Journal {
     ghost invariant = { IsKept };
 }
 
-/// As many empty logs as there are lanes.
+/// An empty log for each lane.
 fn empty_logs(alloc: Global, lanes: u64) -> Result<Vec<Tail>, NoMemory>
     ensures { IfOk result (λ logs. AreEmpty lanes logs.items) }
 {
@@ -80,7 +77,8 @@ impl Journal {
     ghost use Rattle.up_events.specs.Records.{empty_records, first_of, forgot, kept_changes, kept_log, lane_log, noted, ArePlaces};
     ghost use Rattle.up_events.specs.History.{is_known, CanFollow, IsLegal};
 
-    /// A journal of no change, for 1 to `MOST_LANES` lanes. `NoMemory` where memory for the logs was refused.
+    /// A journal without changes, for 1 to `MOST_LANES` lanes. It keeps its changes. `NoMemory` if memory for the logs
+    /// runs out.
     pub fn new(alloc: Global, lanes: u64) -> Result<Journal, NoMemory>
         requires some_lane { 0 < lanes }
         requires few_lanes { lanes ≤ MOST_LANES }
@@ -97,7 +95,7 @@ impl Journal {
         })
     }
 
-    /// The same, for a journal that counts the changes and doesn't keep them.
+    /// The same, but the journal counts the changes and does not keep them. `NoMemory` if memory runs out.
     pub fn forgetting(alloc: Global, lanes: u64) -> Result<Journal, NoMemory>
         requires some_lane { 0 < lanes }
         requires few_lanes { lanes ≤ MOST_LANES }
@@ -114,7 +112,7 @@ impl Journal {
         })
     }
 
-    /// The changes that were noted, in order. Empty if the journal doesn't keep them.
+    /// The changes of the journal, in order. Empty if the journal does not keep them.
     pub fn accepted(&self) -> &[Accepted]
         ensures value { result.now ≡ kept_changes self.now }
         ensures legal { IsLegal self.now.accepted }
@@ -123,7 +121,7 @@ impl Journal {
         self.accepted.list().unwrap_or(&[])
     }
 
-    /// How many changes were noted.
+    /// The number of changes of the journal.
     pub fn accepted_count(&self) -> u64
         ensures value { result ≡ length self.now.accepted }
         ensures legal { IsLegal self.now.accepted }
@@ -132,7 +130,7 @@ impl Journal {
         self.accepted.len()
     }
 
-    /// The changes that were noted, in order, kept or counted.
+    /// The changes of the journal, in order, kept or counted.
     pub fn into_accepted(self) -> Changes
         ensures items { result.items ≡ self.accepted }
         ensures keeps { result.keeps ≡ self.keeps }
@@ -141,12 +139,12 @@ impl Journal {
         self.accepted
     }
 
-    /// How many uploads are there.
+    /// The number of uploads that exist.
     pub fn uploads(&self) -> u64 {
         self.tracks.len() as u64
     }
 
-    /// How many bytes these have in all, where a final upload has as many as its parts. Counted modulo 2^64.
+    /// The total number of bytes of these uploads, modulo 2^64. A final upload has as many as its parts.
     pub fn bytes(&self) -> u64 {
         self.bytes
     }
@@ -158,8 +156,8 @@ impl Journal {
         self.tracks.contains_key(&id) || self.ended.contains(id)
     }
 
-    /// A copy of the log of a lane: its events in order, without those that were forgotten. Empty if there
-    /// is no such lane. `NoMemory` where memory was refused.
+    /// A copy of the log of a lane: its events in order, without the forgotten ones. Empty if there is no such lane.
+    /// `NoMemory` if memory runs out.
     pub fn lane_log(&self, alloc: Global, k: u64) -> Result<Vec<Event>, NoMemory>
         ensures { IfOk result (λ events. events.items ≡ kept_log self.now k) }
     {
@@ -169,7 +167,7 @@ impl Journal {
         }
     }
 
-    /// How many events the log of a lane has, with those that were forgotten.
+    /// The number of events of a lane's log, with the forgotten ones.
     pub fn log_len(&self, k: u64) -> u64
         ensures { result ≡ length (lane_log self.now k) }
     {
@@ -179,7 +177,7 @@ impl Journal {
         }
     }
 
-    /// The event at this place of a lane's log. It may not have been forgotten.
+    /// The event at this place of a lane's log. It must not be forgotten.
     pub fn event_at(&self, k: u64, place: u64) -> Event
         requires there { first_of self.now k ≤ place }
         requires within { place < length (lane_log self.now k) }
@@ -200,13 +198,17 @@ impl Journal {
         log.forget(place);
     }
 
-    /// Puts a change behind those before it, and its events behind those of the log of its lane.
-    /// The change must be one that can follow: a creation has a new id and a length of at most
-    /// 2^30 bytes, if it has one, as a final upload's must; an append has at least one byte and stays
-    /// within the length of an upload that is there and isn't final, or within 2^30 bytes while its
-    /// length isn't known; a declaration is of such a length, at most 2^30, and stays within it; and a
-    /// termination is of an upload that is there. `NoMemory` where memory was refused; the journal is
-    /// then as it was.
+    /// Adds a change after the others, and its events at the end of the log of its lane.
+    ///
+    /// The change must be able to follow the others:
+    /// - a creation has a new id, and a length of at most 2^30 bytes if it has one, as a final upload must;
+    /// - an append has at least one byte, is to an upload that exists and is not final, and stays within the length of
+    ///   that upload, or within 2^30 bytes while the length is not known;
+    /// - a declaration is for such an upload without a known length; the length is at most 2^30, and the upload stays
+    ///   within it;
+    /// - a termination is of an upload that exists.
+    ///
+    /// `NoMemory` if memory runs out; the journal is then unchanged.
     pub fn note(&mut self, change: Accepted) -> Result<Added, NoMemory>
         requires { CanFollow self.old.accepted change }
         ensures ok { OnOk result (self.new ≡ noted self.old change) }

@@ -1,5 +1,5 @@
-//! What happened to uploads, and what is told of it: ids, accepted changes, the events that they
-//! give, and the journal that keeps each lane's log of them.
+//! The history of the uploads, and the events that report it: ids, accepted changes, the events that the changes result
+//! in, and the journal, which keeps a log of events for each lane.
 #![tactic(auto)]
 
 mod blocks;

@@ -1,7 +1,7 @@
-//! How much there may be.
+//! Limits of a server and of an upload.
 
-/// The most lanes of a server.
+/// The maximum number of lanes of a server.
 pub const MOST_LANES: u64 = 16;
 
-/// The most bytes of an upload: 2^30.
+/// The maximum number of bytes of an upload: 2^30.
 pub const MOST_BYTES: u64 = 1 << 30;

@@ -3,11 +3,11 @@ ghost use Rattle.std.specs.Prelude.{◌≡◌, ◌+◌, ◌≤◌, OnOk, vec_len
 
 use std::alloc::AllocError;
 
-/// The fewest places by which a list grows.
+/// The smallest number of places by which a list grows.
 const LEAST_STEP: usize = 1_024;
 
-/// Makes room for so many more items. A full list grows by an eighth, and by at least so many places.
-/// So a long list never asks for much more than it holds, as one that doubles does.
+/// Makes room for `count` more items. A full list grows by an eighth, and by at least `least_step` places. So a long
+/// list never asks for much more memory than it uses, as a list that doubles does.
 pub(crate) fn make_room_by<T>(
     list: &mut Vec<T>,
     count: usize,
@@ -26,7 +26,8 @@ pub(crate) fn make_room_by<T>(
     list.reserve_exact(places)
 }
 
-/// Makes room for so many more items. A full list grows by an eighth, and by at least 1,024 places.
+/// Makes room for `count` more items. A full list grows by an eighth, and by at least 1,024 places. `AllocError` if
+/// memory runs out.
 pub fn make_room<T>(list: &mut Vec<T>, count: usize) -> Result<(), AllocError>
     ensures items { list.new.items ≡ list.old.items }
     ensures len { vec_len list.new ≡ vec_len list.old }

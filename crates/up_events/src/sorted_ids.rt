@@ -13,17 +13,17 @@ use std::alloc::Global;
 use std::cmp::Ordering;
 use std::marker::Model;
 
-/// How many ids a block has places for.
+/// The number of ids that a block has room for.
 const BLOCK: u64 = 32;
 
-/// The fewest places by which the list of blocks grows.
+/// The smallest number of places by which the list of blocks grows.
 const LEAST_STEP: usize = 4;
 
-/// Ids in ascending order. They stand in blocks of one size, all full but the last. So an id is found by
-/// halving, and no block grows or is given back: many of these lists leave no holes in memory behind.
+/// Ids in ascending order, in blocks of one size that are all full except the last. So a binary search finds an id, and
+/// no block grows or is freed: many of these lists leave no holes in memory.
 #[derive(Drop)]
 pub struct SortedIds {
-    /// How many ids there are.
+    /// The number of ids.
     len: u64,
     blocks: Vec<Vec<Id>>,
 }
@@ -39,8 +39,7 @@ impl Model for SortedIds {
     ghost invariant = { λ s. AreAscending s.len s.blocks.items };
 }
 
-/// Puts an id at a place of a block. Gives the block's last id, for which there is no place then, if the
-/// block was full.
+/// Inserts an id at a place of a block. If the block was full, its last id no longer fits, and is returned.
 fn put_into(block: &mut Vec<Id>, at: usize, id: Id) -> Option<Id>
     requires at { at < BLOCK }
     requires within { at ≤ length block.old.items }
@@ -59,7 +58,7 @@ fn put_into(block: &mut Vec<Id>, at: usize, id: Id) -> Option<Id>
     last
 }
 
-/// Makes room for one more id in the blocks of so many. `NoMemory` if memory was refused.
+/// Makes room for one more id in the blocks, which have `len` ids. `NoMemory` if memory runs out.
 fn make_place(blocks: &mut Vec<Vec<Id>>, len: u64) -> Result<(), NoMemory>
     requires blocks { AreBlocks (ids_in blocks.old.items) blocks.old.items }
     requires counted { len ≡ length (ids_in blocks.old.items) }
@@ -77,8 +76,8 @@ fn make_place(blocks: &mut Vec<Vec<Id>>, len: u64) -> Result<(), NoMemory>
     Ok(())
 }
 
-/// Puts an id at a place of the list that stands in these blocks. From there on the last id of each full
-/// block moves to the front of the next one.
+/// Inserts an id at a place of the list in these blocks. From there on, the last id of each full block moves to the
+/// start of the next block.
 fn put_at(blocks: &mut Vec<Vec<Id>>, place: u64, id: Id)
     requires blocks { AreBlocks (ids_in blocks.old.items) blocks.old.items }
     requires within { place ≤ length (ids_in blocks.old.items) }
@@ -117,7 +116,7 @@ impl SortedIds {
         self.blocks[(place / BLOCK) as usize][(place % BLOCK) as usize]
     }
 
-    /// The place of an id, or the place at which it would stand.
+    /// The place of an id, or the place where it would be inserted.
     fn find(&self, id: Id) -> Result<u64, u64>
         ensures ascend { IsNonDecreasing self.now }
         ensures found { IsBinarySearchResult (λ u. nat_cmp u id) self.now result }
@@ -142,8 +141,8 @@ impl SortedIds {
         self.find(id).is_ok()
     }
 
-    /// Puts an id in, if it isn't there. `NoMemory` if memory was refused, or if 2^64 - 1 ids are there; they
-    /// are then those that they were.
+    /// Inserts an id if it is not there. `NoMemory` if memory runs out or there are already 2^64 - 1 ids; the list is
+    /// then unchanged.
     pub fn insert(&mut self, id: Id) -> Result<(), NoMemory>
         ensures ok { OnOk result (Adds self.old id self.new) }
         ensures err { OnErr result (self.new ≡ self.old) }

@@ -1,4 +1,4 @@
-//! What is left of a lane's log.
+//! The log of a lane, of which the first events can be forgotten.
 ghost use Rattle.std.specs.Prelude.{◌≡◌, ◌+◌, ◌-◌, ◌*◌, ◌≤◌, ◌<◌, length, drop, slice_get, Some, OnOk, OnErr, IfOk, [], ◌∷◌, ◌++◌, vec_capacity};
 
 use crate::blocks::new_block;
@@ -9,23 +9,22 @@ use crate::trace::Trace;
 use std::alloc::Global;
 use std::marker::Model;
 
-/// How many events a block has places for.
+/// The number of events that a block has room for.
 const BLOCK: u64 = 1_024;
 
-/// The fewest places by which the list of blocks grows.
+/// The smallest number of places by which the list of blocks grows.
 const LEAST_STEP: usize = 16;
 
-/// A log of events, of which the first may have been forgotten. Those that are left stand in blocks, all
-/// of one size. Adding an event begins at most one block, and forgetting events moves none: it gives back
-/// the blocks in which no other stands.
+/// A log of events, of which the first can be forgotten. The others are in blocks of one size. Adding an event starts
+/// at most one block. Forgetting events moves none: it frees the blocks that contain no other events.
 #[derive(Drop)]
 pub struct Tail {
     all: Trace<Event>,
-    /// How many events the log has, with those that were forgotten.
+    /// The number of events of the log, with the forgotten ones.
     len: u64,
-    /// How many events of the log were forgotten.
+    /// The number of forgotten events.
     first: u64,
-    /// How many of these stood in blocks that were given back.
+    /// The number of forgotten events whose blocks were freed.
     base: u64,
     blocks: Vec<Vec<Event>>,
 }
@@ -40,7 +39,7 @@ impl Model for Tail {
     ghost invariant = { λ t. IsLeft t.all.items t.len t.first t.base t.blocks.items };
 }
 
-/// Removes so many blocks at the front.
+/// Removes the first `count` blocks.
 fn drop_front(blocks: &mut Vec<Vec<Event>>, count: usize)
     requires { count ≤ length blocks.old.items }
     ensures { blocks.new.items ≡ drop count blocks.old.items }
@@ -65,14 +64,14 @@ impl Tail {
         }
     }
 
-    /// How many events the log has, with those that were forgotten.
+    /// The number of events of the log, with the forgotten ones.
     pub fn len(&self) -> u64
         ensures { result ≡ log_length self.now }
     {
         self.len
     }
 
-    /// The event at this place of the log, which was not forgotten.
+    /// The event at this place of the log. It must not be forgotten.
     pub fn event_at(&self, place: u64) -> Event
         requires there { self.now.first ≤ place }
         requires within { place < log_length self.now }
@@ -82,7 +81,7 @@ impl Tail {
         self.blocks[(at / BLOCK) as usize][(at % BLOCK) as usize]
     }
 
-    /// A copy of the events that were not forgotten. `NoMemory` where memory was refused.
+    /// A copy of the events that are not forgotten. `NoMemory` if memory runs out.
     pub fn events(&self, alloc: Global) -> Result<Vec<Event>, NoMemory>
         ensures { IfOk result (λ events. events.items ≡ self.now.events) }
     {
@@ -106,8 +105,8 @@ impl Tail {
         self.first = place;
     }
 
-    /// Makes room for two more. `NoMemory` if memory was refused, or if the log would have more than
-    /// 2^64 - 1 events, the most that can be counted.
+    /// Makes room for two more events. `NoMemory` if memory runs out, or if the log would have more than 2^64 - 1
+    /// events, the most that can be counted.
     pub fn reserve(&mut self) -> Result<(), NoMemory>
         ensures first { self.new.first ≡ self.old.first }
         ensures events { self.new.events ≡ self.old.events }
@@ -125,7 +124,7 @@ impl Tail {
         Ok(())
     }
 
-    /// Adds an event at the end, for which `reserve` has made room.
+    /// Adds an event at the end. `reserve` must have made room for it.
     pub fn push_reserved(&mut self, event: Event)
         requires { 0 < self.old.room }
         ensures first { self.new.first ≡ self.old.first }

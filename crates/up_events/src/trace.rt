@@ -1,11 +1,11 @@
-//! A list that only proofs see.
+//! A list that exists only in proofs.
 ghost use Rattle.std.specs.Prelude.{◌≡◌, List, [], ◌∷◌, ◌++◌};
 ghost use Rattle.std.specs.Borrow.{ftrue};
 
 use std::marker::{Model, PhantomData};
 
-/// A list that grows at its end and exists in proofs alone. It has no bytes, and its methods do
-/// nothing when they run. Contracts speak of all that was added, and no memory keeps it.
+/// A list that grows at its end and exists only in proofs. It takes no bytes, and its methods do nothing when they run.
+/// With it, contracts can describe all items that were added, and no memory is needed to keep them.
 #[derive(Drop)]
 pub struct Trace<T> {
     of: PhantomData<T>,
@@ -17,7 +17,7 @@ impl<T> Model for Trace<T> {
     ghost also_owns = { λ _. ftrue };
 }
 
-// It owns nothing.
+// A trace owns nothing.
 unsafe impl<T: Send> Send for Trace<T> {}
 
 impl<T> Trace<T> {

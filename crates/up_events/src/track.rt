@@ -1,4 +1,4 @@
-//! How far an upload has come, and the step that writes a change down.
+//! The state of an upload, and the step that writes a change down.
 ghost use Rattle.std.specs.Prelude.{◌≡◌, ◌<◌, ◌≤◌, OnOk, OnErr, IfOk, ◌+◌, ◌^◌, ◌++◌, ◌∷◌, [], length};
 ghost use Rattle.std.specs.Ordering.{nat_cmp};
 ghost use Rattle.std.specs.BTreeMap.{Updates, IsUnchanged};
@@ -14,26 +14,26 @@ use crate::id::Id;
 use crate::tail::Tail;
 use std::collections::BTreeMap;
 
-/// How far an upload has come.
+/// The state of an upload.
 #[derive(Clone, Copy, Debug)]
 pub struct Track {
-    /// How many events it has.
+    /// The number of its events.
     pub events: u64,
-    /// How many bytes it has.
+    /// The number of bytes that it has.
     pub offset: u64,
-    /// How many bytes it has once it is complete, if that is known.
+    /// The length of the complete upload, in bytes, if it is known.
     pub length: Option<u64>,
 }
 
 impl Track {
-    /// That of an upload that was never created.
+    /// The state of an upload that was never created.
     pub const NONE: Track = Track {
         events: 0,
         offset: 0,
         length: None,
     };
 
-    /// With the offset and the length that the change gives. The events are those before it.
+    /// The state with the offset and the length after the change, but with the number of events before it.
     pub fn reached(self, change: &Accepted) -> Track
         requires { self.offset + bytes_added change.now < 2 ^ 64 }
         ensures { result ≡ reached self change.now }
@@ -62,7 +62,7 @@ impl Track {
         }
     }
 
-    /// How many bytes of the upload are there after the change, which brought it this far.
+    /// The number of bytes of the upload that exist after the change; `self` is the state after the change.
     pub fn held(self, change: &Accepted) -> u64 {
         if let Accepted::Terminated { .. } = change {
             return 0;
@@ -71,7 +71,7 @@ impl Track {
     }
 }
 
-/// The hook of the event that tells of the change itself, if one does.
+/// The hook of the event that reports the change itself, if there is one.
 fn own_hook(change: &Accepted) -> Option<Hook>
     ensures { result ≡ hook_of change.now }
 {
@@ -83,7 +83,7 @@ fn own_hook(change: &Accepted) -> Option<Hook>
     }
 }
 
-/// Whether the change, which brought the upload this far, makes it complete.
+/// Whether the change makes its upload complete; `track` is the state after the change.
 fn is_completing(change: &Accepted, track: Track) -> bool
     ensures { result ≡ completes change.now track.offset track.length }
 {
@@ -95,8 +95,8 @@ fn is_completing(change: &Accepted, track: Track) -> bool
     }
 }
 
-/// Puts into the table how far the upload of the change has come. Where the change ends it, its id goes
-/// to the ended ones instead. `NoMemory` where memory was refused; table and ids are then as they were.
+/// Stores the state of the change's upload in the table. If the change terminates the upload, the id goes to `ended`
+/// instead. `NoMemory` if memory runs out; `tracks` and `ended` are then unchanged.
 fn keep(
     tracks: &mut BTreeMap<Id, Track>,
     ended: &mut Ended,
@@ -119,10 +119,10 @@ fn keep(
     Ok(())
 }
 
-/// Writes a change into the list, its events into the log of its lane, and into the table how far
-/// its upload has come, or among the ended ids that it was ended. `track` has the offset and the
-/// length with the change, and the events before it. Gives the number of its events. `NoMemory` where
-/// memory was refused; the list, the log, the table and the ids then say what they said.
+/// Writes a change down: the change into `accepted`, its events into the log of its lane, and the state of its upload
+/// into `tracks`, or its id into `ended` if the upload was terminated. `track` has the offset and the length after the
+/// change, and the number of events before it. Returns the number of events of the change. `NoMemory` if memory runs
+/// out; the list, the log, the table and the ids are then unchanged.
 pub fn write(
     accepted: &mut Changes,
     log: &mut Tail,
@@ -163,7 +163,7 @@ pub fn write(
     accepted.reserve()?;
     log.reserve()?;
     keep(tracks, ended, &change, after)?;
-    // From here on nothing grows.
+    // Nothing grows from here on.
     accepted.push_reserved(change);
     if let Some(hook) = own {
         log.push_reserved(Event {

@@ -1,4 +1,4 @@
--- What contracts say of a post-hook that goes on where earlier runs ended.
+-- A post-hook that continues where earlier runs ended, as contracts describe it.
 use Rattle.std.specs.Prelude.{◌≡◌, ◌+◌, ℕ, max, List, length, drop}
 use Rattle.sqlite_disk.specs.declared.Disk.{Ghosts}
 use Rattle.up_events.specs.declared.event.Event.{Event}
@@ -10,19 +10,19 @@ use Rattle.up_handed.specs.OnDisk.{IsOnDisk}
 use Rattle.up_hooks.specs.declared.post_hook.PostHook as post_hook
 
 module _ {H D : Type 0} {g : Ghosts D} where
-  -- how many events that come no more earlier runs handed over
+  -- the number of events that earlier runs handed over and that a shorter log leaves out
   abbrev pub left_out_of : Continued H D g → ℕ
   left_out_of continued = continued.left_out
 
-  -- how many events of those that come earlier runs handed over
+  -- the number of events that earlier runs handed over, of those that are still in the log
   abbrev pub before_of : Continued H D g → ℕ
   before_of continued = continued.before
 
-  -- the events of those that come that all runs together handed over, in order
+  -- the events, of those still in the log, that all runs together handed over, in order
   abbrev pub events_of : Continued H D g → List Event
   events_of continued = continued.told.items
 
-  -- the post-hook within
+  -- the inner post-hook
   abbrev pub hook_of : Continued H D g → H
   hook_of continued = continued.hook
 
@@ -30,18 +30,18 @@ module _ {H D : Type 0} {g : Ghosts D} where
   abbrev pub handed_of : Continued H D g → Handed D g
   handed_of continued = continued.handed
 
-  -- the post-hook within can be called, and was handed all events but those that earlier runs handed over
+  -- the inner post-hook can be called, and was handed all events except those that earlier runs handed over
   pub record GoesOn (h : post_hook.Ghosts H) (continued : Continued H D g) : Type 0 where
     pub sound : h.is_sound continued.hook
     pub further : h.handed continued.hook ≡ drop continued.before continued.told.items
 
 module _ {H D : Type 0} (g : Ghosts D) where
-  -- the number of all events that were handed over, or of those of earlier runs if these are more, is on the disk, with
-  -- those that come no more
+  -- the number on the disk counts all events that were handed over, or those of earlier runs if these are more, with
+  -- those that a shorter log leaves out
   abbrev pub IsAllCounted : Continued H D g → Type 0
   IsAllCounted continued =
       IsOnDisk g continued.handed.device (continued.left_out + max continued.before (length continued.told.items))
 
-  -- the count had a fault, as it has where one is added
+  -- the count failed, as adding one can
   abbrev pub IsStopped : Continued H D g → Continued H D g → Type 0
   IsStopped old new = (fault : HandedFault) × StopsAt g old.handed.count old.handed.device new.handed.device fault

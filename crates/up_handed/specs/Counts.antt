@@ -1,4 +1,4 @@
--- What contracts say of a count.
+-- A count, as contracts describe it.
 use Rattle.std.specs.Prelude.{ℕ, Result, Ok, Err}
 use Rattle.sqlite_disk.specs.declared.Disk.{Ghosts}
 use Rattle.up_handed.specs.declared.handed.Handed.{Handed}

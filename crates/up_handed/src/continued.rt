@@ -1,4 +1,4 @@
-//! A post-hook that goes on where earlier runs ended.
+//! A post-hook that continues where earlier runs ended.
 ghost use Rattle.std.specs.Prelude.{◌≡◌, ◌⊎◌, ◌+◌, ◌<◌, ◌≤◌, ◌^◌, ◌&&◌, [], List, length, min, max, not, true, false, OnOk, OnErr, IsTrue};
 ghost use Rattle.up_events.specs.declared.event.Event.{Event as Told};
 ghost use Rattle.up_handed.specs.Counts.{count_of, device_of};
@@ -11,24 +11,24 @@ use sqlite_disk::Disk;
 use up_events::{Event, NoMemory, Trace};
 use up_hooks::{Outcome, PostHook};
 
-/// A post-hook of a run before which others have handed over the first events of the lane. The lane hands it all of
-/// its events, from the first on. It passes over those that earlier runs handed over, hands each further one to the
-/// post-hook within, and then adds one to the count. So the count is that of all events or of all but the last, and
-/// after a crash at most that one comes again. While an event isn't counted yet there is no room for another.
+/// A post-hook for a run after earlier runs have handed over the first events of the lane. The lane hands it all of its
+/// events, from the first one on. It skips those that earlier runs handed over, hands each further event to the inner
+/// post-hook, and then adds one to the count. So the count includes all events or all but the last, and after a crash
+/// at most the last one is handed over again. While an event is not counted yet, there is no room for another.
 ///
-/// Events that earlier runs handed over may come no more, since a shorter log leaves them out. The count has them too.
+/// A shorter log may leave out events that earlier runs handed over. The count includes these events too.
 #[derive(Drop)]
 pub struct Continued<H, D: Disk> {
     hook: H,
     handed: Handed<D>,
     told: Trace<Event>,
-    /// How many events that come no more earlier runs handed over.
+    /// The number of events that earlier runs handed over and that a shorter log leaves out.
     left_out: u64,
-    /// How many events of those that come earlier runs handed over.
+    /// The number of events that earlier runs handed over, of those that are still in the log.
     before: u64,
-    /// How many of them were passed over.
+    /// The number of these events that were skipped.
     passed: u64,
-    /// Whether the last event was handed over, and isn't counted yet.
+    /// Whether the last event was handed over and is not counted yet.
     is_owed: bool,
     ghost passes: { passed ≡ min (length told.items) before },
     ghost all: { is_owed ≡ false → count_of handed ≡ left_out + max before (length told.items) },
@@ -60,7 +60,8 @@ impl<H: PostHook, D: Disk + Send> PostHook for Continued<H, D> {
             → ⟦<Continued<H, D> as PostHook>⟧.may_answer self.new event outcome
             → ⟦<Continued<H, D> as PostHook>⟧.may_answer self.old event outcome }
         ensures room { OnOk result (⟦<Continued<H, D> as PostHook>⟧.has_room self.new ≡ true) }
-        // Behind `Ok` each event that was handed over is counted. Behind an error it is so too, or the disk has failed.
+        // After `Ok`, each event that was handed over is counted. After an error this holds too, or the disk has
+        // failed.
         ensures counted { OnOk result (IsAllCounted D.Disk self.new) }
         ensures cause { OnErr result
             (IsAllCounted D.Disk self.new ⊎ IsStopped D.Disk self.old self.new) }
@@ -91,8 +92,8 @@ impl<H: PostHook, D: Disk + Send> PostHook for Continued<H, D> {
 impl<H: PostHook, D: Disk + Send> Continued<H, D> {
     ghost use Rattle.up_handed.specs.Continues.{before_of, hook_of, handed_of, left_out_of};
 
-    /// A post-hook that was handed nothing, of a run that goes on behind this number of events. The number is on the
-    /// disk, as that of a count which was just opened.
+    /// A post-hook that was handed nothing, for a run that continues after as many events as `handed` counts. This
+    /// number is on the disk, as it is after the count was opened.
     pub fn new(hook: H, handed: Handed<D>) -> Self
         requires sound { H.is_sound hook }
         requires handed { H.handed hook ≡ [] }
@@ -107,7 +108,7 @@ impl<H: PostHook, D: Disk + Send> Continued<H, D> {
         Continued::without(hook, handed, 0)
     }
 
-    /// The same, of a run to which so many of these events come no more, since a shorter log leaves them out.
+    /// The same, for a run in which a shorter log leaves out `left_out` of these events.
     pub fn without(hook: H, handed: Handed<D>, left_out: u64) -> Self
         requires sound { H.is_sound hook }
         requires handed { H.handed hook ≡ [] }
@@ -136,28 +137,29 @@ impl<H: PostHook, D: Disk + Send> Continued<H, D> {
 impl<H, D: Disk> Continued<H, D> {
     ghost use Rattle.up_handed.specs.Continues.{before_of, events_of, hook_of, handed_of, left_out_of};
 
-    /// How many events of those that come earlier runs handed over.
+    /// The number of events that earlier runs handed over, of those that are still in the log.
     pub fn before(&self) -> u64
         ensures { result ≡ before_of self.now }
     {
         self.before
     }
 
-    /// How many events all runs together have handed over, as the disk counts them, with those that come no more.
+    /// The number of events that all runs together have handed over, as the disk counts them, with those that a shorter
+    /// log leaves out.
     pub fn count(&self) -> u64
         ensures { result ≡ count_of (handed_of self.now) }
     {
         self.handed.count()
     }
 
-    /// The post-hook within, which was handed what earlier runs didn't hand over.
+    /// The inner post-hook, which was handed the events that earlier runs did not hand over.
     pub fn hook(&self) -> &H
         ensures { result.now ≡ hook_of self.now }
     {
         &self.hook
     }
 
-    /// The post-hook within, and the count, which is of all events that were handed over, or of all but the last.
+    /// The inner post-hook, and the count, which includes all events that were handed over, or all but the last.
     pub fn into_parts(self) -> (H, Handed<D>)
         ensures hook { result.0 ≡ hook_of self }
         ensures handed { result.1 ≡ handed_of self }

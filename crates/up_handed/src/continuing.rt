@@ -1,4 +1,4 @@
-//! The post-hooks of the lanes of a server that goes on where earlier runs ended.
+//! The post-hooks of the lanes of a server that continues where earlier runs ended.
 ghost use Rattle.std.specs.Prelude.{◌≡◌, ◌≤◌, [], All, IfOk, vec_len};
 ghost use Rattle.up_handed.specs.Counts.{count_of, device_of};
 ghost use Rattle.up_handed.specs.OnDisk.{IsOnDisk};
@@ -11,18 +11,19 @@ use std::alloc::{AllocError, Global};
 use std::marker::Send;
 use up_hooks::PostHook;
 
-/// A count whose number is on the disk, as that of one which was just opened.
+/// A count whose number is on the disk, as it is after the count was opened.
 #[derive(Drop)]
 pub struct Opened<D: Disk> {
     handed: Handed<D>,
-    /// How many of the events come no more.
+    /// The number of counted events that a shorter log leaves out.
     left_out: u64,
     ghost on_disk: { IsOnDisk D.Disk (device_of handed) (count_of handed) },
     ghost fits: { left_out ≤ count_of handed },
 }
 
 impl<D: Disk> Opened<D> {
-    /// A count whose number is on the disk. So many of its events come no more; None if it has fewer.
+    /// A count whose number is on the disk. A shorter log leaves out `left_out` of its events; `None` if it counts
+    /// fewer.
     pub fn new(handed: Handed<D>, left_out: u64) -> Option<Opened<D>>
     where
         D: Drop,
@@ -35,8 +36,8 @@ impl<D: Disk> Opened<D> {
     }
 }
 
-/// Has the post-hook of each lane go on behind the events that the count at its place tells, and tell which uploads
-/// have ended.
+/// Makes the post-hook of each lane continue after the events that the count at its place includes, and report which
+/// uploads have ended. `AllocError` if memory runs out.
 pub fn continue_each<H: PostHook + Drop, D: Disk + Send + Drop, E: Endings + Copy>(
     alloc: Global,
     hooks: Vec<H>,

@@ -1,4 +1,4 @@
-//! The length of a file, and one more on the disk.
+//! The length of a file, and adding one to it on the disk.
 ghost use Rattle.std.specs.Prelude.{◌≡◌, ◌+◌, List, ℕ, length, IfOk, IfErr, OnOk, IsTrue};
 ghost use Rattle.sqlite_disk.specs.Disk.{Only};
 ghost use Rattle.up_handed.specs.Faults.{IsOfDisk};
@@ -7,7 +7,7 @@ ghost use Rattle.up_handed.specs.OnDisk.{IsOnDisk, IsOnDiskOrNext};
 use crate::fault::HandedFault;
 use sqlite_disk::Disk;
 
-/// How many bytes the file has, which are all on the disk at `Ok`.
+/// The number of bytes of the file. After `Ok` they are all on the disk.
 pub(crate) fn settled_len<D: Disk>(disk: &mut D) -> Result<usize, HandedFault>
     ensures len { IfOk result (λ n. IsTrue (D.is_clean disk.new)
         → n ≡ length (D.seen disk.old)) }
@@ -25,7 +25,7 @@ pub(crate) fn settled_len<D: Disk>(disk: &mut D) -> Result<usize, HandedFault>
     Ok(len)
 }
 
-/// Writes a byte behind so many, or once more over the one that stands there. It is on the disk at `Ok`.
+/// Writes a byte after the first `count` bytes, or overwrites the one there. After `Ok` it is on the disk.
 pub(crate) fn put_byte<D: Disk>(disk: &mut D, count: usize) -> Result<(), HandedFault>
     requires nearly { IsOnDiskOrNext D.Disk disk.old count }
     ensures added { OnOk result (IsOnDisk D.Disk disk.new (count + 1)) }

@@ -1,4 +1,4 @@
-//! Why a count can't be opened, or doesn't grow.
+//! Why a count cannot be opened, or does not grow.
 ghost use Rattle.std.specs.Prelude.{◌≡◌};
 ghost use Rattle.up_handed.specs.declared.fault.HandedFault.TheVariants.{Disk};
 
@@ -8,22 +8,22 @@ use thiserror::Error;
 /// Why a call of a count failed.
 #[derive(Clone, Copy, Debug, Error)]
 pub enum HandedFault {
-    /// Out of memory. The call can be made again.
+    /// Memory ran out. The call can be retried.
     #[error("out of memory")]
     Memory,
     /// Another server has the file open.
     #[error("another server has the count open")]
     Busy,
-    /// The file is part of a database, and no count.
+    /// The file is part of a database, and is not a count.
     #[error("the file is no count of up")]
     Foreign,
-    /// The disk failed, or is full. The call can be made again.
+    /// The disk failed, or is full. The call can be retried.
     #[error("the disk failed: {0}")]
     Disk(io::Error),
-    /// A sync has failed, so that the file has to be opened again.
+    /// A sync has failed, so that the file must be opened again.
     #[error("an earlier sync of the count failed")]
     Broken,
-    /// The number is the largest that there is, 2^64 - 1.
+    /// The number is the maximum, 2^64 - 1.
     #[error("the count is full")]
     Full,
 }

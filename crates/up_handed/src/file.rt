@@ -8,9 +8,10 @@ use crate::handed::Handed;
 use sqlite_disk::{Disk, Files, Start};
 use sqlite_std_file::{FileFrom, OpenError, open};
 
-/// Opens the count of a lane in the file at this path, which is made if there is none, and then tells 0. Each lane has
-/// a file of its own, as `handed.0` and `handed.1`. Until the count is dropped nobody else opens the file (`Busy`). An
-/// empty file with `-wal` at the end of its name stays beside it.
+/// Opens the count of a lane in the file at this path, and creates the file with the count 0 if there is none. Each
+/// lane has a file of its own, such as `handed.0` and `handed.1`. Until the count is dropped, nobody else can open the
+/// file (`Busy`). An empty file with the same name and `-wal` at its end stays next to it. `Disk` if the disk fails,
+/// `Foreign` if the file is part of a database, `Memory` if memory runs out, and the errors of `Handed::open`.
 pub fn open_handed<S: Start>(
     rt: &HostRuntime,
     path: &str,

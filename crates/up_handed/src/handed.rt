@@ -1,4 +1,4 @@
-//! How many events of a lane were handed over.
+//! The number of events of a lane that were handed over.
 ghost use Rattle.std.specs.Prelude.{◌≡◌, ◌+◌, ◌<◌, List, ℕ, length, IfOk, IfErr, OnOk, OnErr, IsTrue};
 ghost use Rattle.up_handed.specs.Faults.{IsOfDisk, StopsAt};
 ghost use Rattle.up_handed.specs.OnDisk.{IsOnDisk, IsOnDiskOrNext};
@@ -8,7 +8,7 @@ use crate::fault::HandedFault;
 use crate::handed_to::HandedTo;
 use sqlite_disk::Disk;
 
-/// How many events of a lane were handed over by all runs, as the length of a file: a byte for each. Nothing else
+/// The number of events of a lane that all runs handed over, as the length of a file: one byte for each. Nothing else
 /// writes the file.
 #[derive(Drop)]
 pub struct Handed<D: Disk> {
@@ -17,7 +17,7 @@ pub struct Handed<D: Disk> {
     pub ghost nearly: { IsOnDiskOrNext D.Disk device count },
 }
 
-/// Why a count wasn't opened, and the file.
+/// Why a count was not opened, and the file.
 #[derive(Drop)]
 pub struct Refused<D: Disk> {
     pub fault: HandedFault,
@@ -27,7 +27,8 @@ pub struct Refused<D: Disk> {
 impl<D: Disk> Handed<D> {
     ghost use Rattle.up_handed.specs.Counts.{count_of, device_of, file_of};
 
-    /// The number that a file tells, which an empty one tells as 0. It is on the disk.
+    /// The number that a file contains: its length, so 0 for an empty file. It is on the disk. `Disk` if the disk
+    /// fails, and `Broken` if a sync has failed before.
     pub fn open(device: D) -> Result<Handed<D>, Refused<D>>
         ensures count { IfOk result (λ handed. IsTrue (D.is_clean (device_of handed))
             → count_of handed ≡ length (D.seen device)) }
@@ -46,18 +47,18 @@ impl<D: Disk> Handed<D> {
         }
     }
 
-    /// How many events were handed over.
+    /// The number of events that were handed over.
     pub fn count(&self) -> u64
         ensures { result ≡ count_of self.now }
     {
         self.count as u64
     }
 
-    /// Adds one for an event that this post-hook has been handed, of a run that went on behind so many events. Returns
-    /// once it is on the disk. A crash in the call, or after an error, leaves the old number or the new one. After an
-    /// error the number is the old one, and the call can be made again: `Disk` where the disk failed or is full,
-    /// `Broken` where a sync has failed before, so that the file has to be opened again, and `Full` where the number is
-    /// 2^64 - 1.
+    /// Adds one for an event that this post-hook has been handed, in a run that continued after `before` events.
+    /// Returns once the new number is on the disk. A crash during the call, or after an error, leaves the old number or
+    /// the new one. After an error the number is the old one, and the call may be made again: `Disk` if the disk failed
+    /// or is full; `Broken` if a sync has failed before, until the file is opened again; `Full` if the number is 2^64 -
+    /// 1.
     pub fn add<T: HandedTo>(&mut self, hook: &T, before: u64) -> Result<(), HandedFault>
         requires handed_over { count_of self.old < before + length (T.events hook.now) }
         ensures count { OnOk result (count_of self.new ≡ count_of self.old + 1) }
@@ -76,7 +77,7 @@ impl<D: Disk> Handed<D> {
         Ok(())
     }
 
-    /// The file, which counts no more.
+    /// The file. The count is then used up.
     pub fn into_device(self) -> D
         ensures { result ≡ device_of self }
     {

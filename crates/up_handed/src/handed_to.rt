@@ -1,8 +1,8 @@
 //! Which events were handed over.
 use up_hooks::PostHook;
 
-/// What events were handed to, as proofs see it: any post-hook. It asks nothing of threads, so that a post-hook can
-/// pass on the one within.
+/// A receiver of events, as proofs see it: any post-hook. It requires nothing of threads, so that a post-hook can pass
+/// on the inner one.
 pub trait HandedTo {
     ghost use Rattle.std.specs.Prelude.{List};
     ghost use Rattle.up_events.specs.declared.event.Event.{Event};

@@ -1,5 +1,5 @@
-//! How many events of a lane were handed over by all runs of a server, on a disk, and a post-hook that goes on where
-//! earlier runs ended.
+//! The number of events of a lane that all runs of a server handed over, on a disk, and a post-hook that continues
+//! where earlier runs ended.
 #![tactic(auto)]
 
 mod continued;

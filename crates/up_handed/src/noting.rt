@@ -1,4 +1,4 @@
-//! A post-hook that tells which uploads have ended.
+//! A post-hook that reports which uploads have ended.
 ghost use Rattle.std.specs.Prelude.{◌≡◌};
 
 use std::marker::Send;
@@ -9,21 +9,21 @@ use up_hooks::{Outcome, PostHook};
 #[derive(Clone, Copy, Debug, PartialEq, Eq)]
 pub struct EndedUpload {
     pub id: Id,
-    /// How many events it had.
+    /// The number of its events.
     pub events: u64,
-    /// How many bytes it had.
+    /// The number of its bytes.
     pub bytes: u64,
 }
 
-/// Who is told of uploads that have ended.
+/// The receiver of reports about uploads that have ended.
 pub trait Endings: Send {
     /// The upload has ended, and all of its events were handed over.
     fn note(&self, upload: EndedUpload);
 }
 
-/// A post-hook that hands each event to the one within, and tells which uploads have ended: of each once the one
-/// within is ready for another event behind the last of that upload. If that counts what it was handed, as `Continued`
-/// does, it has counted the last one by then.
+/// A post-hook that hands each event to the inner one, and reports which uploads have ended. It reports an upload once
+/// the inner post-hook is ready for another event after the last one of the upload. If the inner post-hook counts the
+/// events that it was handed, as `Continued` does, it has then counted that last one.
 #[derive(Drop)]
 pub struct Noting<H, E> {
     hook: H,
@@ -65,7 +65,7 @@ impl<H: PostHook, E: Endings> PostHook for Noting<H, E> {
 impl<H: PostHook, E: Endings> Noting<H, E> {
     ghost use Rattle.up_handed.specs.Notes.{noting_hook};
 
-    /// A post-hook that hands on to this one, and tells these.
+    /// A post-hook that hands the events to `hook`, and reports to `endings`.
     pub fn new(hook: H, endings: E) -> Self
         ensures hook { noting_hook result ≡ hook }
     {
@@ -80,7 +80,7 @@ impl<H: PostHook, E: Endings> Noting<H, E> {
 impl<H, E> Noting<H, E> {
     ghost use Rattle.up_handed.specs.Notes.{noting_hook};
 
-    /// The post-hook within.
+    /// The inner post-hook.
     pub fn hook(&self) -> &H
         ensures { result.now ≡ noting_hook self.now }
     {

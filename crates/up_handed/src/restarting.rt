@@ -1,4 +1,4 @@
-//! What a run finds after one that crashed.
+//! The count that a run finds after a run that crashed.
 ghost use Rattle.std.specs.Prelude.{◌+◌, length, IfOk, IsTrue};
 ghost use Rattle.up_handed.specs.Continues.{before_of, events_of, left_out_of};
 ghost use Rattle.up_handed.specs.Counts.{count_of, device_of};
@@ -8,8 +8,9 @@ use crate::continued::Continued;
 use crate::handed::{Handed, Refused};
 use sqlite_disk::Crash;
 
-/// Has the machine crash, and opens the count again, as the next run does: it is that of all events that were handed
-/// over, or of all but the last, and no less than earlier runs'. For tests, and for what is to hold of two runs.
+/// Makes the machine crash, and opens the count again, as the next run does. It then includes all events that were
+/// handed over, or all but the last, and at least those of earlier runs. For tests, and for statements about two runs.
+/// The errors are those of `Handed::open`.
 pub fn restart<H: Drop, D: Crash>(earlier: Continued<H, D>) -> Result<Handed<D>, Refused<D>>
     ensures count { IfOk result (λ handed. IsTrue (D.Disk.is_clean (device_of handed))
         → IsAllButOne (left_out_of earlier + before_of earlier)

@@ -1,4 +1,4 @@
--- The text of `Upload-Concat`, and what it says of an upload that is to be made (tus 1.0.0, Upload-Concat).
+-- The text of `Upload-Concat`, and what it says about an upload to be created (tus 1.0.0, Upload-Concat).
 use Rattle.std.specs.Prelude.{◌≡◌, ℕ, ◌<◌, ◌^◌, Bool, List, [], ◌∷◌, ◌++◌, codes, length, nat_eq, Option, Some, None}
 use Rattle.std.specs.List.{starts_with}
 use Rattle.up_events.specs.declared.event.Kind.{Kind}
@@ -7,7 +7,7 @@ use Rattle.up_headers.specs.declared.place.Place.TheVariants.{Upload}
 use Rattle.up_headers.specs.Words.{AreSpaces, BeginsWith}
 use Rattle.up_headers.specs.Places.{IsAt}
 
--- the text is these URLs, in order, with spaces between them and perhaps at both ends
+-- the text is these URLs, in order, with spaces between them and optionally around them
 abbrev pub ListsUrls : List ℕ → List (List ℕ) → Type 0
 ListsUrls text [] = AreSpaces text
 ListsUrls text (url ∷ urls) = (rest : List ℕ) × BeginsWith text url rest × ListsUrls rest urls
@@ -23,7 +23,7 @@ NameUploads (url ∷ urls) [] = ⊥
 abbrev pub ReadsParts : List ℕ → List ℕ → Type 0
 ReadsParts list ids = (urls : List (List ℕ)) × ListsUrls list urls × NameUploads urls ids × (0 < length ids)
 
--- the parts that the list names; none where it reads as no parts
+-- the parts that the list contains; none if it is not a list of parts
 abbrev pub IsPartList : List ℕ → Option (List ℕ) → Type 0
 IsPartList list (Some ids) = ReadsParts list ids
 IsPartList list None = (ids : List ℕ) → ¬ (ReadsParts list ids)
@@ -32,13 +32,13 @@ IsPartList list None = (ids : List ℕ) → ¬ (ReadsParts list ids)
 abbrev pub Concat : Type 0
 Concat = Kind × List ℕ
 
--- the text says so; one that is empty says as much as none
+-- the text means this kind and these parts; an empty text means the same as no text
 abbrev pub ReadsConcat : List ℕ → Kind → List ℕ → Type 0
 ReadsConcat text Plain parts = (text ≡ []) × (parts ≡ [])
 ReadsConcat text Partial parts = (text ≡ codes "partial") × (parts ≡ [])
 ReadsConcat text Final parts = (list : List ℕ) × (text ≡ codes "final;" ++ list) × ReadsParts list parts
 
--- what the text says; nothing where it reads as none of these
+-- what the text means; none if it means nothing
 abbrev pub IsConcat : List ℕ → Option Concat → Type 0
 IsConcat text (Some said) = ReadsConcat text said.0 said.1
 IsConcat text None = (kind : Kind) (parts : List ℕ) → ¬ (ReadsConcat text kind parts)
@@ -48,7 +48,7 @@ abbrev pub AreIds : List ℕ → Type 0
 AreIds [] = Unit {0}
 AreIds (id ∷ ids) = (id < 2 ^ 128) × AreIds ids
 
--- a text says at most one thing
+-- a text means at most one thing
 abbrev pub ConcatReadsOnce : Type 0
 ConcatReadsOnce =
     (text : List ℕ) (kind : Kind) (parts : List ℕ) (other : Kind) (others : List ℕ) → AreIds parts → AreIds others

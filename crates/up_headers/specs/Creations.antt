@@ -1,4 +1,4 @@
--- An upload that is to be made (tus 1.0.0, Creation).
+-- An upload to be created (tus 1.0.0, Creation).
 use Rattle.std.specs.Prelude.{◌≡◌, ◌≤◌, ℕ, ◌&&◌, Bool, false, not, List, [], ◌∷◌, bytes_eq, codes, nat_lt, Option, Some, None, is_none, Result, Ok, Err, if◌then◌else◌}
 use Rattle.std.specs.Result.{is_err}
 use Rattle.std.specs.Str.Parse.{digits_value}
@@ -18,27 +18,27 @@ use Rattle.up_headers.specs.Concat.{Concat, IsConcat, is_final}
 abbrev pub length_text : List Field → List ℕ
 length_text fields = value_in (codes "upload-length") fields
 
--- whether the length is to come later
+-- whether the length will be declared later
 abbrev pub is_deferred : List Field → Bool
 is_deferred fields = stands (codes "upload-defer-length") fields
 
--- whether the length is a number or is to come later, and not both
+-- whether the length is a number or will be declared later, and not both
 abbrev pub has_length : List Field → Bool
 has_length fields =
     if is_deferred fields
     then bytes_eq (value_in (codes "upload-defer-length") fields) (codes "1") && not (stands (codes "upload-length") fields)
     else is_digits (length_text fields)
 
--- the length, a number of any size; none where it is to come later
+-- the length, a number of any size; none if it will be declared later
 abbrev pub length_in : List Field → Option ℕ
 length_in fields = if is_deferred fields then None else Some (digits_value 10 (length_text fields))
 
--- whether a length is known, and above this
+-- whether the length is known and exceeds this
 abbrev pub is_above : ℕ → Option ℕ → Bool
 is_above most None = false
 is_above most (Some length) = nat_lt most length
 
--- a length that is known is no more than this
+-- a length that is known is at most this
 abbrev pub IsWithin : ℕ → Option ℕ → Type 0
 IsWithin most None = Unit {0}
 IsWithin most (Some length) = length ≤ most
@@ -51,31 +51,31 @@ metadata_in fields = value_in (codes "upload-metadata") fields
 abbrev pub concat_in : List Field → List ℕ
 concat_in fields = value_in (codes "upload-concat") fields
 
--- the checks of the length, in their order; a final upload has that of its parts, and none is asked for
+-- the checks of the length, in order; a final upload has the length of its parts, and needs none
 abbrev pub length_rows : List Field → ℕ → List (Row HeaderFault)
 length_rows fields max_size =
     if is_final (concat_in fields) then []
     else (not (has_length fields), BadLength) ∷ (is_above max_size (length_in fields), TooLong) ∷ []
 
--- the checks behind them, in their order, by what the text of the concatenation says
+-- the checks after them, in order; `said` is what the text of the concatenation means
 abbrev pub said_rows : List Field → Option Concat → List (Row HeaderFault)
 said_rows fields said = (is_none said, BadConcat) ∷ (is_err (reading (metadata_in fields)), BadMetadata) ∷ []
 
--- the text, where it isn't empty
+-- the text, if it is not empty
 abbrev pub some_text : List ℕ → Option (List ℕ)
 some_text [] = None
 some_text (b ∷ bs) = Some (b ∷ bs)
 
--- the pairs that were read; none where it was a fault
+-- the pairs that were read; none if there was a fault
 abbrev pub pairs_or_none : Result (List Pair) MetadataFault → List Pair
 pairs_or_none (Ok pairs) = pairs
 pairs_or_none (Err fault) = []
 
--- the length that was sent, if one was; 0 for a final upload
+-- the length that was sent, if there was one; 0 for a final upload
 abbrev pub new_length : List Field → Option ℕ
 new_length fields = if is_final (concat_in fields) then Some 0 else length_in fields
 
--- the upload, where no check fails
+-- the upload, if no check fails
 abbrev pub new_upload_of : List Field → Concat → NewUpload
 new_upload_of fields said = record {
   kind = said.0;
@@ -86,18 +86,18 @@ new_upload_of fields said = record {
   concat = some_text (concat_in fields);
 }
 
--- the answer has the upload, by what the text of the concatenation says
+-- the result has the upload; `said` is what the text of the concatenation means
 abbrev pub Makes : {X : Type 0} → (NewUpload → X) → List Field → Option Concat → Result X HeaderFault → Type 0
 Makes made fields None result = ⊥
 Makes made fields (Some said) result = result ≡ Ok (made (new_upload_of fields said))
 
--- what is answered where no check of the length has failed
+-- the result if no check of the length has failed
 abbrev pub CreatesSaid : {X : Type 0} → (NewUpload → X) → List Field → Result X HeaderFault → Type 0
 CreatesSaid made fields result =
     (said : Option Concat) × IsConcat (concat_in fields) said
     × Then (first_that_holds (said_rows fields said)) result (Makes made fields said result)
 
--- what the checks of a creation answer, in their order
+-- the result of the checks of a creation, in order
 abbrev pub Creates : {X : Type 0} → (NewUpload → X) → List Field → ℕ → Result X HeaderFault → Type 0
 Creates made fields max_size result =
     Then (first_that_holds (length_rows fields max_size)) result (CreatesSaid made fields result)

@@ -1,4 +1,4 @@
--- What is answered where the checks of a message's head refuse it.
+-- The responses to a message that the checks of its head refuse.
 use Rattle.std.specs.Prelude.{ℕ, List, codes}
 use Rattle.up_headers.specs.declared.header_fault.HeaderFault.{HeaderFault}
 use Rattle.up_headers.specs.declared.header_fault.HeaderFault.TheVariants.{Version, NoSuchPath, Method, Repeated, BadLength, TooLong, BadConcat, BadMetadata, NoMemory}
@@ -15,7 +15,7 @@ status_of BadConcat = 400
 status_of BadMetadata = 400
 status_of NoMemory = 503
 
--- the line that names each fault
+-- the line with the number and the name of each fault
 abbrev pub line_of : HeaderFault → List ℕ
 line_of Version = codes "10 Version\n"
 line_of NoSuchPath = codes "11 NoSuchPath\n"

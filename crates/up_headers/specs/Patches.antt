@@ -13,7 +13,7 @@ use Rattle.up_headers.specs.Fields.{stands, value_in}
 abbrev pub before_semicolon : List ℕ → List ℕ
 before_semicolon text = before_first (λ b. b == semicolon) text
 
--- whether a content type, whatever its parameters, is the one of a PATCH
+-- whether a content type, whatever its parameters, is that of a PATCH
 abbrev pub is_media : List ℕ → Bool
 is_media text = same_name (trim_end_ows (before_semicolon text)) (codes "application/offset+octet-stream")
 
@@ -26,12 +26,12 @@ abbrev pub number_or_fault : Option ℕ → Result ℕ NotDigits
 number_or_fault None = Err (record {})
 number_or_fault (Some number) = Ok number
 
--- the length that is declared, where the field stands
+-- the length that is declared, if the field is there
 abbrev pub declared_in : List Field → Option (Result ℕ NotDigits)
 declared_in fields =
     if stands (codes "upload-length") fields then Some (number_or_fault (number_of (value_in (codes "upload-length") fields))) else None
 
--- the PATCH of an upload, by the fields and the body of a message
+-- the PATCH of an upload, from the fields and the body of a message
 abbrev pub patch_of : ℕ → List Field → List ℕ → Patch
 patch_of id fields body = record {
   id = id;

@@ -1,4 +1,4 @@
--- What a message asks for: the checks in their one order, and the request where none fails.
+-- What a message asks for: the checks in their order, and the request if none of them fails.
 use Rattle.std.specs.Prelude.{◌≡◌, ℕ, ◌⊎◌, Bool, true, false, not, ◌&&◌, ◌||◌, List, [], ◌∷◌, codes, bytes_eq, Result, Ok, Err}
 use Rattle.std.specs.List.{list_any}
 use Rattle.up_message.specs.Fields.{Field}
@@ -22,7 +22,7 @@ use Rattle.up_headers.specs.Patches.{patch_of}
 abbrev pub is_version : List Field → Bool
 is_version fields = bytes_eq (value_in (codes "tus-resumable") fields) (codes "1.0.0")
 
--- the checks of the version, where one must stand or may
+-- the checks of the version, which must be there, or may be
 abbrev pub version_rows : Bool → List Field → List (Row HeaderFault)
 version_rows must fields =
     (is_repeated (codes "tus-resumable") fields, fault.Repeated)
@@ -37,13 +37,13 @@ method_rows method.Delete fields = version_rows true fields
 method_rows method.Head fields = version_rows false fields
 method_rows verb fields = []
 
--- the checks before the target is looked at
+-- the checks before the target
 abbrev pub early_rows : List ℕ → List Field → List (Row HeaderFault)
 early_rows name fields =
     (is_repeated (codes "x-http-method-override") fields, fault.Repeated)
     ∷ method_rows (chosen_verb name fields) fields
 
--- whether the place serves the method
+-- whether the place supports the method
 abbrev pub is_served : Verb → Place → Bool
 is_served method.Post at = is_creation at
 is_served method.Head at = is_upload at
@@ -52,7 +52,7 @@ is_served method.Delete at = is_upload at
 is_served method.Get at = is_upload at
 is_served verb at = false
 
--- the fields that a request of the method reads and that may stand once
+-- the fields that a request with this method reads, and that may be there only once
 abbrev pub single_fields : Verb → List (List ℕ)
 single_fields method.Post = codes "upload-length" ∷ codes "upload-defer-length" ∷ codes "upload-metadata" ∷ codes "upload-concat" ∷ []
 single_fields method.Patch = codes "content-type" ∷ codes "upload-offset" ∷ codes "upload-length" ∷ []
@@ -62,7 +62,7 @@ single_fields verb = []
 abbrev pub repeats : Verb → List Field → Bool
 repeats verb fields = list_any (λ name. is_repeated name fields) (single_fields verb)
 
--- the checks at the place where the target leads
+-- the checks at the place that the target refers to
 abbrev pub place_rows : Verb → Place → List Field → List (Row HeaderFault)
 place_rows verb at fields =
     (is_nowhere at, fault.NoSuchPath)
@@ -70,7 +70,7 @@ place_rows verb at fields =
     ∷ (repeats verb fields, fault.Repeated)
     ∷ []
 
--- the request where no check before has failed
+-- the request, if no check before has failed
 abbrev pub Asks : Verb → Place → List Field → List ℕ → ℕ → Result Request HeaderFault → Type 0
 Asks method.Post place.Creation fields body max_size result = Creates request.Create fields max_size result
 Asks method.Head (place.Upload id) fields body max_size result = result ≡ Ok (request.Head id)
@@ -79,28 +79,28 @@ Asks method.Delete (place.Upload id) fields body max_size result = result ≡ Ok
 Asks method.Get (place.Upload id) fields body max_size result = result ≡ Ok (request.Get id)
 Asks verb at fields body max_size result = ⊥
 
--- what the checks say of a message whose target leads there
+-- the result of the checks of a message whose target refers to this place
 abbrev pub IsAnswerAt : Verb → Place → List Field → List ℕ → ℕ → Result Request HeaderFault → Type 0
 IsAnswerAt verb at fields body max_size result =
     Then (first_that_holds (place_rows verb at fields)) result (Asks verb at fields body max_size result)
 
--- what they say from the target on; want of memory may stand in its place
+-- the result of the checks from the target on; or memory ran out
 abbrev pub IsRouted : Verb → Message → ℕ → Result Request HeaderFault → Type 0
 IsRouted verb m max_size result =
     (result ≡ Err fault.NoMemory)
     ⊎ ((at : Place) × IsAt m.target at × IsAnswerAt verb at m.fields m.body max_size result)
 
--- what they say where no check before the target has failed; the target of OPTIONS isn't looked at
+-- the result if no check before the target has failed; the target of OPTIONS is ignored
 abbrev pub Routes : Verb → Message → ℕ → Result Request HeaderFault → Type 0
 Routes method.Options m max_size result = result ≡ Ok request.Options
 Routes verb m max_size result = IsRouted verb m max_size result
 
--- what the checks say of a message
+-- the result of the checks of a message
 abbrev pub IsAnswer : Message → ℕ → Result Request HeaderFault → Type 0
 IsAnswer m max_size result =
     Then (first_that_holds (early_rows m.method m.fields)) result (Routes (chosen_verb m.method m.fields) m max_size result)
 
--- an upload that is to be made is no longer than that, as far as its length is known
+-- an upload to be created is at most this long, if its length is known
 abbrev pub FitsWithin : ℕ → Request → Type 0
 FitsWithin max_size request.Options = Unit {0}
 FitsWithin max_size (request.Create new) = IsWithin max_size new.length

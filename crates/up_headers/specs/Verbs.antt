@@ -4,7 +4,7 @@ use Rattle.up_message.specs.Fields.{Field, values}
 use Rattle.up_headers.specs.declared.verb.Verb.{Verb}
 use Rattle.up_headers.specs.declared.verb.Verb.TheVariants as method
 
--- the method of that name, with regard to case
+-- the method with this name; upper and lower case differ
 abbrev pub verb_of : List ℕ → Verb
 verb_of name =
     if bytes_eq name (codes "OPTIONS") then method.Options
@@ -15,11 +15,11 @@ verb_of name =
     else (if bytes_eq name (codes "GET") then method.Get
     else method.Other)))))
 
--- the names of the methods that stand in place of the message's own
+-- the names of the methods that override the message's own
 abbrev pub overrides : List Field → List (List ℕ)
 overrides fields = values (codes "x-http-method-override") fields
 
--- the first of them, or else the message's own
+-- the first of these, or else the message's own
 abbrev pub name_or : List ℕ → List (List ℕ) → List ℕ
 name_or own [] = own
 name_or own (name ∷ more) = name

@@ -4,7 +4,7 @@ use Rattle.std.specs.Prelude.{◌≡◌, ℕ, ◌-◌, ◌<◌, ◌==◌, Bool, 
 use Rattle.std.specs.List.{list_all}
 use Rattle.httparse.specs.Ascii.{space}
 
--- the one blank that counts; a tab is a byte as any other
+-- the only blank that counts; a tab is like any other byte
 abbrev pub is_space : ℕ → Bool
 is_space b = b == space
 
@@ -12,7 +12,7 @@ is_space b = b == space
 abbrev pub is_no_space : ℕ → Bool
 is_no_space b = not (b == space)
 
--- spaces alone, or nothing
+-- only spaces, or nothing
 abbrev pub AreSpaces : List ℕ → Type 0
 AreSpaces text = IsTrue (list_all is_space text)
 
@@ -25,7 +25,7 @@ abbrev pub EndsWord : List ℕ → Type 0
 EndsWord [] = Unit {0}
 EndsWord (b ∷ bs) = b ≡ space
 
--- behind spaces, the text begins with the word, which is all up to the next space; the rest stands behind it
+-- after spaces, the text begins with the word, which is everything up to the next space, and then the rest
 pub record BeginsWith (text word rest : List ℕ) : Type 0 where
   pub left : List ℕ
   pub spelled : text ≡ left ++ (word ++ rest)
@@ -35,12 +35,12 @@ pub record BeginsWith (text word rest : List ℕ) : Type 0 where
 
 -- ---- as functions
 
--- the text behind its first bytes that pass the test
+-- the text after its first bytes that pass the test
 abbrev pub drop_while : (ℕ → Bool) → List ℕ → List ℕ
 drop_while test [] = []
 drop_while test (b ∷ bs) = if test b then drop_while test bs else b ∷ bs
 
--- without the spaces at the front
+-- without the spaces at the start
 abbrev pub skip_spaces : List ℕ → List ℕ
 skip_spaces text = drop_while is_space text
 
@@ -56,15 +56,15 @@ trim_end_spaces text = reverse (skip_spaces (reverse text))
 abbrev pub until_space : List ℕ → List ℕ
 until_space text = take (length text - length (from_space text)) text
 
--- the first word; empty where there are spaces alone
+-- the first word; empty if there are only spaces
 abbrev pub first_word : List ℕ → List ℕ
 first_word text = until_space (skip_spaces text)
 
--- what stands behind the first word
+-- the text after the first word
 abbrev pub behind_word : List ℕ → List ℕ
 behind_word text = from_space (skip_spaces text)
 
--- the first word and what stands behind it, if there is a word
+-- the first word and the text after it, if there is a word
 abbrev pub IsFirstWord : List ℕ → Option (Bor (List ℕ) × Bor (List ℕ)) → Type 0
 IsFirstWord text None = length (first_word text) ≡ 0
 IsFirstWord text (Some found) = (found.0.now ≡ first_word text) × (found.1.now ≡ behind_word text) × (0 < length (first_word text))

@@ -15,21 +15,21 @@ use std::alloc::Global;
 use up_events::Id;
 use up_message::{Field, Message, Values, find_value};
 
-/// What the message asks for (tus 1.0.0, Core protocol, Creation, Termination and Concatenation). The
-/// checks come in this order, and the first that fails is the fault:
+/// What the message asks for (tus 1.0.0, Core protocol, Creation, Termination and Concatenation). The checks have this
+/// order, and the first one that fails gives the fault:
 ///
-/// 1. `X-HTTP-Method-Override` twice. Where it stands once, its value is the method. OPTIONS is
-///    then a request, whatever its target, and nothing more is checked.
-/// 2. The version: it must stand for POST, PATCH and DELETE and may for HEAD, once and as 1.0.0.
-/// 3. The path of the target: `/files` or `/files/`, the creation URL, or `/files/` and the text
-///    of an id, an upload's.
-/// 4. The method: POST for the creation URL, HEAD, PATCH, DELETE and GET for an upload.
-/// 5. A field that the request reads and that stands twice.
-/// 6. For a creation its length, a number of at most `max_size`, or in its place that it is to come
-///    later, which both aren't looked at where `Upload-Concat` begins with `final;`; then `Upload-Concat`, which must be empty or absent,
-///    `partial`, or `final;` and one or more URLs of uploads between spaces; then its metadata.
+/// 1. `X-HTTP-Method-Override` must not be there twice. If it is there once, its value is the method. OPTIONS is then a
+///    request, whatever its target, and nothing else is checked.
+/// 2. The version: it must be sent with POST, PATCH and DELETE, and may be sent with HEAD, once and as 1.0.0.
+/// 3. The path of the target: `/files` or `/files/` is the creation URL, and `/files/` followed by the text of an id is
+///    the URL of an upload.
+/// 4. The method: POST for the creation URL; HEAD, PATCH, DELETE and GET for an upload.
+/// 5. No field that the request reads may be there twice.
+/// 6. For a creation: its length is a number of at most `max_size`, or it is said that the length will be declared
+///    later; neither is checked if `Upload-Concat` begins with `final;`. Then `Upload-Concat` must be empty or absent,
+///    `partial`, or `final;` and one or more URLs of uploads between spaces. Then the metadata is checked.
 ///
-/// 1 and 2 need no memory. From 3 on `NoMemory` stands in place of the answer where memory is refused.
+/// Checks 1 and 2 need no memory. From check 3 on, the result is `NoMemory` if memory runs out.
 pub fn request_of(alloc: Global, message: Message, max_size: u64) -> Result<Request, HeaderFault>
     ensures answer { IsAnswer message max_size result }
     ensures bounded { IfOk result (FitsWithin max_size) }
@@ -41,7 +41,7 @@ pub fn request_of(alloc: Global, message: Message, max_size: u64) -> Result<Requ
     }
 }
 
-/// The method that counts, after the checks that need no target.
+/// The method that counts, after the checks that do not need the target.
 fn choose(message: &Message) -> Result<Verb, HeaderFault>
     ensures { IsChosen message.now.method message.now.fields result }
 {
@@ -66,7 +66,7 @@ fn check_version(verb: Verb, fields: &[Field]) -> Result<(), HeaderFault>
     }
 }
 
-/// The checks of the version, which must stand or may.
+/// The checks of the version, which must be there if `must`.
 fn check_sent_version(must: bool, fields: &[Field]) -> Result<(), HeaderFault>
     ensures { Passes result (first_that_holds (version_rows must fields.now)) }
 {
@@ -78,7 +78,7 @@ fn check_sent_version(must: bool, fields: &[Field]) -> Result<(), HeaderFault>
     }
 }
 
-/// What a message asks for, by the place where its target leads.
+/// What a message asks for, depending on the place that its target refers to.
 fn route(alloc: Global, verb: Verb, message: Message, max_size: u64) -> Result<Request, HeaderFault>
     ensures answer { IsRouted verb message max_size result }
     ensures bounded { IfOk result (FitsWithin max_size) }
@@ -127,7 +127,7 @@ fn at_upload(verb: Verb, id: Id, message: Message) -> Result<Request, HeaderFaul
     }
 }
 
-/// Whether a field that a request of the method reads stands twice.
+/// Whether a field that a request with this method reads is there twice.
 fn repeats(verb: Verb, fields: &[Field]) -> bool
     ensures { result ≡ repeats verb fields.now }
 {

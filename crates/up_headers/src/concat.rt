@@ -1,4 +1,4 @@
-//! What an `Upload-Concat` says.
+//! The meaning of `Upload-Concat`.
 ghost use Rattle.std.specs.Prelude.{◌≡◌, IfOk};
 ghost use Rattle.up_headers.specs.Concat.{IsConcat, IsPartList, is_final};
 
@@ -15,9 +15,8 @@ pub(crate) fn is_final(text: &[u8]) -> bool
     text.starts_with(b"final;")
 }
 
-/// The kind of an upload and the parts that it joins, by the text of its `Upload-Concat` (tus 1.0.0,
-/// Upload-Concat): no text, `partial`, or `final;` and a list of parts. `None` where the text is
-/// another.
+/// The kind of an upload and the parts that it joins, from the text of its `Upload-Concat` (tus 1.0.0, Upload-Concat):
+/// no text, `partial`, or `final;` and a list of parts. `None` for any other text.
 pub(crate) fn concat_of(
     alloc: Global,
     text: &[u8],
@@ -39,9 +38,8 @@ pub(crate) fn concat_of(
     Ok(None)
 }
 
-/// The parts in a list of their URLs, with spaces between them and perhaps at both ends. A URL may
-/// be of any form that a target may have (RFC 9112, section 3.2). `None` where there is no URL, or
-/// one that isn't an upload's.
+/// The parts in a list of their URLs, with spaces between them and optionally around them. A URL may have any form that
+/// a target may have (RFC 9112, section 3.2). `None` if there is no URL, or one that is not that of an upload.
 fn parts_of(alloc: Global, list: &[u8]) -> Result<Option<Sequence<Id>>, AllocError>
     ensures { IfOk result (IsPartList list.now) }
 {

@@ -1,4 +1,4 @@
-//! An upload that is to be made.
+//! An upload to be created.
 ghost use Rattle.std.specs.Prelude.{◌≡◌, IfOk};
 ghost use Rattle.up_headers.specs.Creations.{IsWithin, some_text};
 ghost use Rattle.up_headers.specs.Steps.{IsCreation, IsLength};
@@ -12,9 +12,9 @@ use crate::request::NewUpload;
 use std::alloc::{AllocError, Global};
 use up_message::{Field, Sequence, is_digits, number};
 
-/// The upload that a creation asks for (tus 1.0.0, Creation and Concatenation), of at most `max_size`
-/// bytes where its length is known. Its length is checked first, which a final upload need not have, then what its
-/// `Upload-Concat` says, then its metadata.
+/// The upload that a creation asks for (tus 1.0.0, Creation and Concatenation), of at most `max_size` bytes if its
+/// length is known. The length is checked first, except for a final upload, then `Upload-Concat`, and then the
+/// metadata.
 pub(crate) fn new_upload(
     alloc: Global,
     fields: &[Field],
@@ -44,8 +44,8 @@ pub(crate) fn new_upload(
     })
 }
 
-/// The length of an upload that is to be made; none where it is to be declared later. That of a final
-/// one isn't looked at, and 0 stands for it.
+/// The length of an upload to be created; `None` if it will be declared later. The length of a final upload is not
+/// checked, and is returned as 0.
 fn length_of(fields: &[Field], max_size: u64) -> Result<Option<u64>, HeaderFault>
     ensures { IsLength fields.now max_size result }
 {
@@ -70,7 +70,7 @@ fn length_of(fields: &[Field], max_size: u64) -> Result<Option<u64>, HeaderFault
     }
 }
 
-/// A copy of the text, where it isn't empty.
+/// A copy of the text, if it is not empty.
 fn some_text(alloc: Global, text: &[u8]) -> Result<Option<Sequence<u8>>, AllocError>
     ensures { IfOk result (λ copy. copy ≡ some_text text.now) }
 {

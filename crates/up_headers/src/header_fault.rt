@@ -1,41 +1,41 @@
-//! Why a message asks for nothing, and what is answered to it.
+//! Why a message asks for nothing, and the response to it.
 ghost use Rattle.std.specs.Prelude.{◌≡◌};
 
 use std::alloc::AllocError;
 use thiserror::Error;
 
-/// Why a message is no request of the tus protocol.
+/// Why a message is not a request of the tus protocol.
 #[derive(Clone, Copy, Debug, PartialEq, Eq, Error)]
 pub enum HeaderFault {
-    /// The version of the protocol is missing or isn't 1.0.0 (tus 1.0.0, Tus-Resumable).
+    /// The version of the protocol is missing or is not 1.0.0 (tus 1.0.0, Tus-Resumable).
     #[error("version not supported")]
     Version,
-    /// The target is neither the creation URL nor an upload's (RFC 9110, section 15.5.5).
+    /// The target is neither the creation URL nor that of an upload (RFC 9110, section 15.5.5).
     #[error("no such path")]
     NoSuchPath,
-    /// The place that the target names does not serve the method (RFC 9110, section 15.5.6).
+    /// The target does not support the method (RFC 9110, section 15.5.6).
     #[error("method not allowed")]
     Method {
-        /// Whether the target is an upload's, and not the creation URL.
+        /// Whether the target is that of an upload, and not the creation URL.
         of_upload: bool,
     },
-    /// A field that the request reads stands twice (RFC 9110, section 5.3).
+    /// A field that the request reads is there twice (RFC 9110, section 5.3).
     #[error("field repeated")]
     Repeated,
-    /// A creation that isn't of a final upload, and says neither a number as its length nor that the length is to come later,
-    /// or says both (tus 1.0.0, Creation).
+    /// The creation of an upload that is not final, with neither a number as its length nor the statement that the
+    /// length will be declared later, or with both (tus 1.0.0, Creation).
     #[error("bad length")]
     BadLength,
-    /// A creation of more bytes than an upload may have (tus 1.0.0, Creation).
+    /// The creation of an upload with more bytes than are allowed (tus 1.0.0, Creation).
     #[error("too long")]
     TooLong,
     /// An `Upload-Concat` that is neither `partial` nor `final;` and the URLs of uploads (tus 1.0.0, Upload-Concat).
     #[error("bad concatenation")]
     BadConcat,
-    /// Metadata that reads as no list of pairs (tus 1.0.0, Upload-Metadata).
+    /// Metadata that is not a list of pairs (tus 1.0.0, Upload-Metadata).
     #[error("bad metadata")]
     BadMetadata,
-    /// There was no memory for the request.
+    /// Memory for the request ran out.
     #[error("out of memory")]
     NoMemory,
 }
@@ -53,7 +53,7 @@ impl From<AllocError> for HeaderFault {
 impl HeaderFault {
     ghost use Rattle.up_headers.specs.HeaderFaults.{status_of, line_of};
 
-    /// The status code of the answer (RFC 9110, section 15; for `Version` tus 1.0.0, Tus-Version).
+    /// The status code of the response (RFC 9110, section 15; for `Version` tus 1.0.0, Tus-Version).
     pub fn status(&self) -> u16
         ensures { result ≡ status_of self.now }
     {
@@ -70,7 +70,7 @@ impl HeaderFault {
         }
     }
 
-    /// The body of the answer: a line with the number of the fault and its name.
+    /// The body of the response: a line with the number of the fault and its name.
     pub fn text(&self) -> &'static str
         ensures { result.now ≡ line_of self.now }
     {

@@ -1,4 +1,4 @@
-//! From a message to a request of the tus protocol 1.0.0: the table of header checks in its one order, metadata and
+//! From a message to a request of the tus protocol 1.0.0: the table of header checks in their order, metadata and
 //! concatenations.
 #![tactic(auto)]
 

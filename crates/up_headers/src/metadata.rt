@@ -17,7 +17,7 @@ use std::alloc::Global;
 use std::collections::BTreeSet;
 use up_message::Sequence;
 
-/// The pair of a key and of what stands behind it in its part.
+/// The pair of a key and of the text after it in its part.
 fn read_pair(
     alloc: Global,
     key: &[u8],
@@ -32,7 +32,7 @@ fn read_pair(
     }
 }
 
-/// The text up to its first comma, and behind it.
+/// The text up to its first comma, and the text after it.
 fn cut_part(text: &[u8]) -> (&[u8], Option<&[u8]>)
     ensures { split_commas text.now ≡ result.0.now ∷ parts_of result.1 }
 {
@@ -42,7 +42,7 @@ fn cut_part(text: &[u8]) -> (&[u8], Option<&[u8]>)
     }
 }
 
-/// As `pairs_of`, with what it answers as a function of the text.
+/// Like `pairs_of`, but with a contract that gives the result as a function of the text.
 pub(crate) fn read_pairs(alloc: Global, text: &[u8]) -> Result<Pairs, MetadataFault>
     ensures { Answers result (reading text.now) }
 {
@@ -69,11 +69,12 @@ pub(crate) fn read_pairs(alloc: Global, text: &[u8]) -> Result<Pairs, MetadataFa
     Ok(Sequence::from_vec(pairs))
 }
 
-/// The pairs of a metadata text (tus 1.0.0, Upload-Metadata): parts between commas, each with spaces at both ends
-/// dropped, and each a key, or a key, one or more spaces and a value in Base64 (RFC 4648, section 4, with padding). A
-/// key alone has the empty value, and the empty text has no pairs. The first part at fault decides the error:
-/// `EmptyKey` where it has no key, else `KeyTwice` where a part before it has the same key, byte for byte, else
-/// `BadValue`. `NoMemory` comes where the pairs found no memory.
+/// The pairs of a metadata text (tus 1.0.0, Upload-Metadata): parts between commas. Spaces around a part are dropped. A
+/// part is a key, or a key, one or more spaces and a value in Base64 (RFC 4648, section 4, with padding). A key without
+/// a value has the empty value, and the empty text has no pairs.
+///
+/// The first part at fault decides the error: `EmptyKey` if it has no key, else `KeyTwice` if a part before it has the
+/// same key, byte for byte, else `BadValue`. `NoMemory` if memory for the pairs runs out.
 pub fn pairs_of(alloc: Global, text: &[u8]) -> Result<Pairs, MetadataFault>
     ensures ok { IfOk result (λ pairs. ReadsPairs text.now pairs) }
     ensures err { IfErr result (IsRefusal text.now) }

@@ -1,21 +1,21 @@
-//! Why a metadata text reads as no list of pairs.
+//! Why a metadata text is not a list of pairs.
 use std::alloc::{AllocError, AllocFailed};
 use thiserror::Error;
 
-/// Why a metadata text reads as no list of pairs (tus 1.0.0, Upload-Metadata). The first pair at fault decides, and
-/// within one pair the first of these.
+/// Why a metadata text is not a list of pairs (tus 1.0.0, Upload-Metadata). The first pair at fault decides, and within
+/// one pair the first of these faults.
 #[derive(Clone, Copy, Debug, PartialEq, Eq, Error)]
 pub enum MetadataFault {
     /// A pair without a key.
     #[error("empty key")]
     EmptyKey,
-    /// A key that an earlier pair has.
+    /// A key that an earlier pair has too.
     #[error("key twice")]
     KeyTwice,
-    /// A value that isn't Base64 (RFC 4648, section 4).
+    /// A value that is not Base64 (RFC 4648, section 4).
     #[error("bad value")]
     BadValue,
-    /// There was no memory for the pairs.
+    /// Memory for the pairs ran out.
     #[error("out of memory")]
     NoMemory,
 }

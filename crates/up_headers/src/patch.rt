@@ -8,8 +8,8 @@ use std::alloc::AllocError;
 use up_events::Id;
 use up_message::{Field, Message, Piece, is_digits, number, same_name, trim_end_ows};
 
-/// The PATCH of an upload (tus 1.0.0, PATCH). Its bytes are the message's own, not a copy, and keep
-/// no more room than they need.
+/// The PATCH of an upload (tus 1.0.0, PATCH). Its bytes are those of the message, without a copy, and have no more room
+/// than they need.
 pub(crate) fn patch_of(id: Id, message: Message) -> Result<Patch, AllocError>
     ensures { IfOk result (λ patch. patch ≡ patch_of id message.fields message.body) }
 {
@@ -27,8 +27,7 @@ pub(crate) fn patch_of(id: Id, message: Message) -> Result<Patch, AllocError>
     })
 }
 
-/// Whether a content type, whatever its parameters (RFC 9110, section 8.3.1), is the one of a
-/// PATCH.
+/// Whether a content type, whatever its parameters (RFC 9110, section 8.3.1), is that of a PATCH.
 fn is_media(text: &[u8]) -> bool
     ensures { result ≡ is_media text.now }
 {
@@ -47,7 +46,7 @@ fn before_semicolon(text: &[u8]) -> &[u8]
     }
 }
 
-/// The length that is declared, where the field for it stands.
+/// The length that is declared, if the field for it is there.
 fn declared_in(fields: &[Field]) -> Option<Result<u64, NotDigits>>
     ensures { result ≡ declared_in fields.now }
 {
@@ -60,7 +59,7 @@ fn declared_in(fields: &[Field]) -> Option<Result<u64, NotDigits>>
     }
 }
 
-/// The number that was sent, if it is one; one past 2^64 - 1 counts as 2^64 - 1.
+/// The number that was sent, if it is one. A number above 2^64 - 1 counts as 2^64 - 1.
 fn number_of(text: &[u8]) -> Option<u64>
     ensures { result ≡ number_of text.now }
 {

@@ -1,4 +1,4 @@
-//! Where a target leads.
+//! What a target refers to.
 ghost use Rattle.std.specs.Prelude.{◌≡◌, IfOk};
 ghost use Rattle.up_headers.specs.Places.{IsPlace, IsAt};
 
@@ -6,18 +6,18 @@ use http_uri::{Uri, UriError};
 use std::alloc::{AllocError, Global};
 use up_events::Id;
 
-/// Where a target leads.
+/// What a target refers to.
 #[derive(Clone, Copy, Debug, PartialEq, Eq)]
 pub(crate) enum Place {
     /// The creation URL, `/files` or `/files/` (tus 1.0.0, Creation).
     Creation,
-    /// The URL of an upload, `/files/` and the text of its id. No upload need be there.
+    /// The URL of an upload, `/files/` and the text of its id. The upload need not exist.
     Upload(Id),
-    /// Any other.
+    /// Anything else.
     Nowhere,
 }
 
-/// Where a path leads.
+/// The place that a path refers to.
 fn place_in(path: &[u8]) -> Place
     ensures { IsPlace path.now result }
 {
@@ -33,8 +33,8 @@ fn place_in(path: &[u8]) -> Place
     }
 }
 
-/// Where the path of a request target leads, whatever its query (RFC 9112, section 3.2).
-/// A target that is no URI leads nowhere.
+/// The place that the path of a request target refers to, whatever its query (RFC 9112, section 3.2). `Nowhere` for a
+/// target that is not a URI.
 pub(crate) fn place_of(alloc: Global, target: &[u8]) -> Result<Place, AllocError>
     ensures { IfOk result (IsAt target.now) }
 {

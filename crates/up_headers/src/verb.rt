@@ -1,4 +1,4 @@
-//! The methods that are told apart.
+//! The methods that the server distinguishes.
 ghost use Rattle.std.specs.Prelude.{◌≡◌};
 ghost use Rattle.up_headers.specs.Verbs.{verb_of};
 
@@ -11,11 +11,11 @@ pub(crate) enum Verb {
     Patch,
     Delete,
     Get,
-    /// Any other. Nothing is served to it.
+    /// Any other method. No place supports it.
     Other,
 }
 
-/// The method of that name, with regard to case (RFC 9110, section 9.1).
+/// The method with this name; upper and lower case differ (RFC 9110, section 9.1).
 pub(crate) fn verb_of(name: &[u8]) -> Verb
     ensures { result ≡ verb_of name.now }
 {

@@ -2,7 +2,7 @@
 ghost use Rattle.std.specs.Prelude.{◌≡◌};
 ghost use Rattle.up_headers.specs.Words.{IsFirstWord, skip_spaces, from_space, trim_end_spaces};
 
-/// The text behind the spaces at its front.
+/// The text after the spaces at its start.
 pub(crate) fn skip_spaces(mut text: &[u8]) -> &[u8]
     ensures { result.now ≡ skip_spaces text.now }
 {
@@ -38,7 +38,7 @@ pub(crate) fn trim_end_spaces(mut text: &[u8]) -> &[u8]
     text
 }
 
-/// The first word of the text, and what stands behind it. `None` where there are spaces alone.
+/// The first word of the text, and the text after it. `None` if there are only spaces.
 pub(crate) fn first_word(text: &[u8]) -> Option<(&[u8], &[u8])>
     ensures { IsFirstWord text.now result }
 {

@@ -1,7 +1,8 @@
-//! Which history it is.
+//! The identity of a history.
 use std::marker::Brand;
 
-/// Which history it is. Each call of a program picks it, so types that name one `Chronicle` speak of one history.
+/// The identity of a history. Each call of a program chooses it, so types with the same `Chronicle` are about the same
+/// history.
 pub trait Chronicle {
     ghost use Rattle.logbook.specs.Pages.{Book};
 

@@ -1,4 +1,4 @@
-//! Beginnings of a history.
+//! Prefixes of a history.
 ghost use Rattle.std.specs.Prelude.{◌≡◌, ◌<◌, ◌≤◌, ◌⊎◌, ℕ, ◌++◌, ◌∷◌, [], length, take, MatchBool};
 ghost use mathlib.Core.List.{IsPrefix};
 ghost use Rattle.up_history.specs.Histories.{IsLonger};
@@ -9,7 +9,7 @@ use crate::rule::{Add, Counted, Look, Nothing};
 use logbook::{Offer, Seen};
 use std::marker::{Model, PhantomData};
 
-/// A beginning of a history that was seen. Contracts see it as its entries.
+/// A prefix of a history that was seen. Contracts describe it as its entries.
 #[derive(Drop)]
 pub struct Front<E, J: Chronicle> {
     pub(crate) count: u64,
@@ -29,7 +29,7 @@ impl<E, J: Chronicle> Model for Front<E, J> {
 }
 
 impl<E, J: Chronicle> Front<E, J> {
-    /// How many entries it has.
+    /// The number of its entries.
     pub fn len(&self) -> u64
         ensures { result ≡ length self.now }
     {
@@ -47,7 +47,7 @@ impl<E, J: Chronicle> Front<E, J> {
         }
     }
 
-    /// Of two fronts of one history one begins with the other. A law: it does nothing.
+    /// Of two fronts of one history, one is a prefix of the other. This is a law: the function does nothing.
     pub fn meets(&self, other: &Front<E, J>)
         ensures shorter { length self.now ≤ length other.now → IsPrefix self.now other.now }
         ensures longer { length other.now ≤ length self.now → IsPrefix other.now self.now }
@@ -55,18 +55,20 @@ impl<E, J: Chronicle> Front<E, J> {
         ensures alike { (n : ℕ) → n ≤ length self.now → n ≤ length other.now
             → take n self.now ≡ take n other.now }
     {
+        // For the prover: using the fields brings in the invariants.
         let _ = self.count;
         let _ = other.count;
         let mut both = self.seen.again();
         both.learn(&other.seen);
     }
 
-    /// The longer of two fronts, which the other begins.
+    /// The longer of two fronts. The other one is a prefix of it.
     pub fn longer(&self, other: &Front<E, J>) -> Front<E, J>
         ensures one { (result ≡ self.now) ⊎ (result ≡ other.now) }
         ensures this { IsPrefix self.now result }
         ensures that { IsPrefix other.now result }
     {
+        // For the prover: a law, which does nothing when it runs.
         self.meets(other);
         if self.count < other.count {
             other.again()
@@ -75,7 +77,7 @@ impl<E, J: Chronicle> Front<E, J> {
         }
     }
 
-    /// Sees the history as it is. It waits for nobody.
+    /// Sees the current history. It does not wait.
     pub fn observe(&mut self, history: &History<E, J>)
         ensures { IsPrefix self.old self.new }
     {
@@ -87,8 +89,8 @@ impl<E, J: Chronicle> Front<E, J> {
             .load::<Look, Nothing>(&mut self.seen, &mut offer);
     }
 
-    /// Adds an entry behind all that was seen, and says whether it did. It did not where the history is longer: that was
-    /// seen then.
+    /// Adds an entry after everything that was seen, and returns whether it did. If it did not, the history is longer,
+    /// and has now been seen.
     pub fn add(&mut self, history: &History<E, J>, entry: &E) -> bool
         requires room { length self.old < u64.MAX }
         ensures { MatchBool result (self.new ≡ self.old ++ entry.now ∷ []) (IsLonger self.old self.new) }
@@ -111,8 +113,8 @@ impl<E, J: Chronicle> Front<E, J> {
         found == count
     }
 
-    /// Adds a row of entries behind all that was seen, and says whether it did. It did not where the history is longer, or
-    /// can take no more; it may then have added the first of them.
+    /// Adds entries after everything that was seen, and returns whether it did. If it did not, the history is longer,
+    /// or accepts no more entries; the first of the entries may then have been added.
     pub fn add_all(&mut self, history: &History<E, J>, entries: &[E]) -> bool
         ensures { MatchBool result (self.new ≡ self.old ++ entries.now) (IsPrefix self.old self.new) }
     {

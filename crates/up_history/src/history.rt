@@ -8,7 +8,7 @@ use crate::rule::Counted;
 use logbook::{Seen, Start, Word};
 use std::marker::{Model, PhantomData};
 
-/// An empty history that has no name yet. Contracts see it as the name that it is to have.
+/// An empty history that has no identity yet. Contracts describe it as the identity that it will have.
 #[derive(Drop)]
 pub struct Opened<E> {
     word: Word<Option<E>, u64, Counted>,
@@ -37,7 +37,7 @@ impl<E> Opened<E> {
         }
     }
 
-    /// The history under its name, and the front that has seen nothing.
+    /// The history with its identity, and the front that has seen nothing.
     pub fn named<J: Chronicle>(self) -> (History<E, J>, Front<E, J>)
         requires { self ≡ J.history }
         ensures { result.1 ≡ [] }
@@ -56,7 +56,7 @@ impl<E> Opened<E> {
     }
 }
 
-/// What all threads share of a history: the word that counts its entries.
+/// The part of a history that all threads share: the word that counts its entries.
 #[derive(Drop)]
 pub struct History<E, J: Chronicle> {
     pub(crate) word: Word<Option<E>, u64, Counted>,

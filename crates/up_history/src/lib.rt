@@ -1,5 +1,5 @@
-//! A history that exists in proofs alone: one order of entries for all threads. They share a word that counts the
-//! entries, and each of them knows a beginning of the history.
+//! A history that exists only in proofs: one order of entries for all threads. They share a word that counts the
+//! entries, and each of them knows a prefix of the history.
 #![tactic(auto)]
 
 mod chronicle;

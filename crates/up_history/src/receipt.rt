@@ -1,4 +1,4 @@
-//! What a thread keeps of an entry.
+//! A thread's receipt for an entry.
 ghost use Rattle.std.specs.Prelude.{◌≡◌, ◌<◌, ◌≤◌, ◌+◌, ◌++◌, ◌∷◌, [], length, map, take, Some, IfSome, IfNone, OnSome, slice_get};
 ghost use mathlib.Core.List.{IsPrefix};
 ghost use Rattle.up_history.specs.Histories.{IsLonger, IsOutOfOrder};
@@ -9,8 +9,8 @@ use crate::history::History;
 use std::marker::Model;
 use std::snapshot::Snapshot;
 
-/// What a thread keeps of an entry of a history: the number of its place, counted from 0. Contracts see the number, the
-/// entry, and the entries before it.
+/// A thread's receipt for an entry of a history: the number of its place, counted from 0. Contracts describe it as the
+/// number, the entry, and the entries before it.
 #[derive(Drop)]
 pub struct Receipt<E, J: Chronicle> {
     number: u64,
@@ -48,8 +48,8 @@ impl<E, J: Chronicle> Receipt<E, J> {
         }
     }
 
-    /// Adds an entry behind all that the front has seen, and gives its receipt. None where the history is longer: the
-    /// front has seen that then.
+    /// Adds an entry after everything that the front has seen, and returns its receipt. `None` if the history is
+    /// longer, which the front has then seen.
     pub fn draw(
         front: &mut Front<E, J>,
         history: &History<E, J>,
@@ -75,7 +75,7 @@ impl<E, J: Chronicle> Receipt<E, J> {
         self.number
     }
 
-    /// A front that has the entry.
+    /// A front that contains the entry.
     pub fn front(&self) -> Front<E, J>
         ensures there { slice_get result self.now.number ≡ Some self.now.entry }
         ensures before { take self.now.number result ≡ self.now.before }
@@ -83,18 +83,20 @@ impl<E, J: Chronicle> Receipt<E, J> {
         self.front.again()
     }
 
-    /// The entry stands at its place in each front that is long enough, behind the same entries. A law: it does nothing.
+    /// The entry is at its place in each front that is long enough, after the same entries. This is a law: the function
+    /// does nothing.
     pub fn is_in(&self, front: &Front<E, J>)
         ensures there { self.now.number < length front.now
             → slice_get front.now self.now.number ≡ Some self.now.entry }
         ensures before { self.now.number ≤ length front.now
             → take self.now.number front.now ≡ self.now.before }
     {
+        // For the prover: using a field brings in the invariant.
         let _ = self.number;
         self.front.meets(front);
     }
 
-    /// A front that goes on with the receipt's entry, behind all that stands before that.
+    /// A front that has the receipt's entry after everything before its place.
     pub fn follow(&self, front: &Front<E, J>) -> Front<E, J>
         requires there { self.now.number ≤ length front.now }
         ensures begins { IsPrefix front.now result }
@@ -102,12 +104,13 @@ impl<E, J: Chronicle> Receipt<E, J> {
             ≡ take self.now.number front.now ++ self.now.entry ∷ [] }
         ensures long { self.now.number + 1 ≤ length result }
     {
+        // For the prover: using a field brings in the invariant.
         let _ = self.number;
         front.longer(&self.front)
     }
 
-    /// A front that goes on behind its first `count` entries with those of a row of receipts. None if one of them hasn't
-    /// the next number.
+    /// A front that has the entries of these receipts after its first `count` entries. `None` if one of them does not
+    /// have the next number.
     pub fn follow_all(
         receipts: &[Receipt<E, J>],
         front: &Front<E, J>,
@@ -126,6 +129,7 @@ impl<E, J: Chronicle> Receipt<E, J> {
                 return None;
             }
             reached = receipt.follow(&reached);
+            // For the prover: the length of a front is below 2^64, so the sum does not overflow.
             let _ = reached.len();
             next += 1;
         }

@@ -1,4 +1,4 @@
-//! What holds of the shared word between any two steps, and what a step tells.
+//! The invariant of the shared word between any two steps, and what a thread learns from a step.
 use logbook::{Gain, Plain, Play, Rule};
 
 /// The rule of a history: its word counts the entries.
@@ -22,7 +22,7 @@ impl<E> Rule<Option<E>, u64> for Counted {
     ghost moves = { λ ask before after answer. Unit {0} };
 }
 
-/// Threads trade nothing in a step.
+/// Threads exchange nothing in a step.
 pub struct Nothing;
 
 impl<E> Gain<Option<E>, u64> for Nothing {

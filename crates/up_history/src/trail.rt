@@ -7,7 +7,8 @@ use crate::front::Front;
 use crate::receipt::Receipt;
 use std::marker::Model;
 
-/// How far something follows a history, as a log or a book does, entry by entry. Contracts see it as these entries.
+/// How far something, such as a log or a book, follows a history, entry by entry. Contracts describe it as the entries
+/// that were followed.
 #[derive(Drop)]
 pub struct Trail<E, J: Chronicle> {
     front: Option<Front<E, J>>,
@@ -25,7 +26,7 @@ impl<E, J: Chronicle> Model for Trail<E, J> {
     ghost invariant = { λ t. HasFirst t.front t.count };
 }
 
-/// So many entries are the same in each front that has them. A law: it does nothing.
+/// The first `count` entries are the same in each front that has them. This is a law: the function does nothing.
 fn agree<E, J: Chronicle>(own: &Option<Front<E, J>>, count: u64, front: &Front<E, J>)
     requires own { HasFirst own.now count }
     requires long { count ≤ length front.now }
@@ -58,7 +59,7 @@ impl<E, J: Chronicle> Trail<E, J> {
         }
     }
 
-    /// How many entries it follows.
+    /// The number of entries that it follows.
     pub fn len(&self) -> u64
         ensures { result ≡ length self.now }
     {
@@ -79,7 +80,9 @@ impl<E, J: Chronicle> Trail<E, J> {
         ensures follows { self.new ≡ self.old ++ receipt.now.entry ∷ [] }
     {
         let front = receipt.front();
+        // For the prover: the length of a front is below 2^64, so the sum does not overflow.
         let _ = front.len();
+        // For the prover: a law, which does nothing when it runs.
         agree(&self.front, self.count, &front);
         self.front = Some(front);
         self.count += 1;

@@ -1,4 +1,4 @@
--- What the closures of a server answer together.
+-- The verdict of a server's closures together.
 use Rattle.std.specs.Prelude.{◌≡◌, ◌≢◌, List, ◌∷◌, ◌++◌, All}
 use Rattle.std.specs.Fn.{FnReturnsAt}
 use Rattle.std.specs.Borrow.{Bor}
@@ -26,16 +26,16 @@ module _ {X : Type 0} {F : X → Type 0} {g : Mut ((i : X) × F i) (Bor Ask × U
   abbrev pub listed : PreHooks X F g → List (PreHook X F g)
   listed hooks = hooks.hooks.items
 
-  -- the closure may answer so
+  -- the closure may return this verdict
   abbrev pub Answers : PreHook X F g → Ask → Verdict → Type 0
   Answers hook ask verdict = FnReturnsAt g (judge_of hook) ask verdict
 
-  -- the closure is for another point, or it allows
+  -- the closure is for another point, or it may allow
   abbrev pub LetsPass : Ask → PreHook X F g → Type 0
   LetsPass ask hook = point_of hook ≡ ask.point → Answers hook ask Allow
 
-  -- each closure of the point allows, which is said in its own word at pre-finish, or the first of them that doesn't has answered so;
-  -- nobody was skipped
+  -- each closure of the point allows, for which pre-finish has its own value; or the first closure that does not allow
+  -- returned this refusal. `Skipped` is never the result
   abbrev pub HooksGive : List (PreHook X F g) → Ask → Asked → Type 0
   HooksGive hooks ask asked.Skipped = ⊥
   HooksGive hooks ask asked.Allowed = (ask.point ≢ Finish) × All (LetsPass ask) hooks

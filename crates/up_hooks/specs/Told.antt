@@ -8,11 +8,11 @@ use Rattle.up_hooks.specs.declared.post_hook.Outcome.{Outcome}
 use Rattle.up_hooks.specs.declared.post_hook.Outcome.TheVariants.{Done, Failed}
 use Rattle.up_hooks.specs.declared.recorder.Recorder.{Recorder}
 
--- the events, without the answers
+-- the events, without the outcomes
 abbrev pub events_told : List (Event × Outcome) → List Event
 events_told pairs = map (λ pair. pair.0) pairs
 
--- the events that a recorder was handed, each with what its closure answered
+-- the events that a recorder was handed, each with the outcome from its closure
 abbrev pub told_by : {F : Type 0} → Recorder F → List (Event × Outcome)
 told_by recorder = recorder.pairs.items
 
@@ -20,16 +20,16 @@ told_by recorder = recorder.pairs.items
 abbrev pub closure_of : {F : Type 0} → Recorder F → F
 closure_of recorder = recorder.answer
 
--- a code of a failure is 1 to 99
+-- the code of a failure is 1 to 99
 abbrev pub has_code : Outcome → Bool
 has_code Done = true
 has_code (Failed code) = nat_le 1 code && nat_le code 99
 
 module _ {F : Type 0} (g : Mut F (Bor Event × Unit {0}) Outcome) where
-  -- each outcome is an answer of the closure on its event
+  -- the closure may return each outcome for its event
   abbrev pub AreAnswers : F → List (Event × Outcome) → Type 0
   AreAnswers f pairs = All (λ pair. FnReturnsAt g f pair.0 pair.1) pairs
 
-  -- the closure gives no other codes
+  -- the closure returns no other codes
   abbrev pub GivesCodes : F → Type 0
   GivesCodes f = (event : Bor Event) (outcome : Outcome) → g.post f (event, tt) outcome → IsTrue (has_code outcome)

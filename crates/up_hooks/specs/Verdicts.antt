@@ -1,4 +1,4 @@
--- What a closure may answer.
+-- What a closure may return.
 use Rattle.std.specs.Prelude.{ℕ, Bool, true, ◌==◌, ◌||◌}
 use Rattle.up_machine.specs.declared.ask.Verdict.{Verdict}
 use Rattle.up_machine.specs.declared.ask.Verdict.TheVariants.{Allow, Refuse}
@@ -10,7 +10,7 @@ abbrev pub is_refusal_status : ℕ → Bool
 is_refusal_status status =
     status == 400 || status == 403 || status == 409 || status == 413 || status == 422 || status == 429
 
--- it allows, or refuses with such a status
+-- it allows, or refuses with one of these statuses
 abbrev pub is_lawful : Verdict → Bool
 is_lawful Allow = true
 is_lawful (Refuse status reason) = is_refusal_status status

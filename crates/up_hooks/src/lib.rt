@@ -1,5 +1,5 @@
-//! What operators attach to the life of an upload: closures that are asked before it is made, completed or removed, and post-hooks that are
-//! handed every event.
+//! What operators attach to the life of an upload: closures that are asked before it is created, completed or removed,
+//! and post-hooks that are handed every event.
 #![tactic(auto)]
 
 mod post_hook;

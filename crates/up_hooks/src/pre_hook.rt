@@ -4,12 +4,13 @@ ghost use Rattle.up_hooks.specs.Verdicts.{is_lawful};
 
 use up_machine::{Ask, Point, Verdict};
 
-/// A closure that decides whether an upload is made, completed, or removed: it allows that, or refuses it with a status and a reason, which
-/// are then the response.
+/// A closure that decides whether an upload is created, completed or removed. It allows this, or refuses it with a
+/// status and a reason, which are then the response.
 ///
-/// It must be one that can be called on every `Ask`, that returns, since the request waits for it, and that refuses with no other
-/// status than 400, 403, 409, 413, 422 and 429. It may be called from several threads at once. The uploads may have changed by the
-/// time that the request is carried out; all else that can refuse it is then looked at again, but the closure isn't asked again.
+/// It must accept every `Ask`. It must return, since the request waits for it. It may refuse only with the statuses
+/// 400, 403, 409, 413, 422 and 429. Several threads may call it at once. The uploads may change between its answer and
+/// the time when the request is carried out; everything else that can refuse the request is then checked again, but the
+/// closure is not asked again.
 pub type Judge = Box<dyn Fn(&Ask) -> Verdict + Send + Sync>;
 
 /// A closure, with the point at which it is asked.
@@ -32,8 +33,8 @@ fn call(judge: &Judge, ask: &Ask) -> Verdict
 impl PreHook {
     ghost use Rattle.up_hooks.specs.Gives.{Answers, judge_of, point_of};
 
-    /// The closure, which is to be asked at this point and at no other. It must keep what `Judge` says; a clause at the closure
-    /// shows that: `ensures { IsTrue (is_lawful result) }`. Takes no memory.
+    /// A closure that is asked at this point and at no other. It must meet the requirements of `Judge`, which a clause
+    /// at the closure shows: `ensures { IsTrue (is_lawful result) }`. Takes no memory.
     pub fn new(point: Point, judge: Judge) -> Self
         requires callable { Judge.IsAlwaysCallable judge }
         requires lawful { (ask : _) (verdict : _) → Judge.post judge ask verdict → IsTrue (is_lawful verdict) }
@@ -50,7 +51,7 @@ impl PreHook {
         self.point == point
     }
 
-    /// What the closure answers.
+    /// Calls the closure, and returns its verdict.
     pub(crate) fn judge(&self, ask: &Ask) -> Verdict
         ensures lawful { IsTrue (is_lawful result) }
         ensures answer { Answers self.now ask.now result }

@@ -12,7 +12,7 @@ pub struct PreHooks {
     hooks: Vec<PreHook>,
 }
 
-/// Asks the closures in turn.
+/// Asks the closures, in order.
 fn ask_each(hooks: &[PreHook], ask: &Ask) -> Asked
     ensures closures { HooksGive hooks.now ask.now result }
     ensures status { IsTrue (has_lawful_status result) }
@@ -41,9 +41,9 @@ impl PreHooks {
         PreHooks { hooks }
     }
 
-    /// Asks the closures of the point, in their order. The first that refuses decides, with its own status and reason, and those
-    /// behind it aren't called. `Allowed` where none refuses, also where there is none, and in its place `AllowedFinish` at
-    /// `Point::Finish`. Takes no memory.
+    /// Asks the closures of the point, in order. The first one that refuses decides, with its own status and reason,
+    /// and those after it are not called. `Allowed` if none refuses, also if there is none; at `Point::Finish` this is
+    /// `AllowedFinish`. Takes no memory.
     pub fn ask(&self, ask: &Ask) -> Asked
         ensures closures { ClosuresGive self.now ask.now result }
         ensures status { IsTrue (has_lawful_status result) }

@@ -1,12 +1,12 @@
-//! A post-hook that keeps what it was handed.
+//! A post-hook that keeps the events that it was handed.
 ghost use Rattle.std.specs.Prelude.{◌≡◌, ◌++◌, ◌∷◌, [], true, OnOk};
 
 use crate::post_hook::{Outcome, PostHook};
 use std::alloc::Global;
 use up_events::{Event, NoMemory, make_room};
 
-/// A post-hook that calls a closure on each event that it is handed, and keeps the event with the closure's answer. A failure is
-/// kept as any other answer.
+/// A post-hook that calls a closure on each event that it is handed, and keeps the event with the outcome. A failure is
+/// kept like any other outcome.
 #[derive(Drop)]
 pub struct Recorder<F> {
     answer: F,
@@ -52,10 +52,10 @@ impl<F: Fn(&Event) -> Outcome + Send> Recorder<F> {
 
     /// A recorder that was handed nothing. Takes no memory.
     ///
-    /// The closure must be one that can be called on every event, that returns, since its lane waits for it, and that answers
-    /// `Failed` with no other code than 1 to 99. Where its body doesn't show that, a clause at the closure does:
-    /// `ensures { IsTrue (has_code result) }`. It is called on one event at a time, by the thread of its lane; what it shares
-    /// with the closures of other lanes may be used by several threads at once.
+    /// The closure must accept every event. It must return, since its lane waits for it. It may return `Failed` only
+    /// with the codes 1 to 99. If its body does not show that, a clause at the closure does:
+    /// `ensures { IsTrue (has_code result) }`. It is called on one event at a time, by the thread of its lane. What it
+    /// shares with the closures of other lanes may be used by several threads at once.
     pub fn new(alloc: Global, answer: F) -> Self
         requires callable { F.IsAlwaysCallable answer }
         requires codes { GivesCodes F.Fn answer }
@@ -73,7 +73,7 @@ impl<F: Fn(&Event) -> Outcome + Send> Recorder<F> {
 impl<F> Recorder<F> {
     ghost use Rattle.up_hooks.specs.Told.{told_by};
 
-    /// The events that it was handed, in order, each with what the closure answered. Takes no memory.
+    /// The events that it was handed, in order, each with the outcome from the closure. Takes no memory.
     pub fn list(&self) -> &[(Event, Outcome)]
         ensures { result.now ≡ told_by self.now }
     {

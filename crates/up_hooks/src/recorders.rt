@@ -7,8 +7,8 @@ use crate::recorder::Recorder;
 use std::alloc::Global;
 use up_events::{Event, NoMemory};
 
-/// A recorder for each lane, which was handed nothing. They all have this closure, which must be one that can be called on every
-/// event, and that answers `Failed` with no other code than 1 to 99.
+/// A recorder for each lane, which was handed nothing. They all have this closure, which must accept every event, and
+/// may return `Failed` only with the codes 1 to 99. `NoMemory` if memory runs out.
 pub fn new_recorders<F: Fn(&Event) -> Outcome + Send + Copy>(
     alloc: Global,
     lanes: u64,

@@ -1,16 +1,16 @@
-//! A post-hook that keeps nothing.
+//! A post-hook that keeps no events.
 ghost use Rattle.std.specs.Prelude.{◌≡◌, ◌-◌, ◌^◌, [], length, min, true};
 
 use crate::post_hook::{Outcome, PostHook};
 use up_events::{Event, NoMemory, Trace};
 
-/// A post-hook that calls a closure on each event that it is handed, and counts them. The list of what it was handed exists in proofs
-/// alone, so it needs no memory however many events come.
+/// A post-hook that calls a closure on each event that it is handed, and counts the events. The list of these events
+/// exists only in proofs, so it needs no memory, however many events come.
 #[derive(Drop)]
 pub struct Teller<F> {
     answer: F,
     told: Trace<Event>,
-    /// How many events it was handed, up to 2^64 - 1.
+    /// The number of events that it was handed, up to 2^64 - 1.
     count: u64,
     ghost counted: { count ≡ min (length told.items) (2 ^ 64 - 1) },
 }
@@ -42,7 +42,7 @@ impl<F: Fn(&Event) -> Outcome + Send> PostHook for Teller<F> {
 impl<F: Fn(&Event) -> Outcome + Send> Teller<F> {
     ghost use Rattle.up_hooks.specs.Told.{GivesCodes};
 
-    /// A teller that was handed nothing. The closure must be one that a `Recorder` could have.
+    /// A teller that was handed nothing. The closure must meet the requirements of `Recorder::new`.
     pub fn new(answer: F) -> Self
         requires callable { F.IsAlwaysCallable answer }
         requires codes { GivesCodes F.Fn answer }
@@ -58,7 +58,7 @@ impl<F: Fn(&Event) -> Outcome + Send> Teller<F> {
 }
 
 impl<F> Teller<F> {
-    /// How many events it was handed, up to 2^64 - 1.
+    /// The number of events that it was handed, up to 2^64 - 1.
     pub fn count(&self) -> u64
         ensures { result ≡ min (length self.now.told.items) (2 ^ 64 - 1) }
     {

@@ -1,4 +1,4 @@
-//! The post-hooks of the lanes of a server without an end.
+//! The post-hooks of the lanes of a server that runs without end.
 ghost use Rattle.std.specs.Prelude.{◌≡◌, [], All, IfOk, length};
 ghost use Rattle.up_hooks.specs.Told.{GivesCodes};
 
@@ -7,8 +7,8 @@ use crate::teller::Teller;
 use std::alloc::Global;
 use up_events::{Event, NoMemory};
 
-/// A teller for each lane, which was handed nothing. They all have this closure, which must be one that can be called on every
-/// event, and that answers `Failed` with no other code than 1 to 99.
+/// A teller for each lane, which was handed nothing. They all have this closure, which must accept every event, and may
+/// return `Failed` only with the codes 1 to 99. `NoMemory` if memory runs out.
 pub fn new_tellers<F: Fn(&Event) -> Outcome + Send + Copy>(
     alloc: Global,
     lanes: u64,

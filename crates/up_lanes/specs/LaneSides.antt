@@ -15,6 +15,7 @@ pub record LaneSide (H : Type 0) : Type 0 where
 abbrev pub lane_side : {H : Type 0} → ℕ → QueueId → List Event → Bool → H → LaneSide H
 lane_side lane queue handed ended hook = record { lane = lane; queue = queue; handed = handed; ended = ended; hook = hook }
 
--- the hook is the one that it was: it may answer to an event only what it might have answered before
+-- the hook stays the same: the outcomes that it may return for an event are among those that it might have returned
+-- before
 abbrev pub StaysAlike : {H : Type 0} → (H → Event → Outcome → Type 0) → H → H → Type 0
 StaysAlike may_answer old new = (event : Event) (outcome : Outcome) → may_answer new event outcome → may_answer old event outcome

@@ -1,4 +1,4 @@
--- A list of events is lawful in one way only, so that a type can keep the fact.
+-- For the prover: any two proofs that a list of events is lawful are equal, so that a type can keep this fact.
 use Rattle.std.specs.Prelude.{◌≡◌, ℕ, zero, suc, ◌+◌, List, [], ◌∷◌, Option, filter, refl}
 use Rattle.std.specs.Coded.{Coded, Coded-set, coded_ℕ, coded_list, coded_option, coded×, code_by, Π_prop, ×_prop, Unit-prop, le_prop}
 use Rattle.up_events.specs.declared.event.Event.{Event}

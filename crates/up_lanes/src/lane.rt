@@ -15,27 +15,27 @@ use std::time::Duration;
 use up_hooks::PostHook;
 use up_queue::{Item, TakeEnd};
 
-/// How many times a lane that finds its queue empty naps before it sleeps until it is woken. While it naps nobody has to wake it, and what
-/// comes is handed over together.
+/// How many times a lane with an empty queue naps before it sleeps until it is woken. While it naps nobody has to wake
+/// it, and the items that arrive are handed over together.
 const MOST_NAPS: u32 = 10;
 
-/// How many microseconds a nap takes.
+/// The length of a nap, in microseconds.
 const NAP: u64 = 1_000;
 
-/// What came of a step.
+/// The result of a step.
 #[derive(Clone, Copy, Debug, PartialEq, Eq)]
 pub enum StepEnd {
     /// One event was taken and handed over.
     Handed,
-    /// The queue gave nothing. By the contract that may be although an item is there.
+    /// The queue returned no item. According to the contract, this is possible although it holds one.
     Nothing,
-    /// The end was taken, in this step or in an earlier one. No step does anything any more.
+    /// The end was taken, in this step or in an earlier one. No later step does anything.
     Ended,
     /// The post-hook had no memory for one more event, so nothing was taken.
     NoMemory,
 }
 
-/// The end of a queue at which items are taken, and the post-hook to which the events are handed.
+/// The end of a queue at which items are taken, and the post-hook that is handed the events.
 #[derive(Drop)]
 pub struct Lane<H: PostHook> {
     lane: u64,
@@ -43,7 +43,7 @@ pub struct Lane<H: PostHook> {
     hook: H,
     /// Whether the end was taken.
     ended: bool,
-    /// How many items were taken, modulo 2^64.
+    /// The number of items that were taken, modulo 2^64.
     taken: u64,
 }
 
@@ -68,7 +68,7 @@ impl<H: PostHook> Model for Lane<H> {
 }
 
 impl<H: PostHook> Lane<H> {
-    /// A lane that has handed nothing to its post-hook, over a queue of which nothing was taken. Takes no memory.
+    /// A lane that has handed nothing to its post-hook, with a queue from which nothing was taken. Takes no memory.
     pub fn new(lane: u64, take_end: TakeEnd, hook: H) -> Lane<H>
         requires sound { H.is_sound hook }
         requires taken { take_end.taken ≡ [] }
@@ -84,8 +84,8 @@ impl<H: PostHook> Lane<H> {
         }
     }
 
-    /// The lane as it stood when it ended, with the same post-hook: what was taken and handed over stays, and a lane that was
-    /// drained takes nothing more. Takes no memory.
+    /// The lane in the state in which it ended, with the same post-hook: what was taken and handed over stays, and a
+    /// drained lane takes nothing more. Takes no memory.
     pub fn resume(end: LaneEnd<H>) -> Lane<H>
         requires sound { H.is_sound end.hook }
         ensures { result ≡ lane_side end.lane end.take_end.queue (H.handed end.hook) (is_drained end.how) end.hook }
@@ -106,8 +106,8 @@ impl<H: PostHook> Lane<H> {
         }
     }
 
-    /// Takes one item once the post-hook has room for an event, and hands the event over. It doesn't sleep. `Nothing` may be
-    /// answered although an item is there.
+    /// Takes one item once the post-hook has room for an event, and hands the event over. It does not sleep. The result
+    /// may be `Nothing` although the queue holds an item.
     pub fn step<R: Wait>(&mut self, rt: &R) -> StepEnd
         ensures step { StepsTo result self.old self.new }
         ensures lawful { IsLawful self.new.handed }
@@ -135,8 +135,9 @@ impl<H: PostHook> Lane<H> {
         }
     }
 
-    /// Steps until the end was taken, or until the post-hook has no memory for one more event. Where the queue is empty it is
-    /// refilled; if it stays empty the lane naps a number of times, and then sleeps until there may be something.
+    /// Repeats steps until the end was taken, or until the post-hook has no memory for one more event. If the queue is
+    /// empty, it is refilled. If it stays empty, the lane naps a number of times, and then sleeps until there may be an
+    /// item.
     pub fn run<R: Wait, T: Refill>(mut self, rt: &R, refill: &T) -> LaneEnd<H>
         ensures sound { H.is_sound result.hook }
         ensures same { (result.lane ≡ self.lane) × (result.take_end.queue ≡ self.queue) }
@@ -167,7 +168,7 @@ impl<H: PostHook> Lane<H> {
         self.into_end()
     }
 
-    /// What the lane leaves where it stands.
+    /// What remains of the lane when it ends in this state.
     fn into_end(self) -> LaneEnd<H>
         ensures sound { H.is_sound result.hook }
         ensures same { (result.lane ≡ self.lane) × (result.take_end.queue ≡ self.queue) }

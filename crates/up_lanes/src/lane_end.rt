@@ -1,4 +1,4 @@
-//! What a lane leaves when it ends.
+//! What remains of a lane when it ends.
 ghost use Rattle.std.specs.Prelude.{◌≡◌, ◌%◌, ◌^◌, length};
 ghost use Rattle.up_events.specs.Log.{IsLawful};
 ghost use Rattle.up_queue.specs.Line.{items_if};
@@ -11,7 +11,7 @@ use up_queue::TakeEnd;
 /// How a lane ended.
 #[derive(Clone, Copy, Debug, PartialEq, Eq)]
 pub enum How {
-    /// It took the end that was put behind its last event.
+    /// It took the end, which was put after its last event.
     Drained,
     /// Its post-hook had no memory for one more event.
     Stopped,
@@ -29,16 +29,16 @@ impl How {
     }
 }
 
-/// What a lane leaves. What it took from its queue is what it handed to its post-hook, and the end behind that just where it
-/// is drained.
+/// What remains of a lane. What it took from its queue is what it handed to its post-hook, followed by the end exactly
+/// if it is drained.
 #[derive(Drop)]
 pub struct LaneEnd<H: PostHook> {
-    /// The lane, from 0 on.
+    /// The lane. The first lane is 0.
     pub lane: u64,
     pub hook: H,
     pub take_end: TakeEnd,
     pub how: How,
-    /// How many items the lane took, modulo 2^64.
+    /// The number of items that the lane took, modulo 2^64.
     pub(crate) taken: u64,
     pub ghost kept: { take_end.taken ≡ items_if (H.handed hook) (is_drained how) },
     pub ghost lawful: { IsLawful (H.handed hook) } by { lawful_once (H.handed hook) },

@@ -1,5 +1,5 @@
-//! Lanes. A lane takes the events of its uploads out of a queue, one after another, and hands them to its post-hook, in the
-//! thread that runs it.
+//! Lanes. A lane takes the events of its uploads from a queue, one after another, and hands them to its post-hook, in
+//! the thread that runs the lane.
 #![tactic(auto)]
 
 mod lane;

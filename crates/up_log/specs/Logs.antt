@@ -1,4 +1,4 @@
--- What contracts say of a log, and of one that is being read.
+-- The state of a log, and of a log that is being read.
 use Rattle.std.specs.Prelude.{◌≡◌, ℕ, ◌-◌, List, [], ◌∷◌, ◌++◌, length, Bool, true, false, IsTrue, Option, Some, None, Result, Ok, Err}
 use Rattle.sqlite_disk.specs.Disk.{Only}
 use Rattle.sqlite_disk.specs.declared.Disk.{Ghosts}
@@ -12,14 +12,14 @@ use Rattle.up_log.specs.declared.setup.Setup.{Setup}
 use Rattle.up_log.specs.Blocks.{blocks, written, IsAtRest, IsClosed}
 use Rattle.up_log.specs.Spelling.{batch}
 
--- the file is at rest, its gate is known, all of it is on the disk, and no call has failed
+-- the file is at rest, the place of its gate is known, all of the file is on the disk, and the disk can be used
 pub record IsSettled {D : Type 0} (g : Ghosts D) (log : Log D) (setup : Setup) (batches : List (List Entry)) : Type 0 where
   pub file : IsAtRest setup (g.seen log.device) batches
   pub place : log.gate ≡ length (written setup batches)
   pub durable : Only (g.seen log.device) (g.may_leave log.device)
   pub usable : IsTrue (g.is_usable log.device)
 
--- a file of the batches that were read and of those that are left, as much as a disk and a place tell of it
+-- a file with the batches that were read and those that are left, with its length and the place of the next block
 pub record IsPart (setup : Setup) (file : List ℕ) (gate len : ℕ) (read left : List (List Entry)) : Type 0 where
   pub back : List ℕ
   pub whole : file ≡ written setup read ++ (blocks left ++ back)
@@ -32,7 +32,7 @@ abbrev pub IsReading : {D : Type 0} → Ghosts D → LogReader D → Setup → L
 IsReading g reader setup read left =
     IsPart setup (g.seen reader.device) reader.gate reader.len read left × Only (g.seen reader.device) (g.may_leave reader.device)
 
--- the file isn't that of such a server, or is damaged
+-- the file is not the log of a server with this setup, or is damaged
 abbrev pub IsRefusal : LogFault → Type 0
 IsRefusal fault.Foreign = Unit {0}
 IsRefusal (fault.Version version) = Unit {0}
@@ -41,7 +41,7 @@ IsRefusal (fault.MaxSize made asked) = Unit {0}
 IsRefusal fault.Damaged = Unit {0}
 IsRefusal other = ⊥
 
--- how many bytes of the file weren't read
+-- the number of bytes of the file that were not read
 abbrev pub unread : {D : Type 0} → LogReader D → ℕ
 unread reader = reader.len - reader.gate
 
@@ -54,44 +54,45 @@ abbrev pub IsDamaged : LogFault → Type 0
 IsDamaged fault.Damaged = Unit {0}
 IsDamaged other = ⊥
 
--- the size of this batch, or no damage
+-- the size of this batch, or an error that is not damage
 abbrev pub HasSize : List Entry → Result ℕ LogFault → Type 0
 HasSize first (Ok size) = size ≡ length (batch first)
 HasSize first (Err e) = IsDamaged e → ⊥
 
--- this batch, or no damage
+-- this batch, or an error that is not damage
 abbrev pub IsBatch : List Entry → Result (List Entry) LogFault → Type 0
 IsBatch first (Ok entries) = entries ≡ first
 IsBatch first (Err e) = IsDamaged e → ⊥
 
--- the first of the batches that are left, with the place behind its block, none if none is left, or no damage
+-- the first of the batches that are left, with the place after its block; none if none is left; or an error that is not
+-- damage
 abbrev pub ReadsAt : Setup → List (List Entry) → List (List Entry) → Result (Option (List Entry × ℕ)) LogFault → Type 0
 ReadsAt setup read left (Ok None) = left ≡ []
 ReadsAt setup read left (Ok (Some found)) =
     (others : List (List Entry)) × (left ≡ found.0 ∷ others) × (found.1 ≡ length (written setup (read ++ found.0 ∷ [])))
 ReadsAt setup read left (Err e) = IsDamaged e → ⊥
 
--- this batch and this place, or no damage
+-- this batch and this place, or an error that is not damage
 abbrev pub BlockIs : List Entry → ℕ → Result (List Entry × ℕ) LogFault → Type 0
 BlockIs first end (Ok block) = (block.0 ≡ first) × (block.1 ≡ end)
 BlockIs first end (Err e) = IsDamaged e → ⊥
 
 module _ {D : Type 0} (g : Ghosts D) where
-  -- no wrong answer of the disk was taken as true
+  -- no wrong data from the disk was taken as correct
   abbrev pub IsCleanReader : LogReader D → Type 0
   IsCleanReader reader = IsTrue (g.is_clean reader.device)
 
   abbrev pub IsCleanLog : Log D → Type 0
   IsCleanLog log = IsTrue (g.is_clean log.device)
 
-  -- the first of the batches that are left, none if none is left, or no damage
+  -- the first of the batches that are left; none if none is left; or an error that is not damage
   abbrev pub ReadsNext : LogReader D → Setup → List (List Entry) → List (List Entry) → Result (Option (List Entry)) LogFault → Type 0
   ReadsNext new setup read left (Ok None) = (left ≡ []) × IsReading g new setup read left
   ReadsNext new setup read left (Ok (Some entries)) =
       (others : List (List Entry)) × (left ≡ entries ∷ others) × IsReading g new setup (read ++ entries ∷ []) others
   ReadsNext new setup read left (Err e) = (IsDamaged e → ⊥) × IsReading g new setup read left
 
-  -- what a crash may leave of the file, which the disk read without a lie
+  -- what a crash may leave of the file, if the disk read it correctly
   abbrev pub reader_leaves : Result (LogReader D) (Refused D) → List ℕ → Type 0
   reader_leaves (Ok reader) c = IsCleanReader reader × g.may_leave reader.device c
   reader_leaves (Err refused) c = IsTrue (g.is_clean refused.device) × g.may_leave refused.device c

@@ -13,7 +13,7 @@ use Rattle.up_log.specs.declared.entry.Entry.{Entry}
 use Rattle.up_log.specs.declared.fault.Unread.{Unread}
 use Rattle.up_log.specs.declared.fault.Unread.TheVariants as unread
 
--- a value and the bytes after it, or none where the bytes begin with no such value
+-- a value and the bytes after it, or none if the bytes do not begin with such a value
 abbrev pub Read : Type 0 → Type 0
 Read X = Option (X × List ℕ)
 
@@ -22,7 +22,7 @@ abbrev pub ◌>>=◌ : {A B : Type 0} → Option A → (A → Option B) → Opti
 (Some x) >>= f = f x
 None >>= f = None
 
--- what a function answered, seen by view, is what reading gives, unless memory ran out
+-- the result of a function, seen through `view`, is what reading yields, unless memory ran out
 abbrev pub Fails : {Y : Type 0} → Unread → Option Y → Type 0
 Fails unread.Memory read = Unit {0}
 Fails unread.Damaged read = read ≡ None
@@ -151,7 +151,7 @@ entry_at bytes = do
 unfoldable pub batch_at : List ℕ → Read (List Entry)
 batch_at bytes = many_at entry_at bytes
 
--- a batch with nothing behind it
+-- a batch with no bytes after it
 unfoldable pub whole_at : List ℕ → Option (List Entry)
 whole_at bytes = do
   entries ← batch_at bytes

@@ -1,4 +1,4 @@
--- The one spelling of an entry, and of a batch of entries.
+-- The encoding of an entry, and of a batch of entries. Each has only one encoding.
 use Rattle.std.specs.Prelude.{ℕ, Bool, true, false, ◌%◌, ◌/◌, ◌^◌, List, [], ◌∷◌, ◌++◌, length, Option, Some, None, Result, Ok, Err}
 use Rattle.std.specs.List.{flat_map}
 use Rattle.up_events.specs.declared.event.Kind.{Kind}
@@ -12,8 +12,8 @@ use Rattle.up_log.specs.declared.entry.Consent.{Consent}
 use Rattle.up_log.specs.declared.entry.Consent.TheVariants.{Skipped, Allowed, AllowedFinish}
 use Rattle.up_log.specs.declared.entry.Entry.{Entry}
 
--- a number in eight cells, the lowest first. Below 2^64 each of them is a byte; the last takes what is above, so that
--- no two numbers have one spelling
+-- a number in eight cells, the lowest first. Below 2^64 each cell is a byte; the last cell takes everything above, so
+-- that no two numbers have the same encoding
 unfoldable pub word : ℕ → List ℕ
 word n =
     let a = n / 256 in
@@ -29,7 +29,7 @@ word n =
 abbrev pub id : ℕ → List ℕ
 id n = word (n % 2 ^ 64) ++ word (n / 2 ^ 64)
 
--- so many bytes follow, and the bytes
+-- the number of bytes, and the bytes
 abbrev pub text : List ℕ → List ℕ
 text bytes = word (length bytes) ++ bytes
 
@@ -38,7 +38,7 @@ abbrev pub maybe : {X : Type 0} → (X → List ℕ) → Option X → List ℕ
 maybe field None = 0 ∷ []
 maybe field (Some x) = 1 ∷ field x
 
--- so many fields follow, and the fields
+-- the number of fields, and the fields
 abbrev pub many : {X : Type 0} → (X → List ℕ) → List X → List ℕ
 many field xs = word (length xs) ++ flat_map field xs
 

@@ -1,4 +1,4 @@
-//! Adding batches of entries at the end of a log.
+//! Appending batches of entries to a log.
 ghost use Rattle.std.specs.Prelude.{◌≡◌, ◌⊎◌, ◌++◌, ◌∷◌, [], List, ℕ, OnOk, IsErr, OnErr, IsTrue, Err};
 ghost use Rattle.up_log.specs.Blocks.{IsBeforeOrAfter};
 ghost use Rattle.up_log.specs.Logs.{IsCleanLog, IsSettled};
@@ -12,29 +12,29 @@ use crate::writing::closed_body;
 use sqlite_disk::Disk;
 use std::alloc::Global;
 
-/// A log to which batches can be added. Each stands in a block behind a gate, a byte that is opened by a write of its
-/// own once the block is on the disk.
+/// A log to which batches can be appended. Each batch is in a block after a gate. The gate is a byte, which a separate
+/// write opens once the block is on the disk.
 #[derive(Drop)]
 pub struct Log<D: Disk> {
     pub(crate) device: D,
-    /// Where the next block begins.
+    /// The place of the next block.
     pub(crate) gate: usize,
-    /// Whether a call failed so that it isn't known what a crash leaves of the file.
+    /// Whether a call failed in such a way that it is not known what a crash leaves of the file.
     pub(crate) is_broken: bool,
 }
 
 impl<D: Disk> Log<D> {
-    /// The file, which takes no more of this log.
+    /// The file. This log is then used up.
     pub fn into_device(self) -> D
         ensures { result ≡ self.device }
     {
         self.device
     }
 
-    /// Adds a batch of entries, and returns once it is on the disk: from `Ok` on each crash leaves a log that has it.
-    /// A crash in the call, or after an error, leaves the log with the whole batch or without it. After `Memory` the
-    /// log is as it was. After another error it has the batches that it had, as on a full disk, and may be tried
-    /// again; or it takes no more (`Broken`), and is to be opened again.
+    /// Appends a batch of entries, and returns once it is on the disk: after `Ok`, every crash leaves a log with the
+    /// batch. A crash during the call, or after an error, leaves the log with the whole batch or without it. After
+    /// `Memory` the log is unchanged. After any other error, either the log has the batches that it had, as on a full
+    /// disk, and the call may be retried; or the log accepts no more batches (`Broken`) and must be opened again.
     pub fn append(&mut self, alloc: Global, entries: &[Spelled]) -> Result<(), LogFault>
         ensures durable { (setup : Numbers) (batches : List (List Logged))
             → IsSettled D.Disk self.old setup batches

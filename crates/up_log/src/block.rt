@@ -1,4 +1,4 @@
-//! A block of a log, read from its place.
+//! Reading a block of a log at its place.
 ghost use Rattle.std.specs.Prelude.{◌≡◌, ◌+◌, ◌<◌, ◌≤◌, ◌++◌, ◌∷◌, List, ℕ, length, take, drop, IfOk, IfErr, IsTrue};
 ghost use Rattle.up_log.specs.Blocks.{blocks, IsClosed};
 ghost use Rattle.up_log.specs.Logs.{NextIs, HasSize, IsBatch, BlockIs, IsDamaged};
@@ -45,7 +45,7 @@ pub(crate) fn begins_at<D: Disk>(disk: &mut D, len: usize, gate: usize) -> Resul
     Ok(true)
 }
 
-/// How many bytes the batch of the block takes that begins at this place.
+/// The number of bytes of the batch in the block at this place.
 fn size_at<D: Disk>(disk: &mut D, len: usize, gate: usize) -> Result<usize, LogFault>
     ensures size { (first : List Logged) (others : List (List Logged)) (back : List ℕ)
         → drop gate (D.seen disk.old) ≡ blocks (first ∷ others) ++ back
@@ -73,7 +73,7 @@ fn size_at<D: Disk>(disk: &mut D, len: usize, gate: usize) -> Result<usize, LogF
     Ok(size)
 }
 
-/// The batch that so many bytes at this place spell.
+/// The batch that is encoded in the `size` bytes at this place.
 fn batch_from<D: Disk>(
     alloc: Global,
     disk: &mut D,
@@ -97,7 +97,7 @@ fn batch_from<D: Disk>(
     }
 }
 
-/// The batch of the block that begins at this place, and the place behind it.
+/// The batch of the block at this place, and the place after the block.
 pub(crate) fn block_at<D: Disk>(
     alloc: Global,
     disk: &mut D,

@@ -7,7 +7,7 @@ use crate::fault::LogFault;
 use sqlite_disk::Disk;
 use std::alloc::Global;
 
-/// Fills a buffer with the bytes that begin at this place.
+/// Fills a buffer with the bytes from this place on.
 pub(crate) fn read_from<D: Disk>(disk: &mut D, at: usize, buf: &mut [u8]) -> Result<(), LogFault>
     requires some { 0 < length buf.old }
     ensures bytes { OnOk result (IsTrue (D.is_clean disk.new)
@@ -25,7 +25,7 @@ pub(crate) fn read_from<D: Disk>(disk: &mut D, at: usize, buf: &mut [u8]) -> Res
     Ok(())
 }
 
-/// So many bytes that begin at this place.
+/// The `size` bytes from this place on.
 pub(crate) fn read_vec<D: Disk>(
     alloc: Global,
     disk: &mut D,
@@ -46,7 +46,7 @@ pub(crate) fn read_vec<D: Disk>(
     Ok(bytes)
 }
 
-/// How many bytes the file has.
+/// The number of bytes of the file.
 pub(crate) fn len_of<D: Disk>(disk: &mut D) -> Result<usize, LogFault>
     ensures len { IfOk result (λ n. IsTrue (D.is_clean disk.new) → n ≡ length (D.seen disk.old)) }
     ensures fault { IfErr result (λ fault. IsDamaged fault → ⊥) }
@@ -61,7 +61,7 @@ pub(crate) fn len_of<D: Disk>(disk: &mut D) -> Result<usize, LogFault>
     Ok(disk.len()?)
 }
 
-/// Brings all that a file has to the disk.
+/// Writes everything in the file through to the disk.
 pub(crate) fn settle<D: Disk>(disk: &mut D) -> Result<(), LogFault>
     ensures synced { OnOk result (Only (D.seen disk.new) (D.may_leave disk.new)
         × IsTrue (D.is_usable disk.new)) }
@@ -78,7 +78,7 @@ pub(crate) fn settle<D: Disk>(disk: &mut D) -> Result<(), LogFault>
     Ok(())
 }
 
-/// Writes bytes at this place, so that they are on the disk at `Ok`.
+/// Writes bytes at this place. After `Ok` they are on the disk.
 pub(crate) fn write_synced<D: Disk>(disk: &mut D, at: usize, bytes: &[u8]) -> Result<(), LogFault>
     requires some { 0 < length bytes.now }
     ensures written { OnOk result (Holds (D.seen disk.new) at bytes.now) }
@@ -98,7 +98,7 @@ pub(crate) fn write_synced<D: Disk>(disk: &mut D, at: usize, bytes: &[u8]) -> Re
     settle(disk)
 }
 
-/// Whether all that a file has is on the disk, which is tried after a write that failed.
+/// Whether all of the file is on the disk. This is tried after a write that failed.
 fn settles<D: Disk>(disk: &mut D) -> bool
     ensures synced { IsTrue result → Only (D.seen disk.new) (D.may_leave disk.new)
         × IsTrue (D.is_usable disk.new) }
@@ -109,7 +109,7 @@ fn settles<D: Disk>(disk: &mut D) -> bool
     settle(disk).is_ok()
 }
 
-/// As `write_synced`; it also tells whether all that the file then has is on the disk, also after an error.
+/// Like `write_synced`, but also returns whether all of the file is on the disk afterwards, even after an error.
 pub(crate) fn write_settled<D: Disk>(
     disk: &mut D,
     at: usize,

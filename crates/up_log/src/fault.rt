@@ -1,4 +1,4 @@
-//! Why a log can't be read or written.
+//! Why a log cannot be read or written.
 ghost use Rattle.std.specs.Prelude.{◌≡◌};
 ghost use Rattle.up_log.specs.declared.fault.Unread.TheVariants.{Memory};
 ghost use Rattle.up_log.specs.declared.fault.LogFault.TheVariants as log_fault;
@@ -7,12 +7,12 @@ use std::alloc::{AllocError, AllocFailed};
 use std::io;
 use thiserror::Error;
 
-/// Why a field isn't read from bytes.
+/// Why a field cannot be read from bytes.
 #[derive(Clone, Copy, Debug, PartialEq, Eq, Error)]
 pub enum Unread {
     #[error("out of memory")]
     Memory,
-    /// The bytes begin with no such field.
+    /// The bytes do not begin with such a field.
     #[error("no such field")]
     Damaged,
 }
@@ -36,25 +36,25 @@ impl<T: Drop> From<AllocFailed<T>> for Unread {
 /// Why a call of a log failed.
 #[derive(Clone, Copy, Debug, Error)]
 pub enum LogFault {
-    /// Out of memory. The call can be made again.
+    /// Memory ran out. The call can be retried.
     #[error("out of memory")]
     Memory,
-    /// The file is no log. It is left as it is.
+    /// The file is not a log. It is unchanged.
     #[error("the file is no log of up")]
     Foreign,
-    /// The log is of a version that this program doesn't know. It is left as it is.
+    /// The log has a version that this program does not support. It is unchanged.
     #[error("the log has version {0}, and this program reads version 1")]
     Version(u64),
-    /// The log is that of a server with another number of lanes. It is left as it is.
+    /// The log belongs to a server with another number of lanes. It is unchanged.
     #[error("the log was made with {made} lanes, and is opened with {asked}")]
     Lanes { made: u64, asked: u64 },
-    /// The log is that of a server with another largest size of an upload, in bytes. It is left as it is.
+    /// The log belongs to a server with another maximum size of an upload, in bytes. It is unchanged.
     #[error("the log was made for uploads of at most {made} bytes, and is opened for {asked}")]
     MaxSize { made: u64, asked: u64 },
-    /// A block behind an open gate holds no batch: the file was changed by something else, or its medium decays.
+    /// A block after an open gate does not contain a batch: something else changed the file, or the medium is failing.
     #[error("the log is damaged")]
     Damaged,
-    /// Batches are left that were not read.
+    /// Some batches were not read.
     #[error("the log was not read to its end")]
     NotRead,
     /// Another server has the file open.
@@ -63,7 +63,7 @@ pub enum LogFault {
     /// The disk failed, or is full.
     #[error("the disk failed: {0}")]
     Disk(io::Error),
-    /// An earlier call failed, so that the file has to be opened again.
+    /// An earlier call failed, so that the file must be opened again.
     #[error("an earlier write of the log failed")]
     Broken,
 }

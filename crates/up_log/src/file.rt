@@ -1,12 +1,13 @@
-//! The log in a file of the system.
+//! A log in a file of the system.
 use crate::fault::LogFault;
 use crate::reader::LogReader;
 use crate::setup::Setup;
 use sqlite_disk::{Files, Start};
 use sqlite_std_file::{FileFrom, OpenError, open};
 
-/// Opens the file at this path, which is made if there is none. Until it is dropped nobody else opens it (`Busy`). An
-/// empty file with `-wal` at the end of its name stays beside it.
+/// Opens the file at this path, and creates it if there is none. Until it is dropped, nobody else can open the file
+/// (`Busy`). An empty file with the same name and `-wal` at its end stays next to it. `Disk` if the system reports an
+/// error, `Foreign` if the file is part of a database, `Memory` if memory runs out.
 pub fn open_device<S: Start>(
     rt: &HostRuntime,
     path: &str,
@@ -21,7 +22,8 @@ pub fn open_device<S: Start>(
     }
 }
 
-/// Begins to open the log of a server of this setup in the file at this path, as `open_device` does.
+/// Starts to open the log of a server with this setup in the file at this path. The errors are those of `open_device`
+/// and of `LogReader::open`.
 pub fn open_file<S: Start>(
     rt: &HostRuntime,
     path: &str,

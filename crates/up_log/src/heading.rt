@@ -1,4 +1,4 @@
-//! The heading of a log's file: read, and written to a file that has none.
+//! The heading of a log file: reading it, and writing it to a file that has none.
 ghost use Rattle.std.specs.Prelude.{◌≡◌, ◌≤◌, ◌++◌, ◌∷◌, [], List, ℕ, length, take, slice_index_or, vec_len, IfOk, OnOk, IfErr, IsTrue};
 ghost use Rattle.sqlite_disk.specs.Disk.{Only};
 ghost use Rattle.up_log.specs.Blocks.{heading, beginning, IsFileOf, IsLog, IsOurs, IsShut, IsUnfinished};
@@ -14,10 +14,10 @@ use crate::writing::word_of;
 use sqlite_disk::Disk;
 use std::alloc::{AllocError, Global};
 
-/// The bytes of a gate and a heading.
+/// The number of bytes of a gate and a heading.
 pub(crate) const BEGINNING: usize = 33;
 
-/// How the file of a log begins, and behind it the first gate, which is closed.
+/// The start of a log file, followed by the first gate, which is closed.
 #[tactic(auto, unfolding(crate::specs::Blocks::heading, crate::specs::Blocks::beginning))]
 fn whole_heading(alloc: Global, setup: Setup) -> Result<Vec<u8>, AllocError>
     ensures bytes { IfOk result (λ bytes. bytes.items ≡ beginning setup ++ 0 ∷ []) }
@@ -48,8 +48,8 @@ fn begins_with(bytes: &[u8], front: &[u8]) -> bool
     are_same(first, front)
 }
 
-/// Whether a file that is so, or begins so and is longer, has no whole heading yet, where this is to stand behind its
-/// gate.
+/// Whether a file has no complete heading yet. `front` is the start of the file, or all of it. `closed` is the heading
+/// that belongs after the gate, with the next gate.
 #[tactic(auto, using(crate::proofs::Headings::short_is, crate::proofs::Headings::zero_is, crate::proofs::Headings::whole_is))]
 fn is_unfinished(front: &[u8], closed: &[u8]) -> bool
     ensures { (setup : Numbers) → closed.now ≡ heading setup ++ 0 ∷ [] → IsTrue result
@@ -78,7 +78,7 @@ fn first_of(bytes: &[u8]) -> u8
     bytes[0]
 }
 
-/// Why a file that begins so isn't the log of such a server.
+/// Why a file with this start is not the log of a server with this setup.
 fn refusal(front: &[u8], setup: Setup) -> LogFault
     ensures { IsRefusal result }
 {
@@ -115,7 +115,7 @@ fn difference(version: u64, lanes: u64, max_size: u64, setup: Setup) -> LogFault
     }
 }
 
-/// Closes the gate of a file with no whole heading, which begins with this byte.
+/// Closes the gate of a file without a complete heading, whose first byte is `first`.
 fn shut<D: Disk>(disk: &mut D, first: u8) -> Result<(), LogFault>
     ensures shut { (setup : Numbers) → IsUnfinished setup (D.seen disk.old)
         → first ≡ slice_index_or (D.seen disk.old) 0 1
@@ -135,7 +135,7 @@ fn shut<D: Disk>(disk: &mut D, first: u8) -> Result<(), LogFault>
     Ok(())
 }
 
-/// Writes a heading behind a closed gate, and then opens the gate.
+/// Writes a heading after a closed gate, and then opens the gate.
 fn write_heading<D: Disk>(disk: &mut D, closed: &[u8]) -> Result<(), LogFault>
     ensures opened { (setup : Numbers) → closed.now ≡ heading setup ++ 0 ∷ []
         → IsShut (D.seen disk.old)
@@ -156,8 +156,7 @@ fn write_heading<D: Disk>(disk: &mut D, closed: &[u8]) -> Result<(), LogFault>
     Ok(())
 }
 
-/// The first bytes of a file, as many as there are and no more than a beginning takes, with the gate behind it, and
-/// one.
+/// The first bytes of a file, if it has them: those of the gate and the heading, the next gate, and one more byte.
 fn front_of<D: Disk>(alloc: Global, disk: &mut D, len: usize) -> Result<Vec<u8>, LogFault>
     ensures bytes { IfOk result (λ front. IsTrue (D.is_clean disk.new)
         → len ≡ length (D.seen disk.old)
@@ -174,7 +173,7 @@ fn front_of<D: Disk>(alloc: Global, disk: &mut D, len: usize) -> Result<Vec<u8>,
     Ok(front)
 }
 
-/// Writes the heading of a file that has none yet, and begins with this byte.
+/// Writes the heading of a file that has none yet, and whose first byte is `first`.
 fn begin_anew<D: Disk>(disk: &mut D, first: u8, closed: &[u8]) -> Result<(), LogFault>
     ensures opened { (setup : Numbers) → closed.now ≡ heading setup ++ 0 ∷ []
         → IsUnfinished setup (D.seen disk.old) → first ≡ slice_index_or (D.seen disk.old) 0 1
@@ -193,8 +192,8 @@ fn begin_anew<D: Disk>(disk: &mut D, first: u8, closed: &[u8]) -> Result<(), Log
     Ok(())
 }
 
-/// Makes sure that a file is the log of such a server, and begins one on a file that has no heading yet. Gives its
-/// length.
+/// Makes sure that a file is the log of a server with this setup, and starts a log in a file that has no heading yet.
+/// Returns the length of the file.
 pub(crate) fn begin<D: Disk>(alloc: Global, disk: &mut D, setup: Setup) -> Result<usize, LogFault>
     ensures ours { OnOk result (IsTrue (D.is_clean disk.new) → IsOurs setup (D.seen disk.old)) }
     ensures unchanged { IfErr result (λ fault. IsRefusal fault → (D.seen disk.new ≡ D.seen disk.old)

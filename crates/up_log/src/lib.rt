@@ -1,4 +1,4 @@
-//! A log of what is committed, on a disk, from which a book can be made again after a restart or a crash.
+//! A log of commits on a disk, from which a book can be restored after a restart or a crash.
 #![tactic(auto)]
 
 mod appending;

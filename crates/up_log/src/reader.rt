@@ -1,4 +1,4 @@
-//! Opening a log: its batches one after another, and then its end repaired.
+//! Opening a log: reading its batches one after another, and then repairing its end.
 ghost use Rattle.std.specs.Prelude.{◌≡◌, ◌<◌, ◌++◌, [], List, ℕ, length, IfOk, IfSome, IfErr, OnOk, IsTrue};
 ghost use Rattle.sqlite_disk.specs.Disk.{Only};
 ghost use Rattle.up_log.specs.Blocks.{written, IsAtRest, IsFileOf, IsLog, IsOurs};
@@ -17,25 +17,25 @@ use sqlite_disk::Disk;
 use std::alloc::Global;
 use up_message::Sequence;
 
-/// A log that is being opened. Its batches are read one after another, so that no more than one of them is in memory.
+/// A log that is being opened. Its batches are read one after another, so that at most one of them is in memory.
 #[derive(Drop)]
 pub struct LogReader<D: Disk> {
     pub(crate) device: D,
-    /// How many bytes the file has.
+    /// The number of bytes of the file.
     pub(crate) len: usize,
-    /// Where the next block begins.
+    /// The place of the next block.
     pub(crate) gate: usize,
 }
 
-/// Why a log wasn't opened, and the file.
+/// Why a log was not opened, and the file.
 #[derive(Drop)]
 pub struct Refused<D: Disk> {
     pub fault: LogFault,
     pub device: D,
 }
 
-/// Puts a closed gate behind the blocks, where a crash left no gate, or a gate and nothing behind it. Anything else is
-/// closed already.
+/// Writes a closed gate after the blocks if a crash left no gate, or a gate with nothing after it. Anything else is
+/// already closed.
 pub(crate) fn mend<D: Disk>(disk: &mut D, len: usize, gate: usize) -> Result<(), LogFault>
     ensures mended { (setup : Numbers) (batches : List (List Logged))
         → IsLog setup (D.seen disk.old) batches
@@ -61,7 +61,7 @@ pub(crate) fn mend<D: Disk>(disk: &mut D, len: usize, gate: usize) -> Result<(),
     Ok(())
 }
 
-/// Looks whether all blocks were read, and repairs the end behind them.
+/// Checks that all blocks were read, and repairs the end after them.
 fn end<D: Disk>(disk: &mut D, len: usize, gate: usize) -> Result<(), LogFault>
     ensures settled { (setup : Numbers) (read left : List (List Logged))
         → IsPart setup (D.seen disk.old) gate len read left
@@ -85,13 +85,14 @@ fn end<D: Disk>(disk: &mut D, len: usize, gate: usize) -> Result<(), LogFault>
 }
 
 impl<D: Disk> LogReader<D> {
-    /// Begins to open the log of a server of this setup. On a file with no heading yet, as an empty one, it is
-    /// written.
+    /// Starts to open the log of a server with this setup. If the file has no heading yet, like an empty one, the
+    /// heading is written. `Foreign`, `Version`, `Lanes` or `MaxSize` if the file is not the log of such a server;
+    /// `Disk` or `Broken` if the disk fails or has failed; `Memory` if memory runs out.
     pub fn open(alloc: Global, device: D, setup: Setup) -> Result<LogReader<D>, Refused<D>>
-        // What is no log of such a server isn't opened,
+        // A file that is not the log of such a server is not opened,
         ensures ours { IfOk result (λ reader. IsCleanReader D.Disk reader
             → IsOurs setup (D.seen device)) }
-        // and stays as it is.
+        // and stays unchanged.
         ensures unchanged { IfErr result (λ refused. IsRefusal refused.fault
             → (D.seen refused.device ≡ D.seen device)
             × ((c : List ℕ) → D.may_leave refused.device c → D.may_leave device c)) }
@@ -114,7 +115,7 @@ impl<D: Disk> LogReader<D> {
         }
     }
 
-    /// The next batch, None at the end.
+    /// The next batch, `None` at the end.
     pub fn next_batch(&mut self, alloc: Global) -> Result<Option<Sequence<Entry>>, LogFault>
         ensures reads { (setup : Numbers) (read left : List (List Logged))
             → IsReading D.Disk self.old setup read left
@@ -134,7 +135,7 @@ impl<D: Disk> LogReader<D> {
         Ok(Some(entries))
     }
 
-    /// The log, once all of its batches were read (`NotRead`).
+    /// The log, if all of its batches were read. `NotRead` if some were not.
     pub fn finish(self) -> Result<Log<D>, Refused<D>>
         ensures settled { (setup : Numbers) (read left : List (List Logged))
             → IsReading D.Disk self setup read left

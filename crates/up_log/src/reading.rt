@@ -1,4 +1,4 @@
-//! Reading entries from their spelling.
+//! Decoding entries.
 ghost use Rattle.std.specs.Prelude.{◌≡◌, ◌<◌, List, length, Some, IfOk};
 ghost use Rattle.up_log.specs.Spelling.{batch};
 ghost use Rattle.up_log.specs.Reading.{Gives, word_at, id_at, text_at, maybe_at, many_at, so_many_at, flag_at, kind_at, consent_at, declared_at, pair_at, new_upload_at, patch_at, asked_for_at, entry_at, batch_at, whole_at};
@@ -290,7 +290,7 @@ fn so_many_entries(
     Ok((entries, rest))
 }
 
-/// So many bytes, which are not copied.
+/// A number of bytes with their count before them. They are not copied.
 #[tactic(auto, unfolding(crate::specs::Reading::text_at))]
 fn span_of(bytes: &[u8]) -> Result<(&[u8], &[u8]), Unread>
     ensures exact { Gives (λ x. (x.0.now, x.1.now)) result (text_at bytes.now) }
@@ -304,7 +304,7 @@ fn span_of(bytes: &[u8]) -> Result<(&[u8], &[u8]), Unread>
     Ok(rest.split_at(count))
 }
 
-/// The batch that these bytes spell.
+/// The batch that these bytes encode.
 #[tactic(auto, unfolding(crate::specs::Reading::whole_at))]
 pub(crate) fn whole_batch(alloc: Global, bytes: &[u8]) -> Result<Sequence<Entry>, Unread>
     ensures { Gives (λ x. x) result (whole_at bytes.now) }
@@ -316,10 +316,10 @@ pub(crate) fn whole_batch(alloc: Global, bytes: &[u8]) -> Result<Sequence<Entry>
     Ok(entries)
 }
 
-/// The entries that bytes begin with, and the bytes after them.
+/// The entries at the start of the bytes, and the bytes after them.
 #[tactic(auto, unfolding(crate::specs::Reading::batch_at, crate::specs::Reading::many_at))]
 fn read_batch(alloc: Global, bytes: &[u8]) -> Result<(Sequence<Entry>, &[u8]), Unread>
-    // What they are.
+    // Exactly what the definition decodes.
     ensures exact { Gives (λ x. (x.0, x.1.now)) result (batch_at bytes.now) }
 {
     let (count, rest) = word_of(bytes)?;

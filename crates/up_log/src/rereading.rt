@@ -1,4 +1,4 @@
-//! Reading a log that is open, whatever is added to it meanwhile.
+//! Reading a log that is open, while batches may be appended to it.
 ghost use Rattle.std.specs.Prelude.{◌≡◌, ◌++◌, ◌<◌, ℕ, [], List, length, IfOk, IfSome, IsTrue};
 ghost use Rattle.up_log.specs.Blocks.{written};
 ghost use Rattle.up_log.specs.Logs.{IsCleanLog, IsSettled, ReadsAt};
@@ -23,7 +23,7 @@ impl<D: Disk> Log<D> {
         BEGINNING
     }
 
-    /// How many bytes the heading and the batches take: the place of the next batch.
+    /// The number of bytes of the heading and the batches, which is the place of the next batch.
     pub fn end_place(&self) -> usize
         ensures { (setup : Numbers) (batches : List (List Logged))
             → IsSettled D.Disk self.now setup batches → result ≡ length (written setup batches) }
@@ -31,7 +31,7 @@ impl<D: Disk> Log<D> {
         self.gate
     }
 
-    /// The batch at a place, and the place behind it; None at the end. The log stays as it is, also after an error.
+    /// The batch at a place, and the place after it; `None` at the end. The log is unchanged, also after an error.
     pub fn batch_at(
         &mut self,
         alloc: Global,

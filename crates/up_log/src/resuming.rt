@@ -1,4 +1,4 @@
-//! Going on with a log after a call that failed.
+//! Continuing with a log after a call that failed.
 ghost use Rattle.std.specs.Prelude.{◌≡◌, List, ℕ, length, OnErr, OnOk, IsTrue, false};
 ghost use Rattle.sqlite_disk.specs.Disk.{Only};
 ghost use Rattle.up_log.specs.Blocks.{written, IsAtRest, IsBeforeOrAfter};
@@ -13,7 +13,7 @@ use crate::fault::LogFault;
 use crate::reader::mend;
 use sqlite_disk::Disk;
 
-/// Closes the gate behind the batches that end at this place, if a crash left it open.
+/// Closes the gate after the batches that end at this place, if a crash left it open.
 fn close<D: Disk>(disk: &mut D, len: usize, gate: usize) -> Result<(), LogFault>
     ensures closed { (setup : Numbers) (batches : List (List Logged)) (more : List Logged)
         → IsBeforeOrAfter setup batches more (D.seen disk.old)
@@ -37,7 +37,7 @@ fn close<D: Disk>(disk: &mut D, len: usize, gate: usize) -> Result<(), LogFault>
     mend(disk, len, gate)
 }
 
-/// The same, of a file of which it isn't known what is on the disk.
+/// The same, for a file of which it is not known what is on the disk.
 fn close_again<D: Disk>(disk: &mut D, gate: usize) -> Result<(), LogFault>
     ensures closed { (setup : Numbers) (batches : List (List Logged)) (more : List Logged)
         → ((c : List ℕ) → D.may_leave disk.old c → IsBeforeOrAfter setup batches more c)
@@ -57,9 +57,9 @@ fn close_again<D: Disk>(disk: &mut D, gate: usize) -> Result<(), LogFault>
 }
 
 impl<D: Disk> Log<D> {
-    /// Goes on with a log of which a call failed, over its file, which was opened again. `place` is where the next block
-    /// begins (`end_place`). A batch that the call left there is in the log no more. After an error the log takes no more,
-    /// as before.
+    /// Continues with a log after a call that failed. `device` is its file, which was opened again, and `place` is the
+    /// place of the next block (`end_place`). If the call left a batch there, the log no longer contains it. After an
+    /// error, the log accepts no more batches, as before.
     pub fn resume(device: D, place: usize) -> (Log<D>, Result<(), LogFault>)
         ensures settled { (setup : Numbers) (batches : List (List Logged)) (more : List Logged)
             → ((c : List ℕ) → D.may_leave device c → IsBeforeOrAfter setup batches more c)
@@ -96,7 +96,7 @@ impl<D: Disk> Log<D> {
         }
     }
 
-    /// Whether a call failed so that the log takes no more until it is opened again.
+    /// Whether a call failed in such a way that the log accepts no more batches until it is opened again.
     pub fn is_broken(&self) -> bool
         ensures { result ≡ self.now.is_broken }
     {

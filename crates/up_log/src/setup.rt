@@ -1,11 +1,11 @@
-//! What the entries of a log rest on.
+//! The numbers that the entries of a log depend on.
 
-/// The numbers of a server that are part of what its log defines: with others its entries would be decided otherwise.
-/// They stand at the head of the file.
+/// The numbers of a server that its log depends on: with other numbers, the decisions about its entries would be
+/// different. They are at the start of the file.
 #[derive(Clone, Copy, Debug, PartialEq, Eq)]
 pub struct Setup {
-    /// How many lanes hand over events.
+    /// The number of lanes that hand over events.
     pub lanes: u64,
-    /// The largest size of an upload, in bytes.
+    /// The maximum size of an upload, in bytes.
     pub max_size: u64,
 }

@@ -1,4 +1,4 @@
-//! An entry as a log spells it.
+//! An encoded entry.
 ghost use Rattle.std.specs.Prelude.{◌≡◌, IfOk, vec_len};
 ghost use Rattle.up_log.specs.Spelling.{entry};
 
@@ -8,7 +8,8 @@ use std::alloc::{AllocError, Global};
 use std::marker::Model;
 use std::snapshot::Snapshot;
 
-/// An entry that is spelled already, so that a batch is put together by copying bytes. Contracts see it as the entry.
+/// An entry that is already encoded, so that a batch is put together by copying bytes. Contracts describe it as the
+/// entry.
 #[derive(Drop)]
 pub struct Spelled {
     bytes: Vec<u8>,
@@ -28,7 +29,7 @@ impl Model for Spelled {
 }
 
 impl Spelled {
-    /// Spells an entry.
+    /// Encodes an entry. `AllocError` if memory runs out.
     pub fn new(alloc: Global, logged: &Entry) -> Result<Spelled, AllocError>
         ensures { IfOk result (λ spelled. spelled ≡ logged.now) }
     {
@@ -40,14 +41,14 @@ impl Spelled {
         })
     }
 
-    /// The bytes that spell it.
+    /// The encoding of the entry.
     pub(crate) fn bytes(&self) -> &[u8]
         ensures { result.now ≡ entry self.now }
     {
         &self.bytes
     }
 
-    /// How many bytes it takes in a log.
+    /// The number of bytes of the entry in a log.
     pub fn size(&self) -> usize {
         self.bytes.len()
     }

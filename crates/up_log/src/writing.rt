@@ -1,4 +1,4 @@
-//! The one spelling of entries.
+//! Encoding entries.
 ghost use Rattle.std.specs.Prelude.{◌≡◌, ◌≤◌, ◌++◌, ◌∷◌, [], length, drop, IfOk, OnOk};
 ghost use Rattle.std.specs.Option.{option_map};
 ghost use Rattle.up_log.specs.Blocks.{body};
@@ -219,7 +219,8 @@ fn put_batch(out: &mut Vec<u8>, entries: &[Spelled]) -> Result<(), AllocError>
     Ok(())
 }
 
-/// About how many bytes an entry takes: what is spelled into so much room is mostly not moved.
+/// The approximate number of bytes of an entry. A buffer with this much room mostly does not move while the entry is
+/// encoded.
 pub(crate) fn room_of(logged: &Entry) -> usize {
     match &logged.request {
         Request::Patch(sent) => sent.bytes.len().saturating_add(64),
@@ -227,7 +228,7 @@ pub(crate) fn room_of(logged: &Entry) -> usize {
     }
 }
 
-/// How many bytes the body of a block takes, with the gate behind it.
+/// The number of bytes of the body of a block, with the gate after it.
 fn room_for(entries: &[Spelled]) -> usize {
     let mut room: usize = 17;
     for logged in entries {
@@ -236,7 +237,7 @@ fn room_for(entries: &[Spelled]) -> usize {
     room
 }
 
-/// Writes over the first bytes.
+/// Overwrites the first bytes.
 fn put_front(bytes: &mut [u8], front: &[u8])
     requires within { length front.now ≤ length bytes.old }
     ensures { bytes.new ≡ front.now ++ drop (length front.now) bytes.old }
@@ -244,7 +245,7 @@ fn put_front(bytes: &mut [u8], front: &[u8])
     bytes[..front.len()].copy_from_slice(front);
 }
 
-/// The body of a block, and behind it the next gate, which is closed.
+/// The body of a block, followed by the next gate, which is closed.
 pub(crate) fn closed_body(alloc: Global, entries: &[Spelled]) -> Result<Vec<u8>, AllocError>
     ensures { IfOk result (λ bytes. bytes.items ≡ body entries.now ++ 0 ∷ []) }
 {

@@ -5,7 +5,7 @@ use std::alloc::Global;
 use std::test::Fail;
 use up_log::{Log, LogFault, Spelled};
 
-/// A log on a disk that fails from some call on; None if it fails before the log is open.
+/// A log on a disk that fails from some call on; `None` if it fails before the log is open.
 fn opened(alloc: Global, calls: u64) -> Option<Log<Fuse<Memory>>> {
     match read(alloc, Fuse::new(Memory::new(alloc), calls)) {
         Ok((log, _)) => Some(log),
@@ -13,7 +13,7 @@ fn opened(alloc: Global, calls: u64) -> Option<Log<Fuse<Memory>>> {
     }
 }
 
-/// Whether a batch is added. A log that failed takes no more.
+/// Whether a batch is appended. After it failed, the log must accept no more batches; otherwise `None`.
 fn is_added(alloc: Global, log: &mut Log<Fuse<Memory>>, entries: &[Spelled]) -> Option<bool> {
     if log.append(alloc, entries).is_ok() {
         return Some(true);
@@ -24,7 +24,7 @@ fn is_added(alloc: Global, log: &mut Log<Fuse<Memory>>, entries: &[Spelled]) -> 
     }
 }
 
-/// How many batches a crash leaves.
+/// The number of batches that a crash leaves.
 fn left(alloc: Global, log: Log<Fuse<Memory>>) -> Result<u64, LogFault> {
     let mut disk = log.into_device();
     disk.crash();

@@ -6,7 +6,7 @@ use std::fs;
 use std::test::Fail;
 use up_log::{LogFault, LogReader, Setup, open_file};
 
-/// How many batches a file has, and how many it has with one more.
+/// The number of batches of a file, before and after one more is appended.
 fn counts(alloc: Global, bytes: &[u8]) -> Result<(u64, u64), LogFault> {
     let (mut log, count) = read(alloc, disk_of(alloc, bytes)?)?;
     log.append(alloc, &spelled_of(alloc, &PAIR)?)?;
@@ -14,7 +14,7 @@ fn counts(alloc: Global, bytes: &[u8]) -> Result<(u64, u64), LogFault> {
     Ok((count, again))
 }
 
-/// So many of the bytes, and one of them another.
+/// The first `left` of the bytes, with one of them changed.
 fn changed(
     bytes: &[u8],
     alloc: Global,
@@ -39,7 +39,8 @@ fn a_crash_leaves_whole_batches(rt: HostRuntime) -> Result<(), Fail> {
     if two == 0 || end == 0 {
         return Err(Fail::new("no log"));
     }
-    // So many bytes are left of the file, of which the one at this place is another.
+    // The number of bytes that are left of the file, the place of the changed byte, its new value, and the number of
+    // batches.
     let gate = two - 1;
     for (left, place, byte, want) in [
         (end, end - 1, 0, 3u64),
@@ -66,7 +67,7 @@ fn a_crash_leaves_whole_batches(rt: HostRuntime) -> Result<(), Fail> {
     Ok(())
 }
 
-/// What a file is refused for, where it is left as it was.
+/// Why a file is refused, if it is and is unchanged.
 fn refusal(alloc: Global, bytes: &[u8], setup: Setup) -> Result<Option<LogFault>, LogFault> {
     match LogReader::open(alloc, disk_of(alloc, bytes)?, setup) {
         Ok(_) => Ok(None),
@@ -79,7 +80,7 @@ fn refusal(alloc: Global, bytes: &[u8], setup: Setup) -> Result<Option<LogFault>
     }
 }
 
-/// Whether a file is refused in these words, and left as it was.
+/// Whether a file is refused with this message, and is unchanged.
 fn is_refused(alloc: Global, bytes: &[u8], setup: Setup, want: &str) -> Result<bool, LogFault> {
     match refusal(alloc, bytes, setup)? {
         Some(fault) => Ok(format!(in alloc; "{fault}")?.as_str() == want),
@@ -116,7 +117,7 @@ fn another_file_is_left_as_it_is(rt: HostRuntime) -> Result<(), Fail> {
     Ok(())
 }
 
-/// Makes a log of one batch in a file, and says whether it is `Busy` until it is dropped.
+/// Writes a log of one batch to a file, and returns whether the file is `Busy` until the log is dropped.
 fn is_busy(rt: &HostRuntime, path: &str) -> Result<bool, LogFault> {
     let reader = open_file(rt, path, Unknown, SETUP)?;
     let mut log = match reader.finish() {
@@ -127,7 +128,7 @@ fn is_busy(rt: &HostRuntime, path: &str) -> Result<bool, LogFault> {
     Ok(matches!(open_file(rt, path, Unknown, SETUP), Err(LogFault::Busy)))
 }
 
-/// How many batches the log in a file has.
+/// The number of batches of the log in a file.
 fn count_of(rt: &HostRuntime, path: &str) -> Result<u64, LogFault> {
     let mut reader = open_file(rt, path, Unknown, SETUP)?;
     batches_of(rt.alloc(), &mut reader)

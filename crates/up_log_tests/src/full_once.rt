@@ -1,4 +1,4 @@
-//! A disk that is full for a moment.
+//! A disk that is full for one call.
 ghost use Rattle.std.specs.Prelude.{◌≡◌, ◌+◌, ◌&&◌, not, false};
 ghost use Rattle.sqlite_disk.specs.Disk.{CountsFault};
 ghost use Rattle.sqlite_disk.specs.Refusal.{finds_no_room};
@@ -6,11 +6,12 @@ ghost use Rattle.sqlite_disk.specs.Refusal.{finds_no_room};
 use sqlite_disk::{Disk, Tally};
 use std::io;
 
-/// A disk of which one call fails, and the next ones are as before; if it is a sync, once the file is opened again.
+/// A disk of which one call fails. Later calls succeed again; after a sync that failed, only once the file is opened
+/// again.
 #[derive(Drop)]
 pub struct FullOnce<D: Disk> {
     inner: D,
-    /// Which call fails: the last of so many. None where it is 0.
+    /// The number of the call that fails. 0 if none does.
     calls: u64,
     refused: u64,
     sync_refused: bool,

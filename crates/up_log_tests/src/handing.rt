@@ -1,4 +1,4 @@
-//! Lanes that go on where earlier runs ended, on disks that fail and crash.
+//! Lanes that continue where earlier runs ended, on disks that fail and crash.
 ghost use Rattle.std.specs.Prelude.{◌≡◌, true, IfOk, IsTrue};
 ghost use Rattle.up_handed.specs.Counts.{count_of, device_of};
 ghost use Rattle.up_handed.specs.OnDisk.{IsOnDisk};
@@ -14,7 +14,7 @@ use up_events::{Event, Hook, Id};
 use up_handed::{Continued, Handed, HandedFault, open_handed, restart};
 use up_hooks::{Outcome, PostHook, Recorder};
 
-/// A count that was opened.
+/// The count in this file.
 fn opened<D: Disk + Drop>(device: D) -> Result<Handed<D>, HandedFault>
     ensures { IfOk result (λ handed. IsOnDisk D.Disk (device_of handed) (count_of handed)) }
 {
@@ -35,7 +35,7 @@ fn event_of(number: u64) -> Event {
     }
 }
 
-/// Makes room, and tries once more where there is none.
+/// Makes room for an event, and tries again if that fails.
 fn has_room<H: PostHook>(hook: &mut H) -> bool
     requires { H.is_sound hook.old }
     ensures sound { H.is_sound hook.new }
@@ -47,8 +47,8 @@ fn has_room<H: PostHook>(hook: &mut H) -> bool
     hook.ready().is_ok()
 }
 
-/// Hands over the events from the first to this number, as a lane does: it makes room before each, and behind the last.
-/// Tells how many there was room for.
+/// Hands over the events from the first to this number, as a lane does: it makes room before each event, and after the
+/// last. Returns the number of events that there was room for.
 fn hand_over<H: PostHook>(hook: &mut H, last: u64) -> u64
     requires { H.is_sound hook.old }
     ensures { H.is_sound hook.new }
@@ -63,7 +63,7 @@ fn hand_over<H: PostHook>(hook: &mut H, last: u64) -> u64
     last
 }
 
-/// What was handed to a post-hook: the number of the first event, or 0 if there is none, and how many events.
+/// What a post-hook was handed: the number of the first event, or 0 if there is none, and the number of events.
 fn told<F>(recorder: &Recorder<F>) -> (u64, usize) {
     let pairs = recorder.list();
     match pairs {
@@ -72,7 +72,7 @@ fn told<F>(recorder: &Recorder<F>) -> (u64, usize) {
     }
 }
 
-/// What the post-hook of a run over this file is handed of so many events, and the run. Those come from the first on.
+/// A run with this file that hands over the events from the first to this number.
 fn run_over<F: Fn(&Event) -> Outcome + Send + Copy, D: Disk + Send + Drop>(
     alloc: Global,
     answer: F,
@@ -88,7 +88,7 @@ fn run_over<F: Fn(&Event) -> Outcome + Send + Copy, D: Disk + Send + Drop>(
     Ok(run)
 }
 
-/// What a run leaves that hands over so many events.
+/// The file that a run leaves after it handed over this number of events.
 fn left<F: Fn(&Event) -> Outcome + Send + Copy>(
     alloc: Global,
     answer: F,
@@ -105,7 +105,8 @@ fn left<F: Fn(&Event) -> Outcome + Send + Copy>(
 #[test]
 fn what_earlier_runs_handed_over_is_passed_over(rt: HostRuntime) -> Result<(), Fail> {
     let alloc = rt.alloc();
-    // So many events were handed over before, of so many that the lane hands: which the post-hook is handed.
+    // The number of events that were handed over before, the number that the lane hands over, and what the post-hook is
+    // handed.
     for (before, events, want) in [
         (0, 3, (1, 3)),
         (1, 3, (2, 2)),
@@ -125,8 +126,8 @@ fn what_earlier_runs_handed_over_is_passed_over(rt: HostRuntime) -> Result<(), F
     Ok(())
 }
 
-/// How many events a run hands over of three, where its disk fails from some call on, and from which number on the next
-/// run does, after a crash.
+/// The number of events, out of three, that a run hands over if its disk fails from some call on, and the number of the
+/// first event that the next run hands over after a crash.
 fn crashed<F: Fn(&Event) -> Outcome + Send + Copy>(
     alloc: Global,
     answer: F,
@@ -150,7 +151,7 @@ fn crashed<F: Fn(&Event) -> Outcome + Send + Copy>(
 #[test]
 fn a_crash_repeats_one_event_at_most(rt: HostRuntime) -> Result<(), Fail> {
     let alloc = rt.alloc();
-    // Opening takes two calls, and each event two: a write and a sync.
+    // Opening takes two calls, and each event takes two: a write and a sync.
     for (calls, handed, next) in [
         (2, 1, 1),
         (3, 1, 1),
@@ -170,7 +171,7 @@ fn a_crash_repeats_one_event_at_most(rt: HostRuntime) -> Result<(), Fail> {
 #[test]
 fn a_lane_goes_on_when_the_disk_works_again(rt: HostRuntime) -> Result<(), Fail> {
     let alloc = rt.alloc();
-    // The call that fails: a write of the three, or a sync, behind which the file has to be opened again.
+    // The call that fails: one of the three writes, or a sync, after which the file must be opened again.
     for (calls, handed, next) in [
         (3, 3, 4),
         (5, 3, 4),
@@ -191,8 +192,8 @@ fn a_lane_goes_on_when_the_disk_works_again(rt: HostRuntime) -> Result<(), Fail>
     Ok(())
 }
 
-/// The number in a file that a run over it leaves, which hands over one more event, and whether the file is `Busy` for
-/// others until the run has ended.
+/// The number in a file after a run that hands over one more event, and whether the file is `Busy` for others until the
+/// run has ended.
 fn one_more<F: Fn(&Event) -> Outcome + Send + Copy>(
     rt: &HostRuntime,
     path: &str,

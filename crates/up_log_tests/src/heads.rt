@@ -1,4 +1,4 @@
-//! Which log is the current one, after disks that fail and crash.
+//! Which log is the current one after disks fail and crash.
 use crate::logs::SETUP;
 use sqlite_disk::{Crash, Disk, Fuse, Memory};
 use std::alloc::{AllocError, Global};
@@ -39,8 +39,8 @@ fn the_last_head_holds(rt: HostRuntime) -> Result<(), Fail> {
     Ok(())
 }
 
-/// Whether a second head is added on a disk that fails from some call on, and which one a crash leaves. None if it
-/// fails before.
+/// Whether a second head is added on a disk that fails from some call on, and which head a crash leaves. `None` if the
+/// disk fails before.
 fn left(alloc: Global, calls: u64) -> Result<Option<(bool, u64)>, LogFault> {
     let Ok((mut heads, _)) = heads_of(alloc, Fuse::new(Memory::new(alloc), calls)) else {
         return Ok(None);

@@ -1,6 +1,6 @@
-//! The tests of the log, of what is made again from it, of shorter logs, of lanes that go on where earlier runs ended,
-//! and of boards whose changes are written to a log first. They use these from outside, as a program does: what no
-//! contract says of them.
+//! Tests of the log, of what is restored from it, of shorter logs, of lanes that continue where earlier runs ended, and
+//! of boards whose changes are written to a log first, for what no contract says about them. They use the crates from
+//! outside, as a program does.
 #![tactic(auto)]
 
 #[cfg(test)]

@@ -1,4 +1,4 @@
-//! Logs over files in memory.
+//! Logs in files in memory.
 use sqlite_disk::{Disk, Memory};
 use std::alloc::{AllocError, Global};
 use std::io;
@@ -12,14 +12,14 @@ pub const SETUP: Setup = Setup {
     max_size: 1000,
 };
 
-/// What an entry asks for, with an id and a number.
+/// What an entry asks for. A row also has an id and a number.
 #[derive(Clone, Copy)]
 pub enum What {
-    /// To make a plain upload of this length.
+    /// Creates a plain upload of this length.
     Make,
-    /// To put so many bytes at the beginning of an upload.
+    /// Puts this number of bytes at the start of an upload.
     Put,
-    /// To remove an upload.
+    /// Removes an upload.
     Remove,
 }
 
@@ -51,7 +51,7 @@ fn request_of(alloc: Global, row: Row) -> Result<Request, AllocError> {
     }
 }
 
-/// The entries of these rows, to which every closure agrees.
+/// The entries of these rows, which every closure allows.
 pub fn entries_of(alloc: Global, rows: &[Row]) -> Result<Vec<Entry>, AllocError> {
     let mut entries = Vec::new(alloc);
     for row in rows {
@@ -68,7 +68,7 @@ pub fn entries_of(alloc: Global, rows: &[Row]) -> Result<Vec<Entry>, AllocError>
     Ok(entries)
 }
 
-/// The same, spelled.
+/// The same entries, encoded.
 pub fn spelled_of(alloc: Global, rows: &[Row]) -> Result<Vec<Spelled>, AllocError> {
     let mut spelled = Vec::new(alloc);
     for entry in &entries_of(alloc, rows)? {
@@ -77,7 +77,7 @@ pub fn spelled_of(alloc: Global, rows: &[Row]) -> Result<Vec<Spelled>, AllocErro
     Ok(spelled)
 }
 
-/// A file that has these bytes.
+/// A file with these bytes.
 pub fn disk_of(alloc: Global, bytes: &[u8]) -> io::Result<Memory> {
     let mut disk = Memory::new(alloc);
     if disk.may_be_used() {
@@ -89,7 +89,7 @@ pub fn disk_of(alloc: Global, bytes: &[u8]) -> io::Result<Memory> {
     Ok(disk)
 }
 
-/// How many batches are left to be read.
+/// The number of batches that are left to be read.
 pub fn batches_of<D: Disk>(alloc: Global, reader: &mut LogReader<D>) -> Result<u64, LogFault> {
     for count in 0..10 {
         if reader.next_batch(alloc)?.is_none() {
@@ -99,7 +99,7 @@ pub fn batches_of<D: Disk>(alloc: Global, reader: &mut LogReader<D>) -> Result<u
     Ok(10)
 }
 
-/// The log of a file, and how many batches it has.
+/// The log in a file, and the number of its batches.
 pub fn read<D: Disk>(alloc: Global, disk: D) -> Result<(Log<D>, u64), LogFault>
 where
     D: Drop,
@@ -115,7 +115,7 @@ where
     }
 }
 
-/// The bytes of a log of so many batches.
+/// The bytes of a log with this number of batches.
 pub fn log_of(alloc: Global, batches: u64) -> Result<Vec<u8>, LogFault> {
     let entries = spelled_of(alloc, &PAIR)?;
     let (mut log, _) = read(alloc, Memory::new(alloc))?;

@@ -1,4 +1,4 @@
-//! Books that are made again: from a log on a disk, and from entries that no server writes.
+//! Books that are restored: from a log on a disk, and from entries that no server writes.
 use crate::logs::{Row, SETUP, What, entries_of, read, spelled_of};
 use sqlite_disk::Memory;
 use std::alloc::Global;
@@ -30,7 +30,8 @@ fn what_was_refused_changes_nothing(rt: HostRuntime) -> Result<(), Fail> {
     let mut book = Book::new(alloc, 2, 1000)?;
     let rows = [
         (What::Make, 5, 3),
-        // An id twice, a removal of what isn't there, bytes for it, and bytes that are too many.
+        // A second creation with the same id, a removal of an upload that does not exist, bytes for it, and too many
+        // bytes.
         (What::Make, 5, 4),
         (What::Remove, 6, 0),
         (What::Put, 6, 3),
@@ -41,7 +42,7 @@ fn what_was_refused_changes_nothing(rt: HostRuntime) -> Result<(), Fail> {
     assert_eq!(rt; book.journal().accepted_count(), 2);
     assert_eq!(rt; standing(&book, 5), Some((3, Some(3))));
     assert_eq!(rt; standing(&book, 6), None);
-    // What no server takes.
+    // A creation that no server receives.
     let rows = [(What::Make, 7, MOST_BYTES + 1), (What::Make, 8, 3)];
     assert_eq!(rt;
         replay_rows(alloc, &mut book, &rows),
@@ -51,7 +52,7 @@ fn what_was_refused_changes_nothing(rt: HostRuntime) -> Result<(), Fail> {
     Ok(())
 }
 
-/// The file of a log of these two batches.
+/// The file of a log with these two batches.
 fn file_of(alloc: Global, first: &[Row], second: &[Row]) -> Result<Memory, LogFault> {
     let (mut log, _) = read(alloc, Memory::new(alloc))?;
     log.append(alloc, &spelled_of(alloc, first)?)?;
@@ -59,7 +60,7 @@ fn file_of(alloc: Global, first: &[Row], second: &[Row]) -> Result<Memory, LogFa
     Ok(log.into_device())
 }
 
-/// Makes a book again from a file.
+/// Restores a book from a file.
 fn restore_file(alloc: Global, file: Memory, book: &mut Book) -> Result<(), Unrestored> {
     match LogReader::open(alloc, file, SETUP) {
         Ok(reader) => {

@@ -20,7 +20,7 @@ fn ids_of(alloc: Global, numbers: &[u128]) -> Result<BTreeSet<Id>, AllocError> {
     Ok(ids)
 }
 
-/// An entry that makes a final upload of these.
+/// An entry that creates a final upload of these parts.
 fn joining(alloc: Global, id: u128, parts: &[u128]) -> Result<Entry, AllocError> {
     let mut list = Sequence::new(alloc);
     for part in parts {
@@ -40,7 +40,7 @@ fn joining(alloc: Global, id: u128, parts: &[u128]) -> Result<Entry, AllocError>
     })
 }
 
-/// A final upload of 1 and 2, one of 3, and one that was refused since it joins another final one.
+/// A final upload of 1 and 2, one of 3, and one that was refused since it joins another final upload.
 fn joinings(alloc: Global) -> Result<Vec<Entry>, AllocError> {
     let mut entries = Vec::new(alloc);
     entries.push(joining(alloc, 7, &[1, 2])?)?;
@@ -56,7 +56,7 @@ fn parts_of_what_stays_stay(rt: HostRuntime) -> Result<(), Fail> {
     survey.see(alloc, &joinings(alloc)?)?;
     let made = [Id::new(7), Id::new(8), Id::new(9)];
     assert_eq!(rt; survey.uploads(), made.as_slice());
-    // Those that have ended, and those of which nothing has to stay.
+    // The uploads that were removed, and those of them that can be left out.
     let rows: [(&[u128], &[u128]); 5] = [
         (&[1, 2, 3, 4], &[4]),
         (&[1, 3, 8], &[3, 8]),
@@ -71,7 +71,7 @@ fn parts_of_what_stays_stay(rt: HostRuntime) -> Result<(), Fail> {
     Ok(())
 }
 
-/// The log of these batches.
+/// The log with these batches.
 fn log_of(alloc: Global, first: &[Row], second: &[Row]) -> Result<Log<Memory>, LogFault> {
     let (mut log, _) = read(alloc, Memory::new(alloc))?;
     log.append(alloc, &spelled_of(alloc, first)?)?;
@@ -91,7 +91,7 @@ fn book_of(alloc: Global, log: Log<Memory>) -> Result<Book, Fail> {
     }
 }
 
-/// How many bytes an upload has.
+/// The number of bytes of an upload.
 fn offset(book: &Book, id: u128) -> Option<u64> {
     match book.upload(Id::new(id)) {
         Some(view) => Some(view.offset),
@@ -99,7 +99,7 @@ fn offset(book: &Book, id: u128) -> Option<u64> {
     }
 }
 
-/// Leaves out the upload 6 and the entry at the place 2, which is void.
+/// Leaves out the upload 6, and the entry at place 2, which is void.
 fn left_out(alloc: Global) -> Result<LeftOut, AllocError> {
     let mut voids = BTreeSet::new(alloc);
     voids.insert(2)?;
@@ -121,7 +121,7 @@ fn a_shorter_log_has_what_stays(rt: HostRuntime) -> Result<(), Fail> {
     let reached = catch_up(alloc, &mut log, &mut shorter, &left_out, start)?;
     assert_eq!(rt; (reached.count, reached.stayed), (5, 1));
     assert_eq!(rt; reached.place, log.end_place());
-    // What is added to the log meanwhile is added to the shorter one from there on.
+    // Entries that are appended to the log meanwhile are then appended to the shorter log.
     log.append(
         alloc,
         &spelled_of(alloc, &[(What::Put, 5, 3), (What::Make, 7, 2)])?,
@@ -152,7 +152,7 @@ fn an_open_log_is_read_from_its_places(rt: HostRuntime) -> Result<(), Fail> {
         place = next;
     }
     assert!(rt; log.batch_at(alloc, place)?.is_none());
-    // It still takes more, which stands there.
+    // Another batch can still be appended, and is then at this place.
     log.append(alloc, &spelled_of(alloc, &first)?)?;
     assert!(rt; log.batch_at(alloc, place)?.is_some());
     Ok(())

@@ -1,4 +1,4 @@
-//! Stores over disks in memory.
+//! Stores with disks in memory.
 mod closing;
 mod failing;
 mod refusing;

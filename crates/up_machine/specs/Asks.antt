@@ -5,11 +5,11 @@ use Rattle.up_machine.specs.Content.{Content}
 use Rattle.up_machine.specs.declared.ask.Ask.{Ask}
 use Rattle.up_machine.specs.declared.ask.Point.{Point}
 
--- about this upload
+-- the question about this upload
 abbrev pub ask_of : Point → Option ℕ → Content → Ask
 ask_of point target x =
     record { point = point; target = target; kind = x.kind; offset = length x.bytes; length = x.length; pairs = x.pairs }
 
--- the value of the first pair with the key
+-- the value of the first pair with this key
 abbrev pub value_of : List ℕ → List (List ℕ × List ℕ) → Option (List ℕ)
 value_of key pairs = option_map (λ pair. pair.1) (find (λ pair. bytes_eq pair.0 key) pairs)

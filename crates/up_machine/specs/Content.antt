@@ -1,4 +1,4 @@
--- What an upload is, whatever keeps it, and what a PATCH makes of it.
+-- What an upload is, however it is stored, and how a PATCH changes it.
 use Rattle.std.specs.Prelude.{◌≡◌, ◌++◌, ◌+◌, ◌≤◌, ℕ, Bool, true, false, List, Option, Some, None, Result, Ok, Err, length, refl, if◌then◌else◌}
 use Rattle.std.specs.Option.{option_or}
 use Rattle.std.specs.Coded.{Coded, code_by, coded×, coded_ℕ, coded_list, coded_option, coded_bool}
@@ -9,7 +9,7 @@ use Rattle.up_headers.specs.declared.request.NewUpload.{NewUpload}
 use Rattle.up_headers.specs.declared.request.NotDigits.{NotDigits}
 use Rattle.up_headers.specs.declared.request.Patch.{Patch}
 
--- kind, length, where it is known, and bytes, and the texts that its client sent
+-- the kind, the length if it is known, the bytes, and the texts that the client sent
 pub record Content : Type 0 where
   pub kind : Kind
   pub length : Option ℕ
@@ -18,30 +18,30 @@ pub record Content : Type 0 where
   pub pairs : List (List ℕ × List ℕ)
   pub concat : Option (List ℕ)
 
--- a new upload that begins with these bytes: a final one has just them
+-- a new upload with these first bytes, which are all the bytes of a final one
 abbrev pub made_of : NewUpload → List ℕ → Content
 made_of new bytes =
     record { kind = new.kind; length = if is_final_kind new.kind then Some (length bytes) else new.length; bytes = bytes; metadata = new.metadata; pairs = new.pairs; concat = new.concat }
 
--- whether all bytes of the upload have come
+-- whether all bytes of the upload have arrived
 abbrev pub is_complete : Content → Bool
 is_complete x = is_whole (length x.bytes) x.length
 
--- with this length, and more bytes at the end
+-- the upload with this length, and more bytes at the end
 abbrev pub with_more : Content → Option ℕ → List ℕ → Content
 with_more x size more = record x { length = size; bytes = x.bytes ++ more }
 
--- no more bytes than the length says
+-- no more bytes than the length allows
 abbrev pub IsWithinLength : Content → Type 0
 IsWithinLength x = length x.bytes ≤ most_of x.length
 
--- some bytes have yet to come, and with so many more there are no more than this length says
+-- the upload is not complete, and with `count` more bytes it is within this length
 abbrev pub CanTake : Option ℕ → ℕ → Content → Type 0
 CanTake size count x = (is_complete x ≡ false) × (length x.bytes + count ≤ most_of size)
 
 -- ---- PATCH
 
--- the length that is declared: a number, while none is known
+-- the length that is declared: a number, while no length is known
 abbrev pub declared : Option (Result ℕ NotDigits) → Option ℕ → Option ℕ
 declared (Some (Ok size)) None = Some size
 declared (Some (Ok size)) (Some known) = None
@@ -56,7 +56,7 @@ size_after p x = option_or x.length (declared p.length x.length)
 abbrev pub patched : Patch → Content → Content
 patched p x = with_more x (size_after p x) p.bytes
 
--- ---- the codes by which a proof tells values apart
+-- ---- the codes with which a proof compares values
 
 pub kind_to : Kind → Option Bool
 kind_to Plain = None

@@ -1,4 +1,5 @@
--- What is answered to a request: the first refusal that holds, in the order of the table, or the response with the change.
+-- The response to a request: the first refusal that holds, in the order of the table, or else the response with the
+-- change.
 use Rattle.std.specs.Prelude.{◌≡◌, ◌⊎◌, ◌+◌, ◌++◌, ℕ, Bool, true, false, not, ◌==◌, nat_lt, List, [], ◌∷◌, ◌&&◌, Option, Some, None, is_none, is_some, unwrap_or, Result, Ok, Err, IsOk, length, if◌then◌else◌}
 use Rattle.std.specs.FinMap as map
 use Rattle.std.specs.List.{list_any}
@@ -31,7 +32,7 @@ use Rattle.up_message.specs.declared.response.Response.{Response}
 
 -- ---- refusals
 
--- no upload has the id, or the rows of the one that has it
+-- no upload has the id, or the rows of the upload that has it
 abbrev pub rows_at : Option Content → (Content → List (Row Refusal)) → List (Row Refusal)
 rows_at None rows = (true, refusal.NotFound) ∷ []
 rows_at (Some x) rows = rows x
@@ -41,12 +42,13 @@ abbrev pub is_offset : Option ℕ → ℕ → Bool
 is_offset None n = false
 is_offset (Some m) n = m == n
 
--- whether this length can't be that of an upload: it is another, or less than the bytes that have come
+-- whether this cannot be the length of an upload: it differs from the known one, or is less than the number of bytes so
+-- far
 abbrev pub is_contrary : ℕ → Option ℕ → ℕ → Bool
 is_contrary size None offset = nat_lt size offset
 is_contrary size (Some known) offset = not (size == known)
 
--- whether a length was sent that can't be the upload's, or is no number
+-- whether a length was sent that cannot be the upload's, or is not a number
 abbrev pub is_bad_size : Option (Result ℕ NotDigits) → Content → Bool
 is_bad_size None x = false
 is_bad_size (Some (Err fault)) x = true
@@ -68,22 +70,22 @@ patch_rows max_size p x =
 abbrev pub take_rows : Bool → ℕ → Patch → Option Content → List (Row Refusal)
 take_rows closed max_size p found = (closed, refusal.Closed) ∷ rows_at found (patch_rows max_size p)
 
--- the row of an upload whose bytes are asked
+-- the row of an upload whose bytes are requested
 abbrev pub get_rows : Content → List (Row Refusal)
 get_rows x = (not (is_complete x), refusal.Unfinished) ∷ []
 
--- whether the upload is a part of others to come
+-- whether the upload is meant as a part of final uploads
 abbrev pub is_partial : Kind → Bool
 is_partial Plain = false
 is_partial Partial = true
 is_partial Final = false
 
--- whether there is such an upload, and the test holds of it
+-- whether there is such an upload, and the test holds for it
 abbrev pub passes : (Content → Bool) → Option Content → Bool
 passes test None = false
 passes test (Some x) = test x
 
--- the rows of the parts of a final upload; each looks at all of them
+-- the rows of the parts of a final upload; each row checks all parts
 abbrev pub part_rows : Contents → ℕ → List ℕ → List (Row Refusal)
 part_rows content max_size parts =
     (list_any (λ part. is_none (map.get content part)) parts, refusal.PartUnknown)
@@ -92,7 +94,7 @@ part_rows content max_size parts =
     ∷ (nat_lt max_size (length (joined content parts)), refusal.SumTooLong)
     ∷ []
 
--- the upload that a creation makes
+-- the upload that a creation results in
 abbrev pub new_content : State → NewUpload → Content
 new_content s new = made_of new (first_bytes s.content new)
 
@@ -109,7 +111,7 @@ planned_rows s (request.Patch p) = take_rows s.closed s.max_size p (map.get s.co
 planned_rows s (request.Delete u) = (s.closed, refusal.Closed) ∷ rows_at (map.get s.content u) (λ x. [])
 planned_rows s (request.Get u) = rows_at (map.get s.content u) get_rows
 
--- what a length that is declared, or none, and so many bytes are to an upload: neither is no change
+-- the change for an optional declared length and `count` bytes; without both there is no change
 abbrev pub change_by : ℕ → Option ℕ → ℕ → Option Accepted
 change_by u None count = if count == 0 then None else Some (Appended u count)
 change_by u (Some size) count = Some (Declared u size count)
@@ -123,12 +125,12 @@ patch_declared p (Some x) = declared p.length x.length
 abbrev pub patch_change : Patch → Option Content → Option Accepted
 patch_change p found = change_by p.id (patch_declared p found) (length p.bytes)
 
--- the length that the upload of a PATCH then has
+-- the length of the upload after a PATCH
 abbrev pub patch_size : Patch → Option Content → Option ℕ
 patch_size p None = None
 patch_size p (Some x) = size_after p x
 
--- the offset that the upload of a PATCH then has
+-- the offset of the upload after a PATCH
 abbrev pub patch_offset : Patch → Option Content → ℕ
 patch_offset p found = length (bytes_of found) + length p.bytes
 
@@ -136,12 +138,12 @@ patch_offset p found = length (bytes_of found) + length p.bytes
 abbrev pub patch_completes : Patch → Option Content → Bool
 patch_completes p found = is_some (patch_change p found) && is_whole (patch_offset p found) (patch_size p found)
 
--- what a PATCH comes to
+-- the result of a PATCH
 abbrev pub step_of : Patch → Option Content → Step
 step_of p found =
     record { offset = patch_offset p found; size = patch_size p found; declared = patch_declared p found; completes = patch_completes p found }
 
--- whether a request that nothing refuses makes an upload complete
+-- whether a request that is not refused makes an upload complete
 abbrev pub completes : State → Request → Bool
 completes s request.Options = false
 completes s (request.Create new) = is_complete (new_content s new)
@@ -150,14 +152,15 @@ completes s (request.Patch p) = patch_completes p (map.get s.content p.id)
 completes s (request.Delete u) = false
 completes s (request.Get u) = false
 
--- the rows of what was asked before a change: an upload isn't completed where that wasn't asked, and nothing is done that a closure refuses
+-- the rows of what the closures said before a change: a request that would complete an upload is refused if nobody was
+-- asked about that, and so is a request that a closure refuses
 abbrev pub asked_rows : Bool → Asked → List (Row Refusal)
 asked_rows completes Skipped = (completes, refusal.NotAsked) ∷ []
 asked_rows completes Allowed = (completes, refusal.NotAsked) ∷ []
 asked_rows completes AllowedFinish = []
 asked_rows completes (Refused status reason) = (true, refusal.ByHook status reason) ∷ []
 
--- whether a closure may refuse such a request
+-- whether a closure may refuse this request
 abbrev pub is_asked : Request → Bool
 is_asked request.Options = false
 is_asked (request.Create new) = true
@@ -173,7 +176,8 @@ is_refusal Allowed = false
 is_refusal AllowedFinish = false
 is_refusal (Refused status reason) = true
 
--- the rows that a commit checks: behind those of the plan, what was asked, and whether the new id was given before
+-- the rows that a commit checks: after those of the plan, what the closures said, and whether the new id was given
+-- before
 abbrev pub rows_of : State → Request → ℕ → Asked → List (Row Refusal)
 rows_of s (request.Create new) id asked =
     planned_rows s (request.Create new) ++ asked_rows (completes s (request.Create new)) asked ++ (is_known s.journal.accepted id, refusal.IdTaken) ∷ []
@@ -183,7 +187,7 @@ rows_of s request id asked = planned_rows s request
 
 -- ---- responses and changes
 
--- what is answered to a request that no row refuses
+-- the response to a request that no row refuses
 abbrev pub response_to : State → Request → ℕ → Response
 response_to s request.Options id = can_do s.max_size
 response_to s (request.Create new) id = created id
@@ -192,7 +196,7 @@ response_to s (request.Patch p) id = reached_offset (patch_offset p (map.get s.c
 response_to s (request.Delete u) id = removed
 response_to s (request.Get u) id = downloaded (bytes_of (map.get s.content u))
 
--- what a request changes that no row refuses
+-- the change of a request that no row refuses
 abbrev pub change_of : State → Request → ℕ → Option Accepted
 change_of s request.Options id = None
 change_of s (request.Create new) id = let x = new_content s new in Some (Created id x.length x.kind)
@@ -203,12 +207,12 @@ change_of s (request.Get u) id = None
 
 -- ---- the decision
 
--- the refusal, or else this
+-- the refusal, or else this value
 abbrev pub unless : {T : Type 0} → Option Refusal → T → Result T Refusal
 unless None x = Ok x
 unless (Some r) x = Err r
 
--- the first refusal of these rows that holds, or else this
+-- the first refusal of these rows that holds, or else this value
 abbrev pub checked : {T : Type 0} → List (Row Refusal) → T → Result T Refusal
 checked rows x = unless (first_that_holds rows) x
 
@@ -221,12 +225,12 @@ decide s request id asked =
 abbrev pub answer_to : State → Request → Result Response Refusal
 answer_to s request = checked (planned_rows s request) (response_to s request 0)
 
--- what is asked before an upload is made, also whether it may be complete at once
+-- what is asked before an upload is created, and also whether it may be complete at once
 abbrev pub plan_to_create : Content → Plan
 plan_to_create x =
     if is_complete x then AskBoth (ask_of point.Create None x) (ask_of point.Finish None x) else Ask (ask_of point.Create None x)
 
--- what is asked before bytes are taken: whether the upload may be complete with them
+-- what is asked before bytes are appended: whether the upload may be complete with them
 abbrev pub plan_to_take : Patch → Option Content → Plan
 plan_to_take p None = Ready
 plan_to_take p (Some x) = if patch_completes p (Some x) then Ask (ask_of point.Finish (Some p.id) (patched p x)) else Ready
@@ -236,8 +240,8 @@ abbrev pub plan_to_remove : ℕ → Option Content → Plan
 plan_to_remove u None = Ready
 plan_to_remove u (Some x) = Ask (ask_of point.Terminate (Some u) x)
 
--- a request that changes nothing is answered at once, the closures are asked of one that makes, completes or removes an upload, and other
--- bytes are to be committed
+-- a request that changes nothing gets its response at once; closures are asked about a request that creates, completes
+-- or removes an upload; other bytes are ready to be committed
 abbrev pub plan_of : State → Request → Plan
 plan_of s request.Options = Answer (response_to s request.Options 0)
 plan_of s (request.Create new) = plan_to_create (new_content s new)
@@ -250,6 +254,6 @@ plan_of s (request.Get u) = Answer (response_to s (request.Get u) 0)
 abbrev pub decide_plan : State → Request → Result Plan Refusal
 decide_plan s request = checked (planned_rows s request) (plan_of s request)
 
--- the answer is this one, or memory was refused for one that is no refusal
+-- the result is the expected one, or memory ran out and the expected one is no refusal
 abbrev pub Answers : {T : Type 0} → Result T Refusal → Result T Refusal → Type 0
 Answers result expected = (result ≡ expected) ⊎ ((result ≡ Err refusal.NoMemory) × IsOk expected)

@@ -1,4 +1,4 @@
--- How a reason is kept: its bytes, and zeros behind them.
+-- How a reason is kept: its bytes, followed by zeros.
 use Rattle.std.proofs.Common.{◌≡◌, ℕ, ◌-◌, ◌≤◌, true, List, ◌++◌, length, take, drop, replicate, sym, ap, ◌∙◌, subst}
 use Rattle.std.proofs.lemmas.List.{length-take-le, take-append-drop}
 use Rattle.up_machine.specs.Reasons.{is_reason}
@@ -13,7 +13,7 @@ pub record IsPadded (a : Inside) : Type 0 where
   pub zeros : drop a.count a.bytes ≡ replicate (80 - a.count) 0
   pub text : is_reason (take a.count a.bytes) ≡ true
 
--- the fields are known by the text
+-- the text determines the fields
 pub padded_back : (a : Inside) → IsPadded a → padded (take a.count a.bytes) ≡ a
 padded_back a kept =
     let all = subst (λ n. a.count ≤ n) (sym kept.size) kept.within in

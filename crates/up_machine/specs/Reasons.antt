@@ -1,4 +1,4 @@
--- Texts that say why a request is refused.
+-- Texts that give the reason for a refusal.
 use Rattle.std.specs.Prelude.{ℕ, Bool, ◌&&◌, nat_le, List, length, Option, Some, None, if◌then◌else◌}
 use Rattle.std.specs.List.{list_all}
 

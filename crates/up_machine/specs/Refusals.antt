@@ -1,4 +1,4 @@
--- What is answered to a request that is refused.
+-- The responses to requests that are refused.
 use Rattle.std.specs.Prelude.{◌++◌, codes}
 use Rattle.up_machine.specs.declared.refusal.Refusal.{Refusal}
 use Rattle.up_machine.specs.declared.refusal.Refusal.TheVariants as refusal

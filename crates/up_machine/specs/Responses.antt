@@ -6,11 +6,11 @@ use Rattle.up_message.specs.Fields.{Field}
 use Rattle.up_message.specs.Refused.{answered}
 use Rattle.up_message.specs.declared.response.Response.{Response}
 
--- an upload was made
+-- an upload was created
 abbrev pub created : ℕ → Response
 created id = answered 201 ((codes "Location", codes "/files/" ++ text_of id) ∷ []) []
 
--- an upload has come as far as this offset
+-- an upload has reached this offset
 abbrev pub reached_offset : ℕ → Response
 reached_offset offset = answered 204 ((codes "Upload-Offset", decimal offset) ∷ []) []
 
@@ -18,28 +18,28 @@ reached_offset offset = answered 204 ((codes "Upload-Offset", decimal offset) �
 abbrev pub removed : Response
 removed = answered 204 [] []
 
--- a field, where there is a text for it
+-- a field, if there is a text for it
 abbrev pub field_of : List ℕ → Option (List ℕ) → List Field
 field_of name None = []
 field_of name (Some text) = (name, text) ∷ []
 
--- the length, or that it is to come later
+-- the length, or that it will be declared later
 abbrev pub size_field : Option ℕ → Field
 size_field None = (codes "Upload-Defer-Length", codes "1")
 size_field (Some n) = (codes "Upload-Length", decimal n)
 
--- the fields that tell how an upload stands, none where there is none
+-- the fields with the state of an upload; none if there is no upload
 abbrev pub standing_fields : Option Content → List Field
 standing_fields None = []
 standing_fields (Some x) =
     ((codes "Upload-Offset", decimal (length x.bytes)) ∷ size_field x.length ∷ [])
     ++ field_of (codes "Upload-Metadata") x.metadata ++ field_of (codes "Upload-Concat") x.concat
 
--- how an upload stands
+-- the state of an upload
 abbrev pub standing : Option Content → Response
 standing found = answered 200 (standing_fields found) []
 
--- an upload's bytes
+-- the bytes of an upload
 abbrev pub downloaded : List ℕ → Response
 downloaded bytes = answered 200 ((codes "Content-Type", codes "application/octet-stream") ∷ []) bytes
 
@@ -47,7 +47,7 @@ downloaded bytes = answered 200 ((codes "Content-Type", codes "application/octet
 abbrev pub version : Field
 version = (codes "Tus-Version", codes "1.0.0")
 
--- what the server can do, with uploads of at most this size
+-- what the server supports, with uploads of at most this size
 abbrev pub can_do : ℕ → Response
 can_do max_size =
     answered 204 (version ∷ (codes "Tus-Extension", codes "creation,creation-defer-length,termination,concatenation") ∷ (codes "Tus-Max-Size", decimal max_size) ∷ []) []

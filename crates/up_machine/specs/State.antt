@@ -1,4 +1,4 @@
--- What a book stands for, and what a request makes of it.
+-- The model of a book, and how a request changes it.
 use Rattle.std.specs.Prelude.{ℕ, Bool, false, List, [], replicate, Option, Some, None, flat_map, if◌then◌else◌}
 use Rattle.std.specs.FinMap as map
 use Rattle.std.specs.FinMap.{FinMap}
@@ -16,36 +16,36 @@ use Rattle.up_machine.specs.Content.{Content, made_of, patched}
 abbrev pub Contents : Type 0
 Contents = FinMap nat_cmp Content
 
--- the uploads that there are, the journal of the changes, whether the book is closed, and the size that uploads may have
+-- the uploads that exist, the journal of the changes, whether the book is closed, and the maximum size of an upload
 pub record State : Type 0 where
   pub content : Contents
   pub journal : Records
   pub closed : Bool
   pub max_size : ℕ
 
--- a book in which nothing was done yet
+-- a book before its first change
 abbrev pub empty_state : ℕ → ℕ → State
 empty_state lanes max_size =
     record { content = map.empty; journal = empty_records lanes; closed = false; max_size = max_size }
 
--- the same, where the journal counts the changes and doesn't keep them
+-- the same, with a journal that counts the changes and does not keep them
 abbrev pub counting_state : ℕ → ℕ → State
 counting_state lanes max_size = record (empty_state lanes max_size) { journal = record (empty_records lanes) { keeps = false } }
 
--- the book as if its journal had forgotten no event
+-- the book as if its journal had not forgotten any event
 abbrev pub recalled : State → State
 recalled s = record s { journal = record s.journal { firsts = replicate s.journal.lanes 0 } }
 
--- the bytes of an upload, none where there is none
+-- the bytes of an upload; none if there is no upload
 abbrev pub bytes_of : Option Content → List ℕ
 bytes_of None = []
 bytes_of (Some x) = x.bytes
 
--- the bytes of these uploads, one after another
+-- the bytes of these uploads, in order
 abbrev pub joined : Contents → List ℕ → List ℕ
 joined content parts = flat_map (λ part. bytes_of (map.get content part)) parts
 
--- the bytes that a new upload begins with: a final one with those of its parts
+-- the first bytes of a new upload: those of its parts for a final one
 abbrev pub first_bytes : Contents → NewUpload → List ℕ
 first_bytes content new = if is_final_kind new.kind then joined content new.parts else []
 
@@ -54,7 +54,7 @@ abbrev pub extended : Contents → Patch → Option Content → Contents
 extended content p None = content
 extended content p (Some x) = map.insert content p.id (patched p x)
 
--- the content after a request that is carried out
+-- the content after a request was carried out
 abbrev pub next : Contents → Request → ℕ → Contents
 next content request.Options id = content
 next content (request.Create new) id = map.insert content id (made_of new (first_bytes content new))
@@ -63,7 +63,7 @@ next content (request.Patch p) id = extended content p (map.get content p.id)
 next content (request.Delete u) id = map.remove content u
 next content (request.Get u) id = content
 
--- the book after a request that made this change, or none
+-- the book after a request with this change, if any
 abbrev pub after : State → Request → ℕ → Option Accepted → State
 after s request id None = s
 after s request id (Some change) = record s { content = next s.content request id; journal = noted s.journal change }

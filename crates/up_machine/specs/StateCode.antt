@@ -1,4 +1,4 @@
--- The code by which a proof tells states apart.
+-- The code with which a proof compares states.
 use Rattle.std.specs.Prelude.{ℕ, Bool, refl}
 use Rattle.std.specs.Coded.{Coded, code_by, coded×, coded_ℕ, coded_bool}
 use Rattle.std.specs.FinMap as map

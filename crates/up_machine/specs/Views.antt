@@ -1,4 +1,4 @@
--- What is shown of an upload.
+-- The view of an upload.
 use Rattle.std.specs.Prelude.{◌≡◌, ◌≤◌, ◌++◌, Option, Some, None, length}
 use Rattle.std.specs.Option.{option_copied}
 use Rattle.up_message.specs.Joins.{pieced, pieced_then}
@@ -16,7 +16,7 @@ pub record IsViewOf (x : Content) (v : View) : Type 0 where
   pub spare : v.spare ≤ tail_room
   pub bytes : pieced v.runs.now ++ pieced_then v.pieces.now v.tail.now ≡ x.bytes
 
--- there is a view just where there is an upload, and it is of that one
+-- there is a view exactly if there is an upload, and it is of that upload
 abbrev pub Shows : Option Content → Option View → Type 0
 Shows None None = Unit {0}
 Shows None (Some v) = ⊥

@@ -1,4 +1,4 @@
-//! The responses, each made before anything is changed.
+//! The responses. Each is made before anything is changed.
 ghost use Rattle.std.specs.Prelude.{◌≡◌, ◌++◌, ◌∷◌, [], codes, decimal, Some, IfOk};
 ghost use Rattle.std.specs.Option.{option_copied};
 ghost use Rattle.up_machine.specs.Responses.{created, reached_offset, removed, standing, downloaded, can_do, field_of, size_field};
@@ -11,7 +11,7 @@ use std::alloc::Global;
 use up_events::{Id, NoMemory};
 use up_message::{Piece, Response, Sequence};
 
-/// With a field whose value is a number.
+/// Adds a field with a number as its value.
 fn with_number(response: Response, alloc: Global, name: &[u8], n: u64) -> Result<Response, NoMemory>
     ensures { IfOk result (λ made. made
         ≡ record response { fields = response.fields ++ (name.now, decimal n) ∷ [] }) }
@@ -20,7 +20,7 @@ fn with_number(response: Response, alloc: Global, name: &[u8], n: u64) -> Result
     Ok(response.with_field(alloc, name, digits.format(n).as_bytes())?)
 }
 
-/// With a field, where there is a text for it.
+/// Adds a field, if there is a text for it.
 fn with_text(
     response: Response,
     alloc: Global,
@@ -37,8 +37,8 @@ fn with_text(
     }
 }
 
-/// To a question for what the server can do (tus 1.0.0, OPTIONS): the version, the extensions, and how large an upload may
-/// be, in bytes.
+/// The response to OPTIONS (tus 1.0.0, OPTIONS): the version, the extensions, and the maximum size of an upload, in
+/// bytes. `NoMemory` if memory runs out.
 pub fn to_options(alloc: Global, max_size: u64) -> Result<Response, NoMemory>
     ensures { IfOk result (λ made. made ≡ can_do max_size) }
 {
@@ -52,7 +52,7 @@ pub fn to_options(alloc: Global, max_size: u64) -> Result<Response, NoMemory>
     with_number(response, alloc, b"Tus-Max-Size", max_size)
 }
 
-/// To a POST that made an upload: its URL (tus 1.0.0, Creation).
+/// The response to a POST that created an upload: its URL (tus 1.0.0, Creation). `NoMemory` if memory runs out.
 pub fn to_create(alloc: Global, id: Id) -> Result<Response, NoMemory>
     ensures { IfOk result (λ made. made ≡ created id) }
 {
@@ -61,7 +61,7 @@ pub fn to_create(alloc: Global, id: Id) -> Result<Response, NoMemory>
     Ok(Response::new(alloc, 201).with_field(alloc, b"Location", &path)?)
 }
 
-/// With the length, or that it is to come later.
+/// Adds the length, or that it will be declared later.
 fn with_size(response: Response, alloc: Global, size: Option<u64>) -> Result<Response, NoMemory>
     ensures { IfOk result (λ made. made
         ≡ record response { fields = response.fields ++ size_field size ∷ [] }) }
@@ -72,7 +72,7 @@ fn with_size(response: Response, alloc: Global, size: Option<u64>) -> Result<Res
     }
 }
 
-/// To a HEAD of an upload: how it stands (tus 1.0.0, HEAD).
+/// The response to a HEAD of an upload: its state (tus 1.0.0, HEAD). `NoMemory` if memory runs out.
 pub fn to_head(alloc: Global, upload: &Upload) -> Result<Response, NoMemory>
     ensures { IfOk result (λ made. made ≡ standing (Some upload.now)) }
 {
@@ -83,21 +83,22 @@ pub fn to_head(alloc: Global, upload: &Upload) -> Result<Response, NoMemory>
     with_text(response, alloc, b"Upload-Concat", upload.concat())
 }
 
-/// To a PATCH that was taken: the offset then reached (tus 1.0.0, PATCH).
+/// The response to a PATCH that was accepted: the offset after it (tus 1.0.0, PATCH). `NoMemory` if memory runs out.
 pub fn to_patch(alloc: Global, offset: u64) -> Result<Response, NoMemory>
     ensures { IfOk result (λ made. made ≡ reached_offset offset) }
 {
     with_number(Response::new(alloc, 204), alloc, b"Upload-Offset", offset)
 }
 
-/// To a DELETE that was carried out (tus 1.0.0, Termination). Takes no memory.
+/// The response to a DELETE that was carried out (tus 1.0.0, Termination). Takes no memory.
 pub fn to_delete(alloc: Global) -> Response
     ensures { result ≡ removed }
 {
     Response::new(alloc, 204)
 }
 
-/// To a GET of an upload: its bytes, which are not copied where the upload shares them.
+/// The response to a GET of an upload: its bytes, which are not copied if the upload shares them. `NoMemory` if memory
+/// runs out.
 pub fn to_get(alloc: Global, upload: &Upload) -> Result<Response, NoMemory>
     ensures { IfOk result (λ made. made ≡ downloaded upload.now.bytes) }
 {
@@ -109,7 +110,7 @@ pub fn to_get(alloc: Global, upload: &Upload) -> Result<Response, NoMemory>
     )
 }
 
-/// To a request that a closure refuses: why, in the closure's words.
+/// The response to a request that a closure refuses: the closure's reason. `NoMemory` if memory runs out.
 pub fn refused_because(alloc: Global, status: u16, reason: &Reason) -> Result<Response, NoMemory>
     ensures { IfOk result (λ made. made ≡ refused_with status (reason.now ++ codes "\n")) }
 {

@@ -1,4 +1,4 @@
-//! What a closure is asked, and what it answers.
+//! The question for a closure, and its verdict.
 ghost use Rattle.std.specs.Prelude.{◌≡◌, ◌++◌, ◌∷◌, [], None, Some, IfOk, if◌then◌else◌};
 ghost use Rattle.std.specs.Option.{option_copied};
 ghost use Rattle.up_events.specs.History.{is_final_kind};
@@ -15,35 +15,35 @@ use up_message::Sequence;
 /// When a closure is asked.
 #[derive(Clone, Copy, Debug, PartialEq, Eq)]
 pub enum Point {
-    /// Before an upload is made: `pre-create`.
+    /// Before an upload is created: `pre-create`.
     Create,
     /// Before an upload is removed: `pre-terminate`.
     Terminate,
-    /// Before an upload is complete, by its creation or by bytes: `pre-finish`.
+    /// Before an upload is complete, by its creation or by an append: `pre-finish`.
     Finish,
 }
 
-/// What a closure is asked about.
+/// The question for a closure.
 #[derive(Drop)]
 pub struct Ask {
     pub point: Point,
-    /// The upload that is to be removed, or to get bytes. None where one is to be made, which has no id yet.
+    /// The upload to be removed or appended to. `None` for an upload to be created, which has no id yet.
     pub target: Option<Id>,
     pub kind: Kind,
-    /// In bytes: how far an upload that is to be removed has come; else how far it will have come with the request. A new one
-    /// begins with all of its bytes if it is final, and with none if it isn't.
+    /// In bytes: the offset of an upload to be removed; otherwise the offset after the request. A new upload begins
+    /// with all of its bytes if it is final, and otherwise with none.
     pub offset: u64,
-    /// In bytes, where it is known. A final upload has the length of its parts together.
+    /// In bytes, if it is known. The length of a final upload is that of its parts together.
     pub length: Option<u64>,
-    /// The pairs of the metadata text with which the upload is made, or was.
+    /// The pairs of the metadata text of the upload.
     pub pairs: Pairs,
 }
 
-/// What a closure answers.
+/// The answer of a closure.
 #[derive(Clone, Copy, Debug, PartialEq, Eq)]
 pub enum Verdict {
     Allow,
-    /// The request isn't carried out. The status of the response is 400, 403, 409, 413, 422 or 429.
+    /// The request is not carried out. The status of the response is 400, 403, 409, 413, 422 or 429.
     Refuse { status: u16, reason: Reason },
 }
 
@@ -71,7 +71,7 @@ fn copy_pairs(alloc: Global, pairs: &[(Sequence<u8>, Sequence<u8>)]) -> Result<P
     Ok(made)
 }
 
-/// The length of a new upload that begins with so many bytes.
+/// The length of a new upload whose first bytes are `offset` in number.
 pub(crate) fn first_size(new: &NewUpload, offset: u64) -> Option<u64>
     ensures { result ≡ (if is_final_kind new.now.kind then Some offset else new.now.length) }
 {
@@ -87,7 +87,7 @@ impl Ask {
     ghost use Rattle.up_machine.specs.Decision.{step_of};
     ghost use Rattle.up_machine.specs.declared.ask.Point.TheVariants.{Terminate, Finish};
 
-    /// What is asked at this point before an upload is made, which begins with so many bytes.
+    /// The question at this point before an upload is created, whose first bytes are `offset` in number.
     pub(crate) fn to_create(
         alloc: Global,
         point: Point,
@@ -113,7 +113,7 @@ impl Ask {
         })
     }
 
-    /// What is asked before an upload takes bytes that make it complete.
+    /// The question before an append that makes an upload complete.
     pub(crate) fn to_take(
         alloc: Global,
         patch: &Patch,
@@ -134,7 +134,7 @@ impl Ask {
         })
     }
 
-    /// What is asked before this upload is removed.
+    /// The question before this upload is removed.
     pub(crate) fn to_remove(alloc: Global, id: Id, upload: &Upload) -> Result<Ask, NoMemory>
         ensures { IfOk result (λ ask. ask ≡ ask_of Terminate (Some id) upload.now) }
     {

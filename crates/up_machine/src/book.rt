@@ -1,4 +1,4 @@
-//! The book: the uploads and the journal, and what is decided on requests.
+//! The book: the uploads and the journal, and the decisions on requests.
 ghost use Rattle.std.specs.Prelude.{◌≡◌, ◌≤◌, ◌<◌, true, false, length, Ok, Some, IfErr, IfOk, IsErr, IsSome, OnErr};
 ghost use Rattle.std.specs.FinMap as map;
 
@@ -17,9 +17,9 @@ use up_events::{Accepted, Changes, Id, Journal, MOST_BYTES, MOST_LANES, NoMemory
 use up_headers::{NewUpload, Patch, Request};
 use up_message::Response;
 
-/// The uploads, and the journal of the changes that made them what they are. A request takes time by the logarithm of the
-/// number of uploads and by the number of parts that it joins, growth by doubling aside. It copies a small body and a tail of at
-/// most 64 KiB, however many bytes it brings, asks for, joins or removes.
+/// The uploads, and the journal of the changes that led to them. The time of a request grows with the logarithm of the
+/// number of uploads and with the number of parts that it joins, apart from the growth of lists. A request copies a
+/// small body and a tail of at most 64 KiB, no matter how many bytes it sends, asks for, joins or removes.
 #[derive(Drop)]
 pub struct Book {
     uploads: Uploads,
@@ -65,7 +65,8 @@ impl Book {
     ghost use Rattle.up_machine.specs.Views.{Shows};
     ghost use Rattle.up_machine.specs.declared.plan.Plan.TheVariants.{Ready as is_ready};
 
-    /// A book with no upload, with a log for each lane, and with this most size of an upload, in bytes.
+    /// A book without uploads, with a log for each lane. `max_size` is the maximum size of an upload, in bytes.
+    /// `NoMemory` if memory runs out.
     pub fn new(alloc: Global, lanes: u64, max_size: u64) -> Result<Book, NoMemory>
         requires some_lane { 0 < lanes }
         requires few_lanes { lanes ≤ MOST_LANES }
@@ -80,7 +81,7 @@ impl Book {
         })
     }
 
-    /// The same, of a book whose journal counts the changes and doesn't keep them.
+    /// The same, with a journal that counts the changes and does not keep them. `NoMemory` if memory runs out.
     pub fn forgetting(alloc: Global, lanes: u64, max_size: u64) -> Result<Book, NoMemory>
         requires some_lane { 0 < lanes }
         requires few_lanes { lanes ≤ MOST_LANES }
@@ -95,14 +96,15 @@ impl Book {
         })
     }
 
-    /// From now on the book takes no change; what there is can still be asked. Closing twice is as closing once.
+    /// Closes the book: it accepts no more changes, and its state can still be requested. Closing twice is the same as
+    /// closing once.
     pub fn close(&mut self)
         ensures { self.new ≡ record self.old { closed = true } }
     {
         self.closed = true;
     }
 
-    /// Whether the book takes no change any more.
+    /// Whether the book accepts no more changes.
     pub fn is_closed(&self) -> bool
         ensures { result ≡ self.now.closed }
     {
@@ -117,7 +119,7 @@ impl Book {
         &self.journal
     }
 
-    /// Has the journal forget the events of a lane's log before this place.
+    /// Makes the journal forget the events of a lane's log before this place.
     pub fn forget(&mut self, lane: u64, place: u64)
         requires there { first_of self.old.journal lane ≤ place }
         requires within { place ≤ length (lane_log self.old.journal lane) }
@@ -126,7 +128,7 @@ impl Book {
         self.journal.forget(lane, place);
     }
 
-    /// The changes that were accepted, in order, kept or counted.
+    /// The accepted changes, in order, kept or counted.
     pub fn into_accepted(self) -> Changes
         ensures items { result.items ≡ self.journal.accepted }
         ensures keeps { result.keeps ≡ self.journal.keeps }
@@ -134,7 +136,7 @@ impl Book {
         self.journal.into_accepted()
     }
 
-    /// The upload that has this id, where there is one.
+    /// The upload with this id, if there is one.
     pub fn upload(&self, id: Id) -> Option<View>
         ensures { Shows (map.get self.now.content id) result }
     {
@@ -144,14 +146,14 @@ impl Book {
         }
     }
 
-    /// Tells what the server can do (tus 1.0.0, OPTIONS).
+    /// What the server supports (tus 1.0.0, OPTIONS).
     fn options(&self, alloc: Global) -> Result<Response, Refusal>
         ensures { Answers result (answer_to self.now request.Options) }
     {
         Ok(answer::to_options(alloc, self.max_size)?)
     }
 
-    /// Tells how an upload stands (tus 1.0.0, HEAD).
+    /// The state of an upload (tus 1.0.0, HEAD).
     fn head(&self, alloc: Global, id: Id) -> Result<Response, Refusal>
         ensures { Answers result (answer_to self.now (request.Head id)) }
     {
@@ -161,7 +163,7 @@ impl Book {
         Ok(answer::to_head(alloc, upload)?)
     }
 
-    /// Gives the bytes of an upload that is complete.
+    /// The bytes of a complete upload.
     fn get(&self, alloc: Global, id: Id) -> Result<Response, Refusal>
         ensures { Answers result (answer_to self.now (request.Get id)) }
     {
@@ -174,7 +176,7 @@ impl Book {
         Ok(answer::to_get(alloc, upload)?)
     }
 
-    /// What refuses a creation at planning, or else how many bytes the upload begins with.
+    /// The refusal of a creation at planning, or else the number of first bytes of the upload.
     fn check_creation(&self, new: &NewUpload) -> Result<u64, Refusal>
         ensures { result ≡ checked
             (planned_rows self.now (request.Create new.now))
@@ -186,7 +188,7 @@ impl Book {
         parts::check_first_bytes(&self.uploads, self.max_size, new)
     }
 
-    /// What refuses a creation.
+    /// The refusal of a creation, if any.
     fn check_create(&self, new: &NewUpload, id: Id, asked: &Asked) -> Result<(), Refusal>
         ensures { result ≡ checked (rows_of self.now (request.Create new.now) id asked.now) tt }
     {
@@ -198,7 +200,7 @@ impl Book {
         Ok(())
     }
 
-    /// Makes an upload (tus 1.0.0, Creation).
+    /// Creates an upload (tus 1.0.0, Creation).
     fn create(
         &mut self,
         alloc: Global,
@@ -224,7 +226,7 @@ impl Book {
         Ok(Done { response, change })
     }
 
-    /// Takes bytes at the end of an upload (tus 1.0.0, PATCH).
+    /// Appends bytes to an upload (tus 1.0.0, PATCH).
     fn append(&mut self, alloc: Global, patch: &Patch, asked: &Asked) -> Result<Done, Refusal>
         ensures answer { Answers result
             (decide self.old (request.Patch patch.now) 0 asked.now) }
@@ -251,7 +253,7 @@ impl Book {
         Ok(Done { response, change })
     }
 
-    /// The same, with the body left over.
+    /// The same, and puts the body into `remains`.
     fn patch(
         &mut self,
         alloc: Global,
@@ -269,7 +271,7 @@ impl Book {
         done
     }
 
-    /// What refuses a removal at planning, or else the upload.
+    /// The refusal of a removal at planning, or else the upload.
     fn check_delete(&self, id: Id) -> Result<&Upload, Refusal>
         ensures ok { IfOk result (λ upload. (self.now.closed ≡ false)
             × (map.get self.now.content id ≡ Some upload.now)) }
@@ -282,7 +284,7 @@ impl Book {
         self.uploads.get(id).ok_or(Refusal::NotFound)
     }
 
-    /// What closures are asked before an upload is made.
+    /// What closures are asked before an upload is created.
     fn plan_create(&self, alloc: Global, new: &NewUpload) -> Result<Plan, Refusal>
         ensures { Answers result (decide_plan self.now (request.Create new.now)) }
     {
@@ -295,7 +297,7 @@ impl Book {
         Ok(Plan::AskBoth(made, complete))
     }
 
-    /// What closures are asked before bytes are taken.
+    /// What closures are asked before bytes are appended.
     fn plan_patch(&self, alloc: Global, patch: &Patch) -> Result<Plan, Refusal>
         ensures answer { Answers result (decide_plan self.now (request.Patch patch.now)) }
         ensures ready { decide_plan self.now (request.Patch patch.now) ≡ Ok is_ready
@@ -344,9 +346,9 @@ impl Book {
         Ok(Done { response, change })
     }
 
-    /// What would come of a request: the response to one that changes nothing, what closures are asked before one that makes,
-    /// completes or removes an upload, that other bytes can be committed, or the refusal. `NoMemory` comes only to a request that
-    /// nothing else refuses, and not to other bytes.
+    /// The plan of a request: the response to a request that changes nothing, the question for closures before a
+    /// request that creates, completes or removes an upload, that other bytes can be committed, or the refusal.
+    /// `NoMemory` is returned only if nothing else refuses the request, and never for other bytes.
     pub fn plan(&self, alloc: Global, request: &Request) -> Result<Plan, Refusal>
         ensures answer { Answers result (decide_plan self.now request.now) }
         ensures ready { decide_plan self.now request.now ≡ Ok is_ready
@@ -362,10 +364,11 @@ impl Book {
         }
     }
 
-    /// Decides on a request, and carries it out where nothing refuses it. The id is for a new upload, the others bring their
-    /// own. A request that is refused changes nothing; `NoMemory` comes only to one that nothing else refuses. Nothing changes once
-    /// the book is closed. Where a closure refuses a creation, bytes or a removal, it is refused, if not for another reason, and
-    /// changes nothing. What it leaves over goes into `remains`, so that it can be dropped later.
+    /// Decides on a request, and carries it out if nothing refuses it. `id` is the id of a new upload; other requests
+    /// have the id in them. A request that is refused changes nothing. `NoMemory` is returned only if nothing else
+    /// refuses the request. Once the book is closed, nothing changes. If a closure refuses a creation, an append or a
+    /// removal, the request is refused, for this reason or for another one, and changes nothing. What the request
+    /// leaves over goes into `remains`, so that it can be dropped later.
     pub fn commit(
         &mut self,
         alloc: Global,

@@ -1,4 +1,4 @@
-//! The checks of a request against the uploads, in their order.
+//! The checks of a request against the uploads, in order.
 ghost use Rattle.std.specs.Prelude.{◌≡◌, ◌++◌, ◌∷◌, [], Some};
 ghost use Rattle.std.specs.FinMap as map;
 ghost use Rattle.up_machine.specs.Content.{declared};
@@ -12,20 +12,20 @@ use crate::uploads::Uploads;
 use up_events::{Accepted, Id, Kind};
 use up_headers::{NotDigits, Patch};
 
-/// What a PATCH comes to.
+/// The result of a PATCH.
 #[derive(Clone, Copy, Debug)]
 pub struct Step {
-    /// How many bytes the upload then has.
+    /// The number of bytes of the upload after it.
     pub offset: u64,
-    /// How many it is to have, where that is then known.
+    /// The length of the upload after it, in bytes, if it is then known.
     pub size: Option<u64>,
-    /// The length, where it is declared.
+    /// The length, if it is declared.
     pub declared: Option<u64>,
-    /// Whether the upload is complete by that.
+    /// Whether the upload is complete after it.
     pub completes: bool,
 }
 
-/// What refuses a PATCH, before which this was said, or else what it comes to.
+/// The refusal of a PATCH, given what the closures said, or else its result.
 pub fn check_take(
     uploads: &Uploads,
     closed: bool,
@@ -48,7 +48,7 @@ pub fn check_take(
     check_said(upload, max_size, patch, asked)
 }
 
-/// The same, where the upload is there.
+/// The same, for an upload that exists.
 fn check_said(upload: &Upload, max_size: u64, patch: &Patch, asked: &Asked) -> Result<Step, Refusal>
     ensures { let found = Some upload.now in
         result ≡ checked
@@ -61,7 +61,7 @@ fn check_said(upload: &Upload, max_size: u64, patch: &Patch, asked: &Asked) -> R
     Ok(step)
 }
 
-/// What refuses a PATCH of this upload at planning, or else what it comes to.
+/// The refusal of a PATCH of this upload at planning, or else its result.
 pub fn check_bytes(upload: &Upload, max_size: u64, patch: &Patch) -> Result<Step, Refusal>
     ensures { result ≡ checked (patch_rows max_size patch.now upload.now)
         (step_of patch.now (Some upload.now)) }
@@ -99,7 +99,7 @@ pub fn check_bytes(upload: &Upload, max_size: u64, patch: &Patch) -> Result<Step
     })
 }
 
-/// The length that is declared, if one is, or else what refuses the one that was sent.
+/// The length that is declared, if any, or else the refusal of the length that was sent.
 fn declared(upload: &Upload, sent: Option<Result<u64, NotDigits>>) -> Result<Option<u64>, Refusal>
     ensures { result ≡ checked
         ((is_bad_size sent upload.now, refusal.BadDeclared) ∷ [])
@@ -117,7 +117,7 @@ fn declared(upload: &Upload, sent: Option<Result<u64, NotDigits>>) -> Result<Opt
     }
 }
 
-/// The change that a length, if one is declared, and so many bytes are to an upload.
+/// The change for an optional declared length and `count` bytes.
 pub fn change_by(id: Id, declared: Option<u64>, count: u64) -> Option<Accepted>
     ensures { result ≡ change_by id declared count }
 {
@@ -128,7 +128,8 @@ pub fn change_by(id: Id, declared: Option<u64>, count: u64) -> Option<Accepted>
     }
 }
 
-/// What refuses a request because of those that were asked, or weren't.
+/// The refusal of a request if a closure refuses it, or if it would complete an upload and the closures were not asked
+/// about that.
 pub fn check_asked(completes: bool, asked: &Asked) -> Result<(), Refusal>
     ensures { result ≡ checked (asked_rows completes asked.now) tt }
 {

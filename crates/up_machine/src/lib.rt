@@ -1,4 +1,4 @@
-//! The book of uploads: what is decided on each request of the tus protocol 1.0.0, what it makes of the uploads, and the
+//! The book of uploads: the decision on each request of the tus protocol 1.0.0, how it changes the uploads, and the
 //! journal of the changes.
 #![tactic(auto)]
 

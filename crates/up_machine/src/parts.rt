@@ -57,7 +57,7 @@ fn any_incomplete(uploads: &Uploads, parts: &[Id]) -> bool
     parts.iter().any(|part| !is_complete(uploads, *part))
 }
 
-/// How many bytes an upload has, none if there is none.
+/// The number of bytes of an upload, 0 if there is none.
 fn count_of(uploads: &Uploads, id: Id) -> u64
     ensures { result ≡ length (bytes_of (map.get uploads.now id)) }
 {
@@ -67,7 +67,7 @@ fn count_of(uploads: &Uploads, id: Id) -> u64
     }
 }
 
-/// How many bytes the parts have together, where these are at most so many.
+/// The number of bytes of the parts together, if it is at most `most`.
 fn sum_within(uploads: &Uploads, parts: &[Id], most: u64) -> Option<u64>
     ensures { result ≡ (if nat_lt most (length (joined uploads.now parts.now)) then None
         else Some (length (joined uploads.now parts.now))) }
@@ -83,7 +83,7 @@ fn sum_within(uploads: &Uploads, parts: &[Id], most: u64) -> Option<u64>
     Some(sum)
 }
 
-/// What refuses these parts, or else how many bytes they have together.
+/// The refusal of these parts, or else the number of their bytes together.
 fn check_parts(uploads: &Uploads, max_size: u64, parts: &[Id]) -> Result<u64, Refusal>
     ensures { result ≡ checked (part_rows uploads.now max_size parts.now)
         (length (joined uploads.now parts.now)) }
@@ -103,7 +103,7 @@ fn check_parts(uploads: &Uploads, max_size: u64, parts: &[Id]) -> Result<u64, Re
     }
 }
 
-/// What refuses a new upload because of its parts, or else how many bytes it begins with.
+/// The refusal of a new upload because of its parts, or else the number of its first bytes.
 pub fn check_first_bytes(uploads: &Uploads, max_size: u64, new: &NewUpload) -> Result<u64, Refusal>
     ensures { result ≡ checked (create_rows uploads.now max_size new.now)
         (length (first_bytes uploads.now new.now)) }
@@ -115,7 +115,7 @@ pub fn check_first_bytes(uploads: &Uploads, max_size: u64, new: &NewUpload) -> R
     }
 }
 
-/// Puts the bytes of an upload at the end, shared, if there is one.
+/// Adds the bytes of an upload at the end, shared, if there is an upload.
 fn join_one(alloc: Global, bytes: &mut Segments, uploads: &Uploads, id: Id) -> Result<(), NoMemory>
     requires { length bytes.old + length (bytes_of (map.get uploads.now id)) < 2 ^ 64 }
     ensures { OnOk result (bytes.new ≡ bytes.old ++ bytes_of (map.get uploads.now id)) }
@@ -126,8 +126,8 @@ fn join_one(alloc: Global, bytes: &mut Segments, uploads: &Uploads, id: Id) -> R
     Ok(())
 }
 
-/// The bytes of the parts, one after another, which are shared and not copied. Each part is one run as a rule, so room for
-/// them is made once.
+/// The bytes of the parts, in order. They are shared and not copied. A part is usually one run, so room for that many
+/// runs is made at once.
 fn join(alloc: Global, uploads: &Uploads, parts: &[Id]) -> Result<Segments, NoMemory>
     requires { length (joined uploads.now parts.now) < 2 ^ 64 }
     ensures { IfOk result (λ bytes. bytes ≡ joined uploads.now parts.now) }
@@ -139,8 +139,8 @@ fn join(alloc: Global, uploads: &Uploads, parts: &[Id]) -> Result<Segments, NoMe
     Ok(bytes)
 }
 
-/// The bytes that a new upload begins with: those of its parts, if it is a final one, else none. The length that is announced
-/// takes no room.
+/// The first bytes of a new upload: those of its parts if it is a final one, and otherwise none. An announced length
+/// takes no room. `NoMemory` if memory runs out.
 pub fn first_bytes(alloc: Global, uploads: &Uploads, new: &NewUpload) -> Result<Segments, NoMemory>
     requires { length (first_bytes uploads.now new.now) < 2 ^ 64 }
     ensures { IfOk result (λ bytes. bytes ≡ first_bytes uploads.now new.now) }

@@ -1,4 +1,4 @@
-//! The bytes of an upload of which more may come.
+//! The bytes of an upload that may still grow.
 ghost use Rattle.std.specs.Prelude.{◌≡◌, ◌+◌, ◌<◌, ◌^◌, ◌≤◌, ◌++◌, [], length, IfOk, IfErr, OnOk, OnErr};
 ghost use Rattle.up_events.specs.History.{CanFollow};
 ghost use Rattle.up_events.specs.Records.{noted};
@@ -11,18 +11,18 @@ use std::marker::Model;
 use up_events::{Accepted, Journal, NoMemory};
 use up_message::{Piece, Run, Segments};
 
-/// A body of at least so many bytes is kept as it came. A smaller one is copied into the tail.
+/// The minimum size, in bytes, of a body that is kept as it arrived. A smaller body is copied into the tail.
 const KEPT_FROM: usize = 16_384;
 
-/// The most room that a tail has.
+/// The maximum room of a tail, in bytes.
 const TAIL_ROOM: usize = 65_536;
 
-/// The bytes of an upload of which more may come: the large bodies, as they came, and a tail of the small ones that came after
-/// them. Contracts see the bytes, whatever the pieces.
+/// The bytes of an upload that may still grow: the large bodies, as they arrived, and a tail of the small bodies after
+/// them. Contracts describe the bytes, whatever the pieces.
 #[derive(Drop)]
 pub struct Pieces {
     front: Vec<Piece>,
-    /// How many bytes the front has.
+    /// The number of bytes in `front`.
     count: u64,
     tail: BytesMut,
 }
@@ -42,7 +42,7 @@ impl Model for Pieces {
     ghost invariant = { IsKept };
 }
 
-/// Makes a piece of the tail, just as large as it is. If memory is refused, the bytes stay where they are.
+/// Makes the tail a piece of exactly its size. If memory runs out, the bytes stay where they are.
 fn seal(
     alloc: Global,
     front: &mut Vec<Piece>,
@@ -70,7 +70,7 @@ fn seal(
     Ok(())
 }
 
-/// Makes a piece of the tail, if it can't take so few bytes more.
+/// Makes the tail a piece if it cannot take `more` bytes.
 fn seal_if_full(
     alloc: Global,
     front: &mut Vec<Piece>,
@@ -95,7 +95,8 @@ fn seal_if_full(
     seal(alloc, front, count, tail)
 }
 
-/// Makes room in the tail for so few bytes more: twice the room that there was, if it may come to have so many.
+/// Makes room in the tail for `more` bytes: it doubles the room, up to `most`, and makes at least the room that is
+/// needed.
 fn grow(alloc: Global, tail: &mut BytesMut, more: usize, most: u64) -> Result<(), AllocError>
     requires fits { length tail.old.items + more ≤ tail_room }
     requires bounded { length tail.old.items + tail.old.spare ≤ tail_room }
@@ -110,7 +111,7 @@ fn grow(alloc: Global, tail: &mut BytesMut, more: usize, most: u64) -> Result<()
     }
     let most = most.min(TAIL_ROOM as u64) as usize;
     let mut grown = BytesMut::with_capacity(alloc, (room * 2).min(most).max(needed))?;
-    // It makes no more room than it is asked for, but its contract lets it.
+    // `with_capacity` makes no more room than it is asked for, but its contract does not say so.
     if grown.capacity() > TAIL_ROOM {
         return Err(AllocError);
     }
@@ -119,7 +120,7 @@ fn grow(alloc: Global, tail: &mut BytesMut, more: usize, most: u64) -> Result<()
     Ok(())
 }
 
-/// A piece of the tail: the tail itself, or a copy if it has room to spare. If memory is refused, the tail comes back.
+/// The tail as a piece: the tail itself, or a copy if it has room left. Returns the tail if memory runs out.
 fn to_last(alloc: Global, tail: BytesMut) -> Result<Piece, BytesMut>
     ensures ok { IfOk result (λ last. last ≡ tail.items) }
     ensures err { IfErr result (λ back. back ≡ tail) }
@@ -142,29 +143,29 @@ impl Pieces {
         }
     }
 
-    /// How many bytes there are.
+    /// The number of bytes.
     pub fn len(&self) -> u64
         ensures { result ≡ length self.now }
     {
         self.count + self.tail.len() as u64
     }
 
-    /// How much room there is that no byte is in. It is all in the tail: a piece has just its bytes.
+    /// The unused room in bytes. It is all in the tail: a piece has exactly its bytes.
     pub fn spare(&self) -> usize
         ensures { result ≤ tail_room }
     {
         self.tail.capacity() - self.tail.len()
     }
 
-    /// The large bodies, and the tail after them.
+    /// The pieces, and the tail after them.
     pub fn slices(&self) -> (&[Piece], &[u8])
         ensures { pieced_then result.0.now result.1.now ≡ self.now }
     {
         (self.front.as_slice(), self.tail.as_slice())
     }
 
-    /// Notes the change, and takes the bytes at the end, of which there may be `most` in all. If memory is refused,
-    /// nothing is changed.
+    /// Notes the change in the journal, and appends the bytes, up to `most` in all. If memory runs out, nothing is
+    /// changed.
     pub fn append(
         &mut self,
         alloc: Global,
@@ -211,7 +212,7 @@ impl Pieces {
         Ok(())
     }
 
-    /// The same for a small one, which is copied into the tail.
+    /// The same for a small body, which is copied into the tail.
     fn append_small(
         &mut self,
         alloc: Global,
@@ -236,7 +237,7 @@ impl Pieces {
         Ok(())
     }
 
-    /// The bytes, shared, but for those of the tail, which are copied.
+    /// The bytes, shared, except those of the tail, which are copied. `AllocError` if memory runs out.
     pub fn share(&self, alloc: Global) -> Result<Segments, AllocError>
         ensures { IfOk result (λ shared. shared ≡ self.now) }
     {
@@ -249,7 +250,7 @@ impl Pieces {
         Ok(shared)
     }
 
-    /// The same bytes, to be shared from now on. If memory is refused, they come back.
+    /// The same bytes, shared from now on. Returns them unchanged if memory runs out.
     pub fn settled(self, alloc: Global) -> Result<Segments, Pieces>
         ensures ok { IfOk result (λ settled. settled ≡ self) }
         ensures err { IfErr result (λ pieces. pieces ≡ self) }

@@ -1,15 +1,15 @@
-//! Why a closure refuses a request, in its own words.
+//! A closure's reason for refusing a request.
 ghost use Rattle.std.specs.Prelude.{◌≡◌, ◌-◌, ◌≤◌, ◌++◌, true, length, replicate};
 ghost use Rattle.std.specs.List.{list_all};
 ghost use Rattle.up_machine.specs.Reasons.{is_printable, is_reason, reason_of};
 
 use std::marker::Model;
 
-/// The most bytes of a reason.
+/// The maximum number of bytes of a reason.
 const MOST_BYTES: usize = 80;
 
-/// Why a closure refuses a request: 1 to 80 bytes, each of them a space or a visible character of ASCII (0x20 to 0x7E). It is the
-/// body of the response, with a line feed behind it.
+/// A closure's reason for refusing a request: 1 to 80 bytes, each of them a space or a visible character of ASCII (0x20
+/// to 0x7E). It is the body of the response, followed by a line feed.
 #[derive(Clone, Copy, Debug, PartialEq, Eq)]
 pub struct Reason {
     bytes: [u8; MOST_BYTES],
@@ -53,7 +53,7 @@ fn is_reason(text: &[u8]) -> bool
     !text.is_empty() && text.len() <= MOST_BYTES && are_printable(text)
 }
 
-/// The text, and zeros behind it.
+/// The text, followed by zeros.
 fn padded(text: &[u8]) -> [u8; MOST_BYTES]
     requires { length text.now ≤ 80 }
     ensures { result ≡ text.now ++ replicate (80 - length text.now) 0 }
@@ -64,7 +64,7 @@ fn padded(text: &[u8]) -> [u8; MOST_BYTES]
 }
 
 impl Reason {
-    /// The reason with this text. `None` for an empty text, for one of more than 80 bytes, and for one with a byte that is neither a
+    /// The reason with this text. `None` if the text is empty, has more than 80 bytes, or has a byte that is neither a
     /// space nor a visible character of ASCII.
     pub fn new(text: &[u8]) -> Option<Self>
         ensures { result ≡ reason_of text.now }

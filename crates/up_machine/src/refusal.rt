@@ -1,4 +1,4 @@
-//! Why a request isn't carried out, and what is answered then.
+//! Why a request is not carried out, and the response to it.
 ghost use Rattle.std.specs.Prelude.{◌≡◌, IfOk, IsOk};
 ghost use Rattle.up_machine.specs.Refusals.{response_of};
 ghost use Rattle.up_machine.specs.declared.refusal.Refusal.TheVariants.{NoMemory as out_of_memory};
@@ -10,50 +10,51 @@ use thiserror::Error;
 use up_events::NoMemory;
 use up_message::Response;
 
-/// Why a request isn't carried out (tus 1.0.0, Core Protocol; RFC 9110, section 15). After each the book is as it was.
+/// Why a request is not carried out (tus 1.0.0, Core Protocol; RFC 9110, section 15). The book is then unchanged.
 #[derive(Clone, Copy, Debug, PartialEq, Eq, Error)]
 pub enum Refusal {
-    /// The book is closed, and takes no change any more (503).
+    /// The book is closed, and accepts no more changes (503).
     #[error("the server takes no change any more")]
     Closed,
-    /// No upload has the id: it was never made, or it was removed (404).
+    /// No upload has the id: it was never created, or it was removed (404).
     #[error("no upload has the id")]
     NotFound,
-    /// Bytes are sent for a final upload, which has all of its bytes (403; tus 1.0.0, Concatenation).
+    /// Bytes are sent for a final upload, which already has all of its bytes (403; tus 1.0.0, Concatenation).
     #[error("a final upload takes no bytes")]
     FinalUpload,
-    /// The bytes of a PATCH aren't of the media type that they must have (415).
+    /// The bytes of a PATCH do not have the required media type (415).
     #[error("the bytes are not of the media type for bytes at an offset")]
     MediaType,
-    /// A PATCH says no offset (400).
+    /// A PATCH has no offset (400).
     #[error("no offset was sent")]
     BadOffset,
-    /// The upload's offset is another than the one that a PATCH says (409).
+    /// The upload's offset differs from that of the PATCH (409).
     #[error("the upload has another offset")]
     WrongOffset,
-    /// A PATCH says a length that is no number, another than the upload's, or less than the bytes that it has (400).
+    /// The length in a PATCH is not a number, differs from the upload's length, or is less than the number of bytes so
+    /// far (400).
     #[error("the upload can't have the length that was sent")]
     BadDeclared,
-    /// A PATCH declares a length above the size that an upload may have (413).
+    /// A PATCH declares a length above the maximum size of an upload (413).
     #[error("the length that was declared is too long")]
     DeclaredTooLong,
-    /// With the bytes of a PATCH the upload would have more than its length, or than an upload may have while its length isn't
-    /// known (413).
+    /// With the bytes of a PATCH, the upload would have more bytes than its length, or than the maximum size while its
+    /// length is not known (413).
     #[error("more bytes than the upload is to have")]
     TooMuch,
-    /// A part of a final upload isn't there (400).
+    /// A part of a final upload does not exist (400).
     #[error("a part is not there")]
     PartUnknown,
-    /// A part of a final upload isn't a partial one (400).
+    /// A part of a final upload is not a partial upload (400).
     #[error("a part is not a partial upload")]
     PartNotPartial,
-    /// Not all bytes of a part of a final upload have come (400).
+    /// A part of a final upload is not complete (400).
     #[error("a part is not complete")]
     PartUnfinished,
-    /// Together the parts of a final upload are longer than an upload may be (413).
+    /// Together, the parts of a final upload are longer than the maximum size of an upload (413).
     #[error("the parts are too long together")]
     SumTooLong,
-    /// The request would make an upload complete, and the closures for that weren't asked (409).
+    /// The request would make an upload complete, and the closures for that were not asked (409).
     #[error("nobody was asked whether the upload may be complete")]
     NotAsked,
     /// A closure refuses the request (with the status and the reason that it gave).
@@ -62,10 +63,10 @@ pub enum Refusal {
     /// The id for a new upload was given before (500).
     #[error("the id was given before")]
     IdTaken,
-    /// The bytes of an upload are asked of which some have yet to come (409).
+    /// The bytes of an incomplete upload are requested (409).
     #[error("the upload is not complete")]
     Unfinished,
-    /// A growth was refused (503). It comes only to a request that nothing else refuses.
+    /// Memory ran out (503). This is returned only if nothing else refuses the request.
     #[error("out of memory")]
     NoMemory,
 }
@@ -78,8 +79,9 @@ impl From<NoMemory> for Refusal {
     }
 }
 
-/// What is answered to a request that is refused: its status, and a line with the number and the name of the refusal. To
-/// `ByHook` it is the closure's status, and a line with its reason; to `NoMemory` an empty 503, which takes no memory.
+/// The response to a request that is refused: its status, and a line with the number and the name of the refusal. For
+/// `ByHook` it is the closure's status and a line with its reason, and for `NoMemory` an empty 503, which takes no
+/// memory. `NoMemory` if memory runs out.
 pub fn response_of(alloc: Global, refusal: &Refusal) -> Result<Response, NoMemory>
     ensures response { IfOk result (λ made. made ≡ response_of refusal.now) }
     ensures no_memory { refusal.now ≡ out_of_memory → IsOk result }

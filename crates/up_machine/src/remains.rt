@@ -1,10 +1,10 @@
-//! What is to be dropped later.
+//! Values to be dropped later.
 use crate::upload::Upload;
 use std::marker::Model;
 use up_message::Piece;
 
-/// What a commit leaves over: an upload that was removed, or the body of a PATCH. Whoever has it drops it when nobody waits
-/// for that. Contracts see nothing of it.
+/// What a commit leaves over: an upload that was removed, or the body of a PATCH. The owner drops it when nobody waits
+/// for that. Contracts do not describe its content.
 #[derive(Drop)]
 pub struct Remains {
     upload: Option<Upload>,
@@ -36,6 +36,6 @@ impl Remains {
         self.body = Some(body);
     }
 
-    /// Drops it.
+    /// Drops the values.
     pub fn release(self) {}
 }

@@ -1,4 +1,4 @@
-//! Where an upload's bytes are.
+//! Where the bytes of an upload are.
 ghost use Rattle.std.specs.Prelude.{◌≡◌, ◌≤◌, ◌++◌, length, IfOk};
 ghost use Rattle.up_machine.specs.Kept.{tail_room};
 ghost use Rattle.up_message.specs.Joins.{pieced, pieced_then};
@@ -10,16 +10,16 @@ use up_message::{Piece, Run, Segments};
 /// The bytes of an upload.
 #[derive(Drop)]
 pub enum Store {
-    /// More may come.
+    /// More bytes may arrive.
     Open(Pieces),
-    /// All have come, and the answers that give them share them.
+    /// All bytes have arrived. The responses with these bytes share them.
     Whole(Segments),
 }
 
 impl Store {
     ghost use Rattle.up_machine.specs.Stored.{stored, IsStored};
 
-    /// How many bytes have come so far.
+    /// The number of bytes so far.
     pub fn len(&self) -> u64
         ensures { result ≡ length (stored self.now) }
     {
@@ -29,7 +29,7 @@ impl Store {
         }
     }
 
-    /// How much room there is that no byte is in.
+    /// The unused room in bytes.
     pub fn spare(&self) -> usize
         ensures { result ≤ tail_room }
     {
@@ -39,7 +39,7 @@ impl Store {
         }
     }
 
-    /// The bytes that have come so far: those of the runs, then those of the pieces, then the tail.
+    /// The bytes so far: those of the runs, then those of the pieces, then the tail.
     pub fn slices(&self) -> (&[Run], &[Piece], &[u8])
         ensures { pieced result.0.now ++ pieced_then result.1.now result.2.now
             ≡ stored self.now }
@@ -56,7 +56,7 @@ impl Store {
         }
     }
 
-    /// To be shared once there are as many bytes as this length says. If memory for that is refused, they stay as they are.
+    /// Makes the bytes shared if there are as many as this length says. If memory runs out, they stay as they are.
     pub fn settled(self, alloc: Global, size: Option<u64>) -> Store
         requires { IsStored self size }
         ensures same { stored result ≡ stored self }
@@ -75,7 +75,7 @@ impl Store {
         }
     }
 
-    /// The bytes for an answer or for another upload, shared if all have come.
+    /// The bytes for a response or for another upload, shared if all have arrived. `AllocError` if memory runs out.
     pub fn share(&self, alloc: Global) -> Result<Segments, AllocError>
         ensures { IfOk result (λ shared. shared ≡ stored self.now) }
     {

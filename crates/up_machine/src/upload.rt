@@ -12,7 +12,7 @@ use up_events::{Accepted, Journal, Kind, MOST_BYTES, NoMemory};
 use up_headers::{NewUpload, Pairs};
 use up_message::{Piece, Segments, Sequence};
 
-/// An upload: what its client said of it, and the bytes that have come so far, never more than its length says, where that is known.
+/// An upload: what the client said about it, and the bytes so far, never more than its length, if that is known.
 #[derive(Drop)]
 pub struct Upload {
     kind: Kind,
@@ -43,7 +43,7 @@ impl Model for Upload {
     ghost invariant = { λ a. IsStored a.bytes a.length };
 }
 
-/// The bytes of a text, where there is one.
+/// The bytes of a text, if there is one.
 fn text(sent: &Option<Sequence<u8>>) -> Option<&[u8]>
     ensures { option_copied result ≡ sent.now }
 {
@@ -59,7 +59,7 @@ impl Upload {
     ghost use Rattle.up_events.specs.History.{is_final_kind, CanFollow};
     ghost use Rattle.up_events.specs.Records.{noted};
 
-    /// A new upload that begins with these bytes: a final one has just them, any other none.
+    /// A new upload with these first bytes, which are all the bytes of a final one; any other has none.
     pub fn new(alloc: Global, new: NewUpload, first: Segments) -> Self
         requires within { IsWithinLength (made_of new first) }
         requires none { is_final_kind new.kind ≡ false → first ≡ [] }
@@ -89,35 +89,35 @@ impl Upload {
         }
     }
 
-    /// What sort of upload it is.
+    /// The kind of the upload.
     pub fn kind(&self) -> Kind
         ensures { result ≡ self.now.kind }
     {
         self.kind
     }
 
-    /// How many bytes it is to have, where that is known.
+    /// The length in bytes, if it is known.
     pub fn length(&self) -> Option<u64>
         ensures { result ≡ self.now.length }
     {
         self.length
     }
 
-    /// How many bytes have come so far.
+    /// The number of bytes so far.
     pub fn offset(&self) -> u64
         ensures { result ≡ length self.now.bytes }
     {
         self.bytes.len()
     }
 
-    /// Whether all bytes have come.
+    /// Whether all bytes have arrived.
     pub fn is_complete(&self) -> bool
         ensures { result ≡ is_complete self.now }
     {
         self.length == Some(self.offset())
     }
 
-    /// The metadata text, where there is one.
+    /// The metadata text, if there is one.
     pub fn metadata(&self) -> Option<&[u8]>
         ensures { option_copied result ≡ self.now.metadata }
     {
@@ -131,14 +131,14 @@ impl Upload {
         self.pairs.as_slice()
     }
 
-    /// The text of its concatenation, where there is one.
+    /// The text of `Upload-Concat`, if there is one.
     pub fn concat(&self) -> Option<&[u8]>
         ensures { option_copied result ≡ self.now.concat }
     {
         text(&self.concat)
     }
 
-    /// The upload as it stands.
+    /// A view of the upload.
     pub fn view(&self) -> View
         ensures { IsViewOf self.now result }
     {
@@ -156,14 +156,15 @@ impl Upload {
         }
     }
 
-    /// The bytes for an answer or for another upload, shared if all have come.
+    /// The bytes for a response or for another upload, shared if all have arrived. `AllocError` if memory runs out.
     pub fn share(&self, alloc: Global) -> Result<Segments, AllocError>
         ensures { IfOk result (λ bytes. bytes ≡ self.now.bytes) }
     {
         self.bytes.share(alloc)
     }
 
-    /// From now on the answers share the bytes, if all have come. If memory for that is refused, they don't yet.
+    /// Makes the responses share the bytes from now on, if all have arrived. If memory runs out, they do not share them
+    /// yet.
     fn settle(&mut self, alloc: Global)
         ensures { self.new ≡ self.old }
     {
@@ -174,8 +175,7 @@ impl Upload {
         self.bytes = store.settled(alloc, self.length);
     }
 
-    /// Notes the change, and takes the bytes at the end, with this length from now on. If memory is refused, nothing is
-    /// changed.
+    /// Notes the change in the journal, appends the bytes, and sets the length. If memory runs out, nothing is changed.
     pub fn take(
         &mut self,
         alloc: Global,

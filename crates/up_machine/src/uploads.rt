@@ -16,7 +16,7 @@ use std::marker::Model;
 use up_events::{Accepted, Id, Journal, NoMemory};
 use up_message::Piece;
 
-/// The uploads that there are, each under its id.
+/// The uploads that exist, by id.
 #[derive(Drop)]
 pub struct Uploads {
     entries: BTreeMap<Id, Upload>,
@@ -35,7 +35,7 @@ impl Model for Uploads {
     ghost view = { λ a. map.from_entries a.entries.entries };
 }
 
-/// Notes the change, and puts a new upload in.
+/// Notes the change in the journal, and inserts a new upload.
 fn insert_noted(
     entries: &mut BTreeMap<Id, Upload>,
     journal: &mut Journal,
@@ -70,14 +70,14 @@ impl Uploads {
         }
     }
 
-    /// The upload that has this id.
+    /// The upload with this id.
     pub fn get(&self, id: Id) -> Option<&Upload>
         ensures { option_copied result ≡ map.get self.now id }
     {
         self.entries.get(&id)
     }
 
-    /// Notes the change, and takes the bytes at the end of the upload, with this length from now on. Where memory is wanting,
+    /// Notes the change in the journal, appends the bytes to the upload, and sets its length. If memory runs out,
     /// nothing is changed.
     pub fn take(
         &mut self,
@@ -102,7 +102,7 @@ impl Uploads {
         upload.take(alloc, journal, change, size, more)
     }
 
-    /// Notes the change, and puts a new upload in. Where memory is wanting, nothing is changed.
+    /// Notes the change in the journal, and inserts a new upload. If memory runs out, nothing is changed.
     pub fn insert(
         &mut self,
         journal: &mut Journal,

@@ -5,7 +5,7 @@ use Rattle.up_message.specs.Joins.{pieced}
 use Rattle.up_message.specs.declared.run.Shape.{Shape}
 use Rattle.up_message.specs.declared.run.Shape.TheVariants.{One, Several}
 
--- the bytes of the one piece, or of all of them
+-- the bytes of the one piece, or of all pieces
 abbrev pub shaped : Shape → List ℕ
 shaped (One piece) = piece
 shaped (Several pieces) = pieced (arc_value pieces).items

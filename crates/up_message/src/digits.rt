@@ -18,7 +18,7 @@ fn are_digits(text: &[u8]) -> bool
     text.iter().all(|b| b.is_ascii_digit())
 }
 
-/// The number that the digits spell, or `None` where it is 2^64 or more.
+/// The number that the digits spell, or `None` if it is 2^64 or more.
 pub fn number(digits: &[u8]) -> Option<u64>
     requires { IsTrue (is_digits digits.now) }
     ensures { MatchOption result (2 ^ 64 ≤ digits_value 10 digits.now)

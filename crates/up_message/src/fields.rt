@@ -1,4 +1,4 @@
-//! What stands in the fields of a head.
+//! Reading the fields of a head.
 ghost use Rattle.std.specs.Prelude.{◌≡◌};
 ghost use Rattle.up_message.specs.Fields.{values, same_name, trim_end_ows, IsOneOf};
 
@@ -10,21 +10,20 @@ use httparse::is_space_or_tab;
 pub enum Values<'a> {
     /// No field has the name.
     Absent,
-    /// Just one field has it, with this value.
+    /// Exactly one field has the name, and this is its value.
     One(&'a [u8]),
-    /// More than one field has it.
+    /// More than one field has the name.
     Several,
 }
 
-/// Whether the texts are the same without regard to case, as names of fields are compared
-/// (RFC 9110, section 5.1).
+/// Whether the names of two fields are the same, ignoring case (RFC 9110, section 5.1).
 pub fn same_name(a: &[u8], b: &[u8]) -> bool
     ensures { result ≡ same_name a.now b.now }
 {
     a.eq_ignore_ascii_case(b)
 }
 
-/// The value of the fields with that name, where there is just one. Names are compared without regard to case.
+/// The value of the field with this name, if exactly one field has it. Names are compared ignoring case.
 pub fn find_value<'a>(fields: &'a [Field], name: &[u8]) -> Values<'a>
     ensures { IsOneOf result (values name.now fields.now) }
 {

@@ -1,4 +1,5 @@
-//! A request and a response as messages of HTTP: fields and their values, and the bytes of a body (RFC 9110, sections 5 and 6).
+//! A request and a response as messages of HTTP: fields and their values, and the bytes of a body (RFC 9110, sections 5
+//! and 6).
 #![tactic(auto)]
 
 mod digits;

@@ -1,8 +1,8 @@
-//! A message as it stood on the wire.
+//! A message as it was on the wire.
 use crate::sequence::Sequence;
 use http::Method;
 
-/// A field's name and value (RFC 9112, section 5).
+/// The name and the value of a field (RFC 9112, section 5).
 pub type Field = (Sequence<u8>, Sequence<u8>);
 
 /// A request of HTTP/1.0 or HTTP/1.1 (RFC 9112, sections 3, 5, 6 and 7).
@@ -11,12 +11,12 @@ pub struct Message {
     pub method: Method,
     /// The request target, as sent.
     pub target: Sequence<u8>,
-    /// The fields of the head in their order, without blanks at both ends of the values.
+    /// The fields of the head, in order, without the blanks around the values.
     pub fields: Sequence<Field>,
-    /// The bytes of the body, without the lines of a chunked coding.
+    /// The bytes of the body, without the lines of the chunked coding.
     pub body: Sequence<u8>,
-    /// Whether the method is HEAD, to which no body is answered (RFC 9110, section 9.3.2).
+    /// Whether the method is HEAD, so that the response has no body (RFC 9110, section 9.3.2).
     pub bare: bool,
-    /// Whether the conversation closes after the message (RFC 9112, section 9.3).
+    /// Whether the connection closes after this message (RFC 9112, section 9.3).
     pub close: bool,
 }

@@ -6,8 +6,8 @@ use bytes::{Bytes, BytesMut};
 use std::alloc::{AllocError, Global};
 use std::marker::Model;
 
-/// Bytes in one piece of memory, which other owners may share. Memory that is taken for a piece has no room beyond its
-/// bytes. Contracts see the bytes.
+/// Bytes in one piece of memory, which other owners may share. Memory that is allocated for a piece has no room beyond
+/// its bytes. Contracts describe the bytes.
 #[derive(Drop)]
 pub struct Piece {
     bytes: Bytes,
@@ -24,7 +24,7 @@ impl Model for Piece {
     ghost view = { λ a. a.bytes };
 }
 
-/// These bytes, which are not copied.
+/// A piece with these bytes, without a copy.
 fn to_bytes(bytes: Vec<u8>) -> Result<Bytes, AllocError>
     requires close { vec_capacity bytes ≤ vec_len bytes }
     ensures { IfOk result (λ made. made ≡ bytes.items) }
@@ -36,7 +36,7 @@ fn to_bytes(bytes: Vec<u8>) -> Result<Bytes, AllocError>
 }
 
 impl Piece {
-    /// Bytes of the program's own. Takes no memory.
+    /// Bytes that are part of the program. Takes no memory.
     pub fn from_static(bytes: &'static [u8]) -> Self
         ensures { result ≡ bytes.now }
     {
@@ -45,13 +45,13 @@ impl Piece {
         }
     }
 
-    /// The bytes of a list, which gives up the room that it has beyond them.
+    /// The bytes of a list, which frees the room that it has beyond them. `AllocError` if memory runs out.
     pub fn from_sequence(list: Sequence<u8>) -> Result<Self, AllocError>
         ensures { IfOk result (λ piece. piece ≡ list) }
     {
         let mut bytes = list.into_vec();
         bytes.shrink_to_fit();
-        // It keeps no more room than there are bytes, but its contract lets it.
+        // `shrink_to_fit` leaves no more room than there are bytes, but its contract does not say so.
         if bytes.capacity() > bytes.len() {
             return Err(AllocError);
         }
@@ -60,14 +60,14 @@ impl Piece {
         })
     }
 
-    /// A copy of these bytes.
+    /// A copy of these bytes. `AllocError` if memory runs out.
     pub fn copied(alloc: Global, bytes: &[u8]) -> Result<Self, AllocError>
         ensures { IfOk result (λ piece. piece ≡ bytes.now) }
     {
         Piece::from_sequence(Sequence::from_slice(alloc, bytes)?)
     }
 
-    /// The bytes of a buffer that has no room left, which are not copied. If memory is refused, the buffer comes back.
+    /// The bytes of a buffer without room left. They are not copied. Returns the buffer if memory runs out.
     pub fn from_full(buffer: BytesMut) -> Result<Self, BytesMut>
         requires full { buffer.spare ≡ 0 }
         ensures ok { IfOk result (λ piece. piece ≡ buffer.items) }
@@ -79,7 +79,7 @@ impl Piece {
         }
     }
 
-    /// How many bytes there are.
+    /// The number of bytes.
     pub fn len(&self) -> usize
         ensures { result ≡ length self.now }
     {
@@ -93,7 +93,7 @@ impl Piece {
         self.bytes.as_slice()
     }
 
-    /// The same bytes for one owner more. None is copied.
+    /// The same bytes for another owner, without a copy. `AllocError` if memory runs out.
     pub fn share(&self) -> Result<Self, AllocError>
         ensures { IfOk result (λ piece. piece ≡ self.now) }
     {

@@ -1,4 +1,4 @@
-//! What is answered.
+//! Responses.
 ghost use Rattle.std.specs.Prelude.{◌≡◌, ◌++◌, ◌∷◌, [], IfOk};
 ghost use Rattle.up_message.specs.Refused.{plain_text, refused_with, out_of_memory};
 
@@ -30,7 +30,7 @@ impl Response {
         }
     }
 
-    /// With one field more, behind those before it. `AllocError` where memory for it was refused.
+    /// Adds one field, after those before it. `AllocError` if memory for it runs out.
     pub fn with_field(
         mut self,
         alloc: Global,
@@ -46,7 +46,7 @@ impl Response {
         Ok(self)
     }
 
-    /// With this body, which is not copied. Takes no memory.
+    /// Sets the body, without a copy. Takes no memory.
     pub fn with_body(mut self, body: Segments) -> Self
         ensures { result ≡ record self { body = body } }
     {
@@ -54,8 +54,8 @@ impl Response {
         self
     }
 
-    /// With this body, which is not copied, and a last field that says that it is plain text. `AllocError` where memory
-    /// for the field was refused.
+    /// Sets the body, without a copy, and adds a last field that says that it is plain text. `AllocError` if memory for
+    /// the field runs out.
     pub fn with_plain_text(self, alloc: Global, text: Piece) -> Result<Self, AllocError>
         ensures { IfOk result (λ made. made
             ≡ record self { fields = self.fields ++ plain_text ∷ []; body = text }) }
@@ -64,14 +64,14 @@ impl Response {
         Ok(response.with_body(Segments::from_piece(alloc, text)))
     }
 
-    /// To what is refused: why, as plain text. `AllocError` where memory was refused.
+    /// A response that refuses a request and gives the reason as plain text. `AllocError` if memory runs out.
     pub fn refused(alloc: Global, status: u16, text: &'static str) -> Result<Self, AllocError>
         ensures { IfOk result (λ made. made ≡ refused_with status text.now) }
     {
         Response::new(alloc, status).with_plain_text(alloc, Piece::from_static(text.as_bytes()))
     }
 
-    /// To what there was no memory for: nothing but its status (RFC 9110, section 15.6.4). Takes no memory.
+    /// The response when memory ran out: only the status 503 (RFC 9110, section 15.6.4). Takes no memory.
     pub fn out_of_memory(alloc: Global) -> Self
         ensures { result ≡ out_of_memory }
     {

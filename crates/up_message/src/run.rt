@@ -1,4 +1,4 @@
-//! Bytes that several owners share, in one piece or in many.
+//! Bytes that several owners share, in one or more pieces.
 ghost use Rattle.std.specs.Prelude.{◌≡◌, length, IfOk, IfErr};
 ghost use Rattle.up_message.specs.Joins.{pieced};
 
@@ -15,8 +15,8 @@ enum Shape {
     Several(Arc<Vec<Piece>>),
 }
 
-/// Bytes in one piece or in several, which other owners may share. However many pieces there are, sharing them takes the
-/// same short time. Contracts see the bytes, whatever the pieces.
+/// Bytes in one or more pieces, which other owners may share. Sharing takes the same short time for any number of
+/// pieces. Contracts describe the bytes, whatever the pieces.
 #[derive(Drop)]
 pub struct Run {
     shape: Shape,
@@ -39,7 +39,7 @@ impl Model for Run {
 }
 
 impl Run {
-    /// One piece, which is not copied. Takes no memory.
+    /// One piece, without a copy. Takes no memory.
     pub fn one(piece: Piece) -> Self
         ensures { result ≡ piece }
     {
@@ -50,7 +50,7 @@ impl Run {
         }
     }
 
-    /// Pieces that have so many bytes together, none of which is copied. If memory is refused, the pieces come back.
+    /// Pieces with `count` bytes in all, without a copy. Returns the pieces if memory runs out.
     pub fn several(
         alloc: Global,
         pieces: Vec<Piece>,
@@ -67,7 +67,7 @@ impl Run {
         })
     }
 
-    /// How many bytes there are.
+    /// The number of bytes.
     pub fn len(&self) -> u64
         ensures { result ≡ length self.now }
     {
@@ -84,7 +84,7 @@ impl Run {
         }
     }
 
-    /// The same bytes for one owner more. None is copied.
+    /// The same bytes for another owner, without a copy. `AllocError` if memory runs out.
     pub fn share(&self) -> Result<Self, AllocError>
         ensures { IfOk result (λ run. run ≡ self.now) }
     {

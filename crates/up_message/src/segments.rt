@@ -8,7 +8,7 @@ use std::alloc::{AllocError, Global};
 use std::marker::Model;
 use std::mem;
 
-/// Bytes in runs, which other owners may share. Contracts see the bytes, whatever the runs.
+/// Bytes in runs, which other owners may share. Contracts describe the bytes, whatever the runs.
 #[derive(Drop)]
 pub struct Segments {
     front: Vec<Run>,
@@ -38,7 +38,7 @@ impl Segments {
         Segments::from_piece(alloc, Piece::from_static(b""))
     }
 
-    /// No bytes, and room for so many runs.
+    /// No bytes, and room for `runs` runs. `AllocError` if memory runs out.
     pub fn with_room(alloc: Global, runs: usize) -> Result<Self, AllocError>
         ensures { IfOk result (λ made. made ≡ []) }
     {
@@ -47,7 +47,7 @@ impl Segments {
         Ok(made)
     }
 
-    /// One piece, which is not copied. Takes no memory.
+    /// One piece, without a copy. Takes no memory.
     pub fn from_piece(alloc: Global, piece: Piece) -> Self
         ensures { result ≡ piece }
     {
@@ -66,21 +66,21 @@ impl Segments {
         }
     }
 
-    /// How many bytes there are.
+    /// The number of bytes.
     pub fn len(&self) -> u64
         ensures { result ≡ length self.now }
     {
         self.count
     }
 
-    /// The runs, one after another, and the last.
+    /// All runs but the last, in order, and the last.
     pub fn runs(&self) -> (&[Run], &Run)
         ensures { pieced_then result.0.now result.1.now ≡ self.now }
     {
         (self.front.as_slice(), &self.last)
     }
 
-    /// Puts a run at the end. If memory is refused, the bytes stay as they are.
+    /// Adds a run at the end. `AllocError` if memory runs out; the bytes are then unchanged.
     pub fn push(&mut self, run: Run) -> Result<(), AllocError>
         requires { length self.old + length run < 2 ^ 64 }
         ensures ok { OnOk result (self.new ≡ self.old ++ run) }
@@ -97,7 +97,7 @@ impl Segments {
         Ok(())
     }
 
-    /// Puts these bytes at the end, which are shared and not copied.
+    /// Adds these bytes at the end. They are shared and not copied. `AllocError` if memory runs out.
     pub fn join(&mut self, other: &Segments) -> Result<(), AllocError>
         requires { length self.old + length other.now < 2 ^ 64 }
         ensures { OnOk result (self.new ≡ self.old ++ other.now) }
@@ -109,12 +109,12 @@ impl Segments {
         self.push(last.share()?)
     }
 
-    /// The same bytes for one owner more. None is copied.
+    /// The same bytes for another owner, without a copy. `AllocError` if memory runs out.
     pub fn share(&self, alloc: Global) -> Result<Self, AllocError>
         ensures { IfOk result (λ shared. shared ≡ self.now) }
     {
         let mut shared = Segments::with_room(alloc, self.front.len())?;
-        // The test shows the prover that the count is below 2^64.
+        // For the prover: the test shows that the number of bytes is below 2^64.
         if self.count > 0 {
             shared.join(self)?;
         }

@@ -22,7 +22,7 @@ impl<T> Model for Sequence<T> {
 }
 
 impl<T> Sequence<T> {
-    /// A list with nothing in it. Takes no memory.
+    /// An empty list. Takes no memory.
     pub fn new(alloc: Global) -> Self
         ensures { result ≡ [] }
     {
@@ -31,14 +31,14 @@ impl<T> Sequence<T> {
         }
     }
 
-    /// The elements of a `Vec`, which are not copied.
+    /// The elements of a `Vec`, without a copy.
     pub fn from_vec(items: Vec<T>) -> Self
         ensures { result ≡ items.items }
     {
         Sequence { items }
     }
 
-    /// The elements as a `Vec`, which are not copied.
+    /// The elements as a `Vec`, without a copy.
     pub fn into_vec(self) -> Vec<T>
         ensures { result.items ≡ self }
     {
@@ -52,14 +52,14 @@ impl<T> Sequence<T> {
         self.items.as_slice()
     }
 
-    /// How many elements there are.
+    /// The number of elements.
     pub fn len(&self) -> usize
         ensures { result ≡ length self.now }
     {
         self.items.len()
     }
 
-    /// Puts an element at the end. Where no memory is there for it, the list stays as it is.
+    /// Adds an element at the end. `AllocError` if memory runs out; the list is then unchanged.
     pub fn push(&mut self, value: T) -> Result<(), AllocError>
     where
         T: Drop,
@@ -72,7 +72,7 @@ impl<T> Sequence<T> {
 }
 
 impl<T: Copy> Sequence<T> {
-    /// A copy of a slice.
+    /// A copy of a slice. `AllocError` if memory runs out.
     pub fn from_slice(alloc: Global, items: &[T]) -> Result<Self, AllocError>
         ensures { IfOk result (λ made. made ≡ items.now) }
     {

@@ -1,4 +1,4 @@
--- What an end keeps, and what contracts see of it.
+-- The fields of an end, and what contracts see of them.
 use Rattle.std.specs.Prelude.{◌≡◌, ◌%◌, ◌^◌, length}
 use Rattle.std.specs.Arc.{arc_value}
 use Rattle.crossbeam_queue.specs.Passes.{view, IsPassOf, ruled_capacity}
@@ -11,7 +11,7 @@ use Rattle.up_queue.specs.Sides.{PutSide, TakeSide}
 abbrev pub put_side : PutInside → PutSide
 put_side e = record { queue = e.pass.table_id; capacity = (view e.pass).capacity; put = (view e.pass).put }
 
--- its pass is of its line, and puts; what was put is orderly, and counted
+-- the pass belongs to the line, and puts; what was put is orderly, and is counted
 pub record IsPutEnd (e : PutInside) : Type 0 where
   pub line : IsPassOf (arc_value e.line) e.pass
   pub role : view e.pass ≡ putting (ruled_capacity (arc_value e.line)) (view e.pass).put
@@ -21,7 +21,7 @@ pub record IsPutEnd (e : PutInside) : Type 0 where
 abbrev pub take_side : TakeInside → TakeSide
 take_side e = record { queue = e.pass.table_id; capacity = (view e.pass).capacity; taken = (view e.pass).taken }
 
--- its pass is of its line, and takes; what was taken is orderly, and counted
+-- the pass belongs to the line, and takes; what was taken is orderly, and is counted
 pub record IsTakeEnd (e : TakeInside) : Type 0 where
   pub line : IsPassOf (arc_value e.line) e.pass
   pub role : view e.pass ≡ taking (ruled_capacity (arc_value e.line)) (view e.pass).taken

@@ -1,41 +1,41 @@
--- What a queue is between any two steps.
+-- The state of a queue between any two steps.
 use Rattle.std.specs.Prelude.{◌≡◌, ℕ, ◌≤◌, List, [], ◌∷◌, ◌++◌, length, map, Bool, true, false}
 use Rattle.up_events.specs.declared.event.Event.{Event}
 use Rattle.up_events.specs.Log.{IsLawful}
 use Rattle.up_queue.specs.declared.item.Item.{Item}
 use Rattle.up_queue.specs.declared.item.Item.TheVariants as item
 
--- the events among the items, in their order
+-- the events among the items, in order
 abbrev pub events_of : List Item → List Event
 events_of [] = []
 events_of (item.Event e ∷ items) = e ∷ events_of items
 events_of (item.End ∷ items) = events_of items
 
--- the items that carry the events
+-- the items with these events
 abbrev pub items_of : List Event → List Item
 items_of events = map (λ (e : Event). item.Event e) events
 
--- an end, where there is one
+-- an end, if there is one
 abbrev pub end_if : Bool → List Item
 end_if true = item.End ∷ []
 end_if false = []
 
--- the items that carry these events, and the end behind them where there is one
+-- the items with these events, followed by the end if there is one
 abbrev pub items_if : List Event → Bool → List Item
 items_if events ended = items_of events ++ end_if ended
 
--- nothing stands behind an end
+-- nothing comes after an end
 abbrev pub EndsLast : List Item → Type 0
 EndsLast [] = Unit {0}
 EndsLast (item.Event e ∷ items) = EndsLast items
 EndsLast (item.End ∷ items) = items ≡ []
 
--- what may be put: lawful events, and behind them at most one end
+-- what may be put: lawful events, followed by at most one end
 pub record IsOrderly (items : List Item) : Type 0 where
   pub lawful : IsLawful (events_of items)
   pub ends_last : EndsLast items
 
--- what was put is what was taken and then what is held, which is no more than the capacity; and it is orderly
+-- what was put is what was taken, followed by what the queue holds, which is at most the capacity; and it is orderly
 pub record IsLine (capacity : ℕ) (put taken held : List Item) : Type 0 where
   pub whole : put ≡ taken ++ held
   pub room : length held ≤ capacity

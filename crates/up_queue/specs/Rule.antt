@@ -1,4 +1,4 @@
--- The rule of a queue, over what it holds and what each pass knows.
+-- The rule of a queue, about the items in it and what each pass knows.
 use Rattle.std.specs.Prelude.{◌≡◌, ℕ, Bool, true, false, List, []}
 use mathlib.Core.Option.{some}
 use lib.ListN.{get_elem?}
@@ -17,13 +17,13 @@ putting capacity put = end_view true false capacity put []
 abbrev pub taking : ℕ → List Item → EndView
 taking capacity taken = end_view false true capacity [] taken
 
--- where this pass puts, it is the one that does and knows what was put; where it takes, it is the one that does and
--- knows what was taken
+-- if this pass puts, it is the only one that does, and knows what was put; if it takes, it is the only one that does,
+-- and knows what was taken
 pub record IsRight (putter taker capacity : ℕ) (put taken : List Item) (pass : ℕ) (v : EndView) : Type 0 where
   pub puts : v.puts ≡ true → (pass ≡ putter) × (v.capacity ≡ capacity) × (v.put ≡ put)
   pub takes : v.takes ≡ true → (pass ≡ taker) × (v.capacity ≡ capacity) × (v.taken ≡ taken)
 
--- what was put is what was taken, followed by the items that the queue holds, and each pass is right about it
+-- what was put is what was taken, followed by the items in the queue, and what each pass knows is right
 pub record IsInOrder (items : List Item) (views : List EndView) : Type 0 where
   pub putter : ℕ
   pub taker : ℕ

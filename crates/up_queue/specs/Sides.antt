@@ -4,37 +4,37 @@ use Rattle.atomic_table.specs.Seated.{TableId}
 use Rattle.up_queue.specs.declared.item.Item.{Item}
 use Rattle.up_queue.specs.Line.{IsLine}
 
--- which queue it is: no other one has the same
+-- the identity of a queue: no two queues have the same
 abbrev pub QueueId : Type 0
 QueueId = TableId
 
--- an end that puts: its queue, how many items that holds at most, and what was put, in order
+-- the end that puts: its queue, the capacity of that queue, and what was put, in order
 pub record PutSide : Type 0 where
   pub queue : QueueId
   pub capacity : ℕ
   pub put : List Item
 
--- an end that takes: its queue, how many items that holds at most, and what was taken, in order
+-- the end that takes: its queue, the capacity of that queue, and what was taken, in order
 pub record TakeSide : Type 0 where
   pub queue : QueueId
   pub capacity : ℕ
   pub taken : List Item
 
--- the two ends of one queue, through which nothing went yet
+-- the two ends of one queue, through which nothing has gone yet
 pub record AreNewEnds (capacity : ℕ) (put_end : PutSide) (take_end : TakeSide) : Type 0 where
   pub one_queue : take_end.queue ≡ put_end.queue
   pub capacities : (put_end.capacity ≡ capacity) × (take_end.capacity ≡ capacity)
   pub empty : (put_end.put ≡ []) × (take_end.taken ≡ [])
 
--- the end after one item more
+-- the end after one more item
 abbrev pub with_put : PutSide → Item → PutSide
 with_put end item = record end { put = end.put ++ item ∷ [] }
 
 abbrev pub with_taken : TakeSide → Item → TakeSide
 with_taken end item = record end { taken = end.taken ++ item ∷ [] }
 
--- the queue may be full by what this end knows: no fewer items were put than it can hold. So an end that has put fewer finds
--- room. Of a take there is no such word: it may give nothing although the queue holds an item
+-- as far as this end knows, the queue may be full: at least as many items were put as it can hold. So an end that has
+-- put fewer finds room. There is no such statement about a take: it may return nothing although the queue holds an item
 abbrev pub MayBeFull : PutSide → Type 0
 MayBeFull end = end.capacity ≤ length end.put
 
@@ -43,6 +43,6 @@ abbrev pub AreLeft : PutSide → TakeSide → ℕ → Type 0
 AreLeft put_end take_end left =
     (held : List Item) × IsLine put_end.capacity put_end.put take_end.taken held × (left ≡ length held)
 
--- the name of a queue that there is not
+-- an identity that no queue has
 abbrev pub no_queue : QueueId
 no_queue = record { words = 0; slots = 0; views_name = 0; atom = 0; block = 0; offset = 0; slot_names = [] }

@@ -1,4 +1,5 @@
-//! The two ends of a queue. Contracts see an end as its queue, the capacity, and the list of what it has put or taken.
+//! The two ends of a queue. Contracts describe an end as its queue, the capacity, and the list of what it has put or
+//! taken.
 ghost use Rattle.std.specs.Prelude.{◌≡◌, ◌<◌, [], ◌∷◌, ◌++◌, ◌↔◌, ◌≤◌, length, Err, IfOk, IfErr, IfSome, OnOk, OnErr, None};
 ghost use Rattle.up_queue.specs.declared.fault.QueueFault.TheVariants.{ZeroCapacity};
 ghost use Rattle.up_queue.specs.declared.fault.PutFault.TheVariants.{Full};
@@ -15,12 +16,12 @@ use std::marker::{Brand, Model};
 use std::sync::{Arc, Wait};
 use up_events::NoMemory;
 
-/// The end at which items are put into a queue. It may stand in another thread than the `TakeEnd`.
+/// The end at which items are put into a queue. It may be in another thread than the `TakeEnd`.
 #[derive(Drop)]
 pub struct PutEnd {
     line: Arc<Line, Global>,
     pass: Pass<Item, EndView>,
-    /// How many items were put, modulo 2^64.
+    /// The number of items that were put, modulo 2^64.
     count: u64,
 }
 
@@ -36,12 +37,12 @@ impl Model for PutEnd {
     ghost invariant = { IsPutEnd };
 }
 
-/// The end at which items are taken out of a queue. It may stand in another thread than the `PutEnd`.
+/// The end at which items are taken out of a queue. It may be in another thread than the `PutEnd`.
 #[derive(Drop)]
 pub struct TakeEnd {
     line: Arc<Line, Global>,
     pass: Pass<Item, EndView>,
-    /// How many items were taken, modulo 2^64.
+    /// The number of items that were taken, modulo 2^64.
     count: u64,
 }
 
@@ -57,7 +58,8 @@ impl Model for TakeEnd {
     ghost invariant = { IsTakeEnd };
 }
 
-/// An empty queue that holds at most `capacity` items, by its two ends. All of its memory is taken here.
+/// The two ends of an empty queue that holds at most `capacity` items. All of its memory is allocated here.
+/// `ZeroCapacity` if `capacity` is 0, `NoMemory` if memory runs out.
 pub fn lane_queue(alloc: Global, capacity: u64) -> Result<(PutEnd, TakeEnd), QueueFault>
     ensures zero { (result ≡ Err ZeroCapacity) ↔ (capacity ≡ 0) }
     ensures new { IfOk result (λ ends. AreNewEnds capacity ends.0 ends.1) }
@@ -94,10 +96,10 @@ fn made<N: Room>(alloc: Global, capacity: u64) -> Result<(PutEnd, TakeEnd), NoMe
 }
 
 impl PutEnd {
-    /// Puts an item behind those that the queue holds. It comes back only if the queue was full at one moment of the call;
-    /// the contract says no more than that the queue may be full: this end has put no fewer items than it can hold. The
-    /// caller sees to the order: behind what was put before, the item's event is the next of its upload, and nothing stands
-    /// behind an end. Takes no memory.
+    /// Puts an item after those in the queue. The item comes back only if the queue was full at some moment of the
+    /// call; the contract only says that the queue may be full, because this end has put at least as many items as it
+    /// can hold. The caller is responsible for the order: after what was put before, the event of the item is the next
+    /// one of its upload, and nothing follows an end. Takes no memory.
     pub fn put<R: Wait>(&mut self, rt: &R, item: Item) -> Result<(), PutFault>
         requires orderly { IsOrderly (self.old.put ++ item ∷ []) }
         ensures put { OnOk result (self.new ≡ with_put self.old item) }
@@ -113,8 +115,8 @@ impl PutEnd {
         }
     }
 
-    /// How many items the queue holds at one moment of the call. The contract says no more than that these are no more than it can hold, and
-    /// than were put. Takes no memory.
+    /// The number of items in the queue at some moment of the call. The contract only says that it is at most the
+    /// capacity, and at most the number of items that were put. Takes no memory.
     pub fn held<R: Wait>(&mut self, rt: &R) -> u64
         ensures unchanged { self.new ≡ self.old }
         ensures held { (result ≤ self.old.capacity) × (result ≤ length self.old.put) }
@@ -124,8 +126,9 @@ impl PutEnd {
 }
 
 impl TakeEnd {
-    /// Takes the oldest item that the queue holds. The array gives none only if it was empty at one moment of the call, but
-    /// the contract doesn't say so: by it, `None` may be answered although an item is there. Takes no memory.
+    /// Takes the oldest item in the queue. The array returns none only if it was empty at some moment of the call, but
+    /// the contract does not say so: according to it, the result may be `None` although there is an item. Takes no
+    /// memory.
     pub fn take<R: Wait>(&mut self, rt: &R) -> Option<Item>
         ensures taken { IfSome result (λ item. self.new ≡ with_taken self.old item) }
         ensures orderly { IsOrderly self.new.taken }
@@ -137,8 +140,8 @@ impl TakeEnd {
     }
 }
 
-/// How many items are left in a queue. Both of its ends are used up, and what they know is put together: what was put is
-/// what was taken, followed by what is left. Takes no memory, and waits for nobody.
+/// The number of items left in a queue. It uses up both ends and combines what they know: what was put is what was
+/// taken, followed by what is left. Takes no memory, and does not wait.
 pub fn compare(put_end: PutEnd, take_end: TakeEnd) -> u64
     requires one_queue { take_end.queue ≡ put_end.queue }
     ensures left { AreLeft put_end take_end result }

@@ -1,14 +1,14 @@
-//! Why there is no queue, and why an item was not put.
+//! Why a queue was not made, and why an item was not put.
 use crate::item::Item;
 use thiserror::Error;
 
-/// Why no queue was made.
+/// Why a queue was not made.
 #[derive(Clone, Copy, Debug, PartialEq, Eq, Error)]
 pub enum QueueFault {
     /// It would hold nothing.
     #[error("a queue for no item")]
     ZeroCapacity,
-    /// Memory for it was refused.
+    /// Memory for it ran out.
     #[error("out of memory")]
     NoMemory,
 }

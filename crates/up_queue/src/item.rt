@@ -1,10 +1,10 @@
-//! What goes through a queue.
+//! The items of a queue.
 use up_events::Event;
 
-/// What goes through a queue: the events of a lane, and behind the last one the end.
+/// The items of a queue: the events of a lane, and after the last one the end.
 #[derive(Clone, Copy, Debug, PartialEq, Eq)]
 pub enum Item {
     Event(Event),
-    /// Nothing is put behind it.
+    /// Nothing is put after it.
     End,
 }

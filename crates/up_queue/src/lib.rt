@@ -1,5 +1,5 @@
-//! A bounded queue from one thread to another, whose two ends know what went through it: what was put is what was taken,
-//! followed by what is held. No put waits for a take, and no take for a put.
+//! A bounded queue from one thread to another, whose two ends know what went through it: what was put is what was
+//! taken, followed by what the queue holds. A put never waits for a take, and a take never waits for a put.
 #![tactic(auto)]
 
 mod ends;

@@ -1,4 +1,4 @@
-//! The steps of a queue under its rule, each with a pass: what an end of the queue carries of what it knows.
+//! The steps of a queue under its rule, each with a pass, which holds what an end of the queue knows.
 ghost use Rattle.std.specs.Prelude.{◌≡◌, ◌<◌, ◌≤◌, List, true, [], ◌∷◌, ◌++◌, length, IfOk, IfSome, IfErr, OnOk, None};
 ghost use Rattle.crossbeam_queue.specs.Passes.{view, IsPassOf, ruled_capacity};
 ghost use Rattle.up_queue.specs.declared.item.Item.{Item};
@@ -15,7 +15,7 @@ use up_events::NoMemory;
 /// The array under a queue.
 pub type Line = RuledArrayQueue<Item, EndView, InOrder>;
 
-/// An empty line, with the pass that puts and the pass that takes.
+/// An empty line, with the pass that puts and the pass that takes. `NoMemory` if memory runs out.
 pub fn open<N: Room>(
     alloc: Global,
     capacity: usize,
@@ -32,7 +32,7 @@ pub fn open<N: Room>(
     Ok((line, putter, taker))
 }
 
-/// Puts an item, or hands it back if the line may be full.
+/// Puts an item, or returns it if the line may be full.
 pub fn push<R: Wait>(
     rt: &R,
     line: &Line,
@@ -67,7 +67,7 @@ pub fn pop<R: Wait>(rt: &R, line: &Line, pass: &mut Pass<Item, EndView>) -> Opti
     line.pop_as::<Takes, R>(rt, pass)
 }
 
-/// How many items the line holds at one moment of the call.
+/// The number of items in the line at some moment of the call.
 pub fn held<R: Wait>(rt: &R, line: &Line, pass: &mut Pass<Item, EndView>) -> u64
     requires line { IsPassOf line.now pass.old }
     requires puts { view pass.old ≡ putting (ruled_capacity line.now) (view pass.old).put }
@@ -79,7 +79,7 @@ pub fn held<R: Wait>(rt: &R, line: &Line, pass: &mut Pass<Item, EndView>) -> u64
     line.len_as::<Puts, R>(rt, pass) as u64
 }
 
-/// What the two passes of a line say of it together.
+/// What the two passes of a line together say about it.
 pub fn join(line: &Line, mut putter: Pass<Item, EndView>, taker: Pass<Item, EndView>)
     requires passes { IsPassOf line.now putter × IsPassOf line.now taker }
     requires puts { (view putter).puts ≡ true }

@@ -1,4 +1,5 @@
-//! The rule of a queue, and what each step tells the end that makes it. Proofs alone use these types: no value of them is made.
+//! The rule of a queue, and what an end learns from each of its steps. These types are only for proofs: no value of
+//! them exists.
 ghost use Rattle.std.specs.Prelude.{ℕ};
 
 use crate::item::Item;
@@ -15,7 +16,7 @@ pub struct EndView {
     pub taken: LinkedList<Item>,
 }
 
-/// The rule. A queue begins with one pass that may do both, of a capacity that isn't told yet.
+/// The rule. A queue begins with one pass that may put and take, with a capacity that is not set yet.
 pub struct InOrder;
 
 impl Protocol<Item, EndView> for InOrder {
@@ -27,7 +28,7 @@ impl Protocol<Item, EndView> for InOrder {
     ghost first = { end_view true true 0 [] [] };
 }
 
-/// The capacity of a queue that is being made, which the rule can't know in any other way.
+/// The capacity of a queue that is being made, which the rule cannot know in any other way.
 pub trait Room {
     ghost room: { ℕ };
 }
@@ -36,7 +37,7 @@ impl Room for Brand {
     ghost room = { 0 };
 }
 
-/// The first pass is told its capacity, and is cut into that of the put end and that of the take end.
+/// Sets the capacity of the first pass, and splits it into the pass of the put end and the pass of the take end.
 pub struct Roles<N: Room> {
     named: PhantomData<N>,
 }
@@ -49,7 +50,7 @@ impl<N: Room> Split<EndView> for Roles<N> {
     ghost right = { λ v. taking N.room v.taken };
 }
 
-/// What both ends know, put together. The take end's pass is used up.
+/// What both ends know, combined. The pass of the take end is used up.
 pub struct Both;
 
 impl Join<EndView> for Both {
@@ -67,7 +68,8 @@ impl Lesson<Item, EndView> for Both {
     ghost fact = { λ v items. IsLine v.capacity v.put v.taken items };
 }
 
-/// A put: one item more was put. If the queue is full, the put end learns that it put no fewer items than are held.
+/// A put: one more item was put. If the queue is full, the put end learns that it has put at least as many items as the
+/// queue holds.
 pub struct Puts;
 
 impl Outcome<Item, EndView> for Puts {
@@ -83,7 +85,7 @@ impl Lesson<Item, EndView> for Puts {
     ghost fact = { λ v items. length items ≤ length v.put };
 }
 
-/// A take: one item more was taken, and what was taken is orderly. If the queue is empty, the take end learns nothing.
+/// A take: one more item was taken, and what was taken is orderly. If the queue is empty, the take end learns nothing.
 pub struct Takes;
 
 impl Outcome<Item, EndView> for Takes {

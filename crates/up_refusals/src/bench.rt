@@ -1,4 +1,4 @@
-//! A book and a journal, and the calls of rows.
+//! A book and a journal, and the calls of the rows.
 use crate::lines::{Lines, MOST_CALLS};
 use crate::messages::{id_of, message_of, number_of, out_of_memory, request_in};
 use crate::words::{push_book, push_journal, push_pairs, push_plan, push_request, push_response};
@@ -19,7 +19,7 @@ pub struct Bench {
     pub lines: Lines,
 }
 
-/// What stands in a book and a journal.
+/// The state of a book and a journal.
 fn push_all(words: &mut String, book: &Book, journal: &Journal) -> Result<(), AllocError> {
     words.push_str("book ")?;
     push_book(words, book)?;
@@ -27,7 +27,7 @@ fn push_all(words: &mut String, book: &Book, journal: &Journal) -> Result<(), Al
     push_journal(words, journal)
 }
 
-// Each of these makes a call, puts its answer into words, and answers whether memory was refused.
+// Each of these makes a call, adds its result as text, and returns whether memory ran out.
 
 fn pairs(words: &mut String, alloc: Global, text: &str) -> io::Result<bool> {
     let read = pairs_of(alloc, text.as_bytes());
@@ -121,7 +121,7 @@ impl Bench {
         })
     }
 
-    /// Makes a call and tells of it. Answers whether it was refused memory.
+    /// Makes a call and prints it. Returns whether memory ran out.
     fn call(
         &mut self,
         rt: &(impl Print + Wait),
@@ -145,7 +145,7 @@ impl Bench {
         Ok(refused)
     }
 
-    /// Makes a call until it isn't refused memory.
+    /// Makes a call until memory does not run out.
     pub fn call_on(
         &mut self,
         rt: &(impl Print + Wait),

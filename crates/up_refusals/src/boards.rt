@@ -22,19 +22,19 @@ use up_machine::Asked;
 use up_message::Sequence;
 use up_queue::TakeEnd;
 
-/// The most items in a queue. All events of a lane find room there, and the end.
+/// The maximum number of items in a queue. All events of a lane fit into it, and the end.
 const CAPACITY: u64 = 8;
 
-/// The most steps of a lane that are made.
+/// The maximum number of steps of a lane.
 const MOST_STEPS: u32 = 40;
 
-/// How many events the post-hooks were handed.
+/// The number of events that the post-hooks were handed.
 fn push_handed(words: &mut String, handed: &AtomicU64) -> Result<(), AllocError> {
     let count = handed.load(Ordering::SeqCst);
     write!(words, "handed {count}")
 }
 
-/// Tells of a call that makes a board, or what one is made of.
+/// Prints a call that makes a board, or its parts.
 fn tell_made(rt: &impl Print, lines: &mut Lines, handed: &AtomicU64, made: bool) -> io::Result<()> {
     let word = if made { "made" } else { "out of memory" };
     lines.called.push_str(word)?;
@@ -42,7 +42,7 @@ fn tell_made(rt: &impl Print, lines: &mut Lines, handed: &AtomicU64, made: bool)
     lines.tell(rt, !made)
 }
 
-/// The parts of a board of two lanes, by calls of which is told.
+/// The parts of a board of two lanes. Prints the calls that make them.
 fn told_parts(
     rt: &impl Print,
     alloc: Global,
@@ -63,7 +63,7 @@ fn told_parts(
     Err(out_of_memory())
 }
 
-/// Makes five uploads of no bytes, and closes the board.
+/// Creates five uploads without bytes, and closes the board.
 fn fill<B: Naming, R: Wait>(rt: &R, alloc: Global, board: &Board<B>) -> io::Result<Seat<B>> {
     let Some(mut seat) = board.seat(rt) else {
         return Err(io::Error::from(io::ErrorKind::ResourceBusy));
@@ -87,7 +87,7 @@ fn fill<B: Naming, R: Wait>(rt: &R, alloc: Global, board: &Board<B>) -> io::Resu
     Ok(seat)
 }
 
-/// Steps a lane, and tells of it.
+/// Steps a lane, and prints the call.
 fn told_step<H: PostHook + Drop>(
     rt: &(impl Print + Wait),
     lines: &mut Lines,
@@ -128,7 +128,7 @@ fn stepped<B: Naming + Send + Sync, H: PostHook + Drop, R: Print + Wait>(
     Err(out_of_memory())
 }
 
-/// What the seats and the ends of lanes show.
+/// The state of the seats and of the ends of lanes.
 fn push_ends<B: Naming, H: PostHook + Told>(
     words: &mut String,
     seats: &[Seat<B>],
@@ -144,7 +144,7 @@ fn push_ends<B: Naming, H: PostHook + Told>(
     Ok(())
 }
 
-/// Ends a board, by so many calls at most.
+/// Finishes a board, in at most `calls` calls.
 fn finish<B: Naming, H: PostHook + Told + Drop>(
     rt: &impl Print,
     alloc: Global,
@@ -190,7 +190,7 @@ fn finish<B: Naming, H: PostHook + Told + Drop>(
     }
 }
 
-/// Fills a board, steps its lanes, and ends it.
+/// Fills a board, steps its lanes, and finishes it.
 fn run<B: Naming + Send + Sync, H: PostHook + Told + Drop, R: Print + Wait>(
     rt: &R,
     alloc: Global,
@@ -215,7 +215,7 @@ fn run<B: Naming + Send + Sync, H: PostHook + Told + Drop, R: Print + Wait>(
     finish(rt, alloc, lines, MOST_CALLS, board, seats, ends)
 }
 
-/// Makes a board of these parts and runs it. Answers whether it was made.
+/// Makes a board with these parts and runs it. Returns whether it was made.
 fn begin<B: Naming + Send + Sync, H: PostHook + Told + Drop, R: Print + Wait>(
     rt: &R,
     alloc: Global,
@@ -243,7 +243,7 @@ fn begin<B: Naming + Send + Sync, H: PostHook + Told + Drop, R: Print + Wait>(
     }
 }
 
-/// Makes a board, and what it is made of again where it is refused memory.
+/// Makes a board. If memory runs out, makes its parts and the board again.
 pub fn call_all(rt: &(impl Print + Wait), alloc: Global, lines: &mut Lines) -> io::Result<()> {
     let handed = AtomicU64::new(0);
     let answer = |_: &Event| -> Outcome

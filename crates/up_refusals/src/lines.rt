@@ -1,28 +1,28 @@
-//! What is told of a call.
+//! The lines about a call.
 ghost use Rattle.std.specs.Prelude.{◌≡◌, ◌↔◌, IsTrue};
 
 use std::alloc::{AllocError, Global};
 use std::fmt::Write;
 use std::io;
 
-/// How often a call is made that is refused memory.
+/// How often a call is made if memory runs out.
 pub const MOST_CALLS: u32 = 8;
 
-/// How many bytes a line has room for. Those of the stored rows have fewer.
+/// The room of a line, in bytes. Those of the stored rows are shorter.
 const ROOM: usize = 4096;
 
 /// The three lines of a call.
 #[derive(Drop)]
 pub struct Lines {
-    /// What stands before it.
+    /// The state before it.
     pub before: String,
-    /// The call and its answer.
+    /// The call and its result.
     pub called: String,
-    /// What stands after it.
+    /// The state after it.
     pub after: String,
 }
 
-/// Whether what stands after a call is what stood before it.
+/// Whether the state after a call is the state before it.
 fn is_same(before: &str, after: &str) -> bool
     ensures { IsTrue result ↔ (before.now ≡ after.now) }
 {
@@ -30,7 +30,7 @@ fn is_same(before: &str, after: &str) -> bool
 }
 
 impl Lines {
-    /// Takes the room of all lines.
+    /// Allocates the room of all lines.
     pub fn new(alloc: Global) -> Result<Lines, AllocError> {
         Ok(Lines {
             before: String::with_capacity(alloc, ROOM)?,
@@ -39,7 +39,7 @@ impl Lines {
         })
     }
 
-    /// Begins with the lines of this call.
+    /// Starts the lines of this call.
     pub fn begin(&mut self, name: &str, given: &str) -> Result<(), AllocError> {
         self.before.clear();
         self.called.clear();
@@ -47,7 +47,7 @@ impl Lines {
         write!(self.called, "{name}({given}) => ")
     }
 
-    /// Prints the lines. Where the call was refused memory, the last one says whether the same stands as before.
+    /// Prints the lines. If memory ran out in the call, the last line says whether the state is the same as before.
     pub fn tell(&self, rt: &impl Print, refused: bool) -> io::Result<()> {
         let word = match (refused, is_same(self.before.as_str(), self.after.as_str())) {
             (false, _) => "after",

@@ -1,21 +1,23 @@
-//! Calls those functions of the crates that say what stands where memory is refused, as the rows of standard input have them, and tells
-//! what stands before each call and after it. `tests/memory` refuses the program its requests for memory.
+//! Calls those functions of the crates whose contracts say what holds if memory runs out, according to the rows of
+//! standard input, and prints the state before and after each call. `tests/memory` makes the program's requests for
+//! memory fail.
 //!
-//! A line that is empty or begins with `#` says nothing. A row is:
+//! A line that is empty or begins with `#` is ignored. A row is:
 //!
 //! ```text
 //! pairs_of TEXT            of a metadata text
-//! note NUMBER              `Journal::note` of a new upload of no bytes, with the id of this number
-//! lane_queue CAPACITY      an item goes through the queue
-//! request_of MESSAGE       a method, a target, and behind a bar each a field, `Name: value`, or the body
+//! note NUMBER              `Journal::note` of a new upload without bytes, whose id has this number
+//! lane_queue CAPACITY      an item passes through the queue
+//! request_of MESSAGE       a method and a target; then, each after a bar, a field `Name: value`, or the body
 //! plan MESSAGE             `Book::plan` of its request
-//! commit NUMBER MESSAGE    `Book::commit` of its request; a new upload has the id of this number
-//! board                    `BoardParts::new`, `Board::new`, five uploads, each `Lane::step` of two lanes, and `Board::finish`
+//! commit NUMBER MESSAGE    `Book::commit` of its request; the id of a new upload has this number
+//! board                    `BoardParts::new`, `Board::new`, five uploads, each `Lane::step` of two lanes, and
+//!                          `Board::finish`
 //! ```
 //!
-//! Of each call there are three lines: what stands before it, the call with its answer, and what stands after it. One that is refused
-//! memory is made again, a few times. Where memory is refused to anything else, no line of that call is printed, and the program ends
-//! with status 1; to print takes none.
+//! For each call there are three lines: the state before it, the call with its result, and the state after it. If
+//! memory runs out in a call, the call is made again, a few times. If memory runs out anywhere else, no line of that
+//! call is printed, and the program ends with status 1. Printing takes no memory.
 #![tactic(auto)]
 
 mod bench;

@@ -1,4 +1,4 @@
-//! Messages and requests out of rows.
+//! Messages and requests from rows.
 ghost use Rattle.std.specs.Prelude.{IfOk};
 ghost use Rattle.up_headers.specs.Table.{FitsWithin};
 
@@ -9,12 +9,12 @@ use up_events::{Id, MOST_BYTES};
 use up_headers::{Request, request_of};
 use up_message::{Field, Message, Sequence};
 
-/// Memory was refused.
+/// Memory ran out.
 pub fn out_of_memory() -> io::Error {
     io::Error::from(ErrorKind::OutOfMemory)
 }
 
-/// The number of a word.
+/// The number in a word.
 pub fn number_of(word: &str) -> io::Result<u64> {
     match word.parse::<u64>() {
         Ok(number) => Ok(number),
@@ -22,7 +22,7 @@ pub fn number_of(word: &str) -> io::Result<u64> {
     }
 }
 
-/// The id of a number.
+/// The id with this number.
 pub fn id_of(number: u64) -> Id {
     Id::new(u128::from(number))
 }
@@ -34,7 +34,7 @@ fn field_of(alloc: Global, name: &str, value: &str) -> io::Result<Field> {
     ))
 }
 
-/// The fields and the body of a row, which stand behind what is asked for.
+/// The fields and the body of a row, which are after the method and the target.
 fn content_of(alloc: Global, parts: &str) -> io::Result<(Sequence<Field>, Sequence<u8>)> {
     let (mut fields, mut body) = (Sequence::new(alloc), Sequence::new(alloc));
     fields.push(field_of(alloc, "Tus-Resumable", "1.0.0")?)?;

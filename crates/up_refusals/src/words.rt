@@ -1,4 +1,4 @@
-//! What calls answer, and what stands, in words.
+//! Results and states as text.
 use crate::messages::id_of;
 use std::alloc::AllocError;
 use std::fmt::Write;
@@ -10,7 +10,7 @@ use up_lanes::How;
 use up_machine::{Ask, Book, Plan};
 use up_message::{Piece, Response, Run};
 
-/// The ids of the rows are the numbers below this one.
+/// The ids in the rows are the numbers below this one.
 const ID_COUNT: u64 = 10;
 
 /// A journal of two lanes, as "ids 1 2; changes 4; events 3 2".
@@ -40,8 +40,8 @@ fn push_runs(words: &mut String, runs: &[Run]) -> Result<(), AllocError> {
     Ok(())
 }
 
-/// A book, as "open; 1 Plain 3/Some(5) [abc]; ids 1 2; ..": whether it is, each upload with its number, kind, offset, length and
-/// bytes, and the journal.
+/// A book, as "open; 1 Plain 3/Some(5) [abc]; ids 1 2; ..": whether it is open, each upload with its number, kind,
+/// offset, length and bytes, and the journal.
 pub fn push_book(words: &mut String, book: &Book) -> Result<(), AllocError> {
     let word = if book.is_closed() {
         "closed; "
@@ -107,14 +107,14 @@ pub fn push_response(words: &mut String, response: &Response) -> Result<(), Allo
     words.push_str("]")
 }
 
-/// What closures are asked, as "ask Create None 0/Some(5) [name=ab; ]": point, target, offset and length, and pairs.
+/// The question for closures, as "ask Create None 0/Some(5) [name=ab; ]": point, target, offset and length, and pairs.
 fn push_ask(words: &mut String, ask: &Ask) -> Result<(), AllocError> {
     let (point, target, offset, length) = (ask.point, ask.target, ask.offset, ask.length);
     write!(words, "ask {point:?} {target:?} {offset}/{length:?} ")?;
     push_pairs(words, &ask.pairs)
 }
 
-/// What is said at planning.
+/// The plan of a request.
 pub fn push_plan(words: &mut String, plan: &Plan) -> Result<(), AllocError> {
     match plan {
         Plan::Answer(response) => push_response(words, response),
@@ -128,7 +128,7 @@ pub fn push_plan(words: &mut String, plan: &Plan) -> Result<(), AllocError> {
     }
 }
 
-/// A post-hook that shows what it was handed.
+/// A post-hook that shows the events that it was handed.
 pub trait Told {
     /// Each event as ", Id(2) 1 post-create", with its upload and its number.
     fn push_events(&self, words: &mut String) -> Result<(), AllocError>;
@@ -144,7 +144,7 @@ impl<F> Told for Recorder<F> {
     }
 }
 
-/// A lane, as "; lane 0 Drained", with what its post-hook was handed.
+/// A lane, as "; lane 0 Drained", with the events that its post-hook was handed.
 pub fn push_lane(
     words: &mut String,
     lane: u64,

@@ -28,7 +28,7 @@ carried s entry (Err refused) = s
 abbrev pub replayed_one : State → Entry → State
 replayed_one s entry = carried s entry (decide s entry.request entry.id (asked_of entry.consent))
 
--- the book after these entries, the first of them first
+-- the book after these entries, in order
 unfoldable pub replayed : State → List Entry → State
 replayed s [] = s
 replayed s (entry ∷ entries) = replayed (replayed_one s entry) entries
@@ -37,14 +37,14 @@ replayed s (entry ∷ entries) = replayed (replayed_one s entry) entries
 abbrev pub entries_of : List (List Entry) → List Entry
 entries_of batches = flat_map (λ (batch : List Entry). batch) batches
 
--- more entries make more of the book that the first of them define
+-- committing more entries continues from the book that the first of them define
 abbrev pub ReplaysGoOn : Type 0
 ReplaysGoOn = (s : State) (first more : List Entry) → replayed s (first ++ more) ≡ replayed (replayed s first) more
 
--- the changes that a log defines begin with those of any front of it
+-- the changes that a prefix of a log defines are a prefix of those that the log defines
 abbrev pub ChangesBeginAlike : Type 0
 ChangesBeginAlike = (s : State) (first more : List Entry) → IsPrefix (replayed s first).journal.accepted (replayed s (first ++ more)).journal.accepted
 
--- and so does the log of each lane
+-- and the same for the log of each lane
 abbrev pub LogsBeginAlike : Type 0
 LogsBeginAlike = (s : State) (first more : List Entry) (lane : ℕ) → IsPrefix (lane_log (replayed s first).journal lane) (lane_log (replayed s (first ++ more)).journal lane)

@@ -1,4 +1,4 @@
-//! A book that is made again from the entries of a log.
+//! Restoring a book from the entries of a log.
 #![tactic(auto)]
 
 mod law;

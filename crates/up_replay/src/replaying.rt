@@ -11,18 +11,18 @@ use up_log::{Consent, Entry};
 use up_machine::{Asked, Book, Refusal, Remains};
 use up_message::Sequence;
 
-/// Why entries can't be committed again.
+/// Why entries cannot be committed again.
 #[derive(Clone, Copy, Debug, PartialEq, Eq, Error)]
 pub enum Unreplayed {
-    /// Out of memory. More memory, or a smaller log, helps.
+    /// Memory ran out. More memory, or a smaller log, helps.
     #[error("out of memory")]
     Memory,
-    /// An upload is to be made that is longer than any may be: no server wrote this log.
+    /// An upload to be created is longer than any upload may be: no server wrote this log.
     #[error("an upload of the log is longer than any may be")]
     TooLong,
 }
 
-/// What the closures said, as a commit is told it.
+/// What the closures said, in the form that a commit takes.
 pub fn asked_of(consent: Consent) -> Asked
     ensures { result ≡ asked_of consent }
 {
@@ -33,7 +33,7 @@ pub fn asked_of(consent: Consent) -> Asked
     }
 }
 
-/// Whether a request is one of those that a server takes: it makes no upload that is longer than any may be.
+/// Whether a server may receive this request: it does not create an upload that is longer than any upload may be.
 pub fn fits(request: &Request) -> bool
     ensures { IsTrue result ↔ FitsWithin MOST_BYTES request.now }
 {
@@ -46,7 +46,7 @@ pub fn fits(request: &Request) -> bool
     }
 }
 
-/// Commits an entry again. What refuses it refused it before, too.
+/// Commits an entry again. If the commit is refused now, it was refused before, too.
 fn replay_one(alloc: Global, book: &mut Book, entry: Entry) -> Result<(), Unreplayed>
     ensures ok { OnOk result (book.new ≡ replayed_one book.old entry) }
     ensures err { OnErr result (book.new ≡ book.old) }
@@ -67,8 +67,8 @@ fn replay_one(alloc: Global, book: &mut Book, entry: Entry) -> Result<(), Unrepl
     }
 }
 
-/// Commits the entries of a log again, in order: the book is then the one that they define, with the same uploads,
-/// changes, events and refusals. An entry that is refused, as a second creation with one id, changes nothing.
+/// Commits the entries of a log again, in order. The book is then the one that they define, with the same uploads,
+/// changes, events and refusals. An entry that is refused, such as a second creation with the same id, changes nothing.
 pub fn replay(alloc: Global, book: &mut Book, entries: Sequence<Entry>) -> Result<(), Unreplayed>
     ensures { OnOk result (book.new ≡ replayed book.old entries) }
 {

@@ -1,4 +1,4 @@
-//! A book that is made again from a log on a disk.
+//! Restoring a book from a log on a disk.
 ghost use Rattle.std.specs.Prelude.{◌≡◌, [], List, IfOk};
 ghost use Rattle.up_log.specs.Logs.{IsCleanLog, IsReading, IsSettled};
 ghost use Rattle.up_log.specs.declared.entry.Entry.{Entry as Logged};
@@ -12,13 +12,13 @@ use thiserror::Error;
 use up_log::{Log, LogFault, LogReader};
 use up_machine::Book;
 
-/// Why a book can't be made again.
+/// Why a book cannot be restored.
 #[derive(Clone, Copy, Debug, Error)]
 pub enum Unrestored {
-    /// The log can't be read.
+    /// The log cannot be read.
     #[error("{0}")]
     Log(LogFault),
-    /// An entry can't be committed again.
+    /// An entry cannot be committed again.
     #[error("{0}")]
     Entry(Unreplayed),
 }
@@ -35,8 +35,8 @@ impl From<Unreplayed> for Unrestored {
     }
 }
 
-/// Reads a log to its end and commits each batch again, one after another: besides the book there is one batch in
-/// memory. The book is then the one that the log defines, and the log can take more.
+/// Reads a log to its end and commits each batch again, one after another. Apart from the book, only one batch is in
+/// memory. The book is then the one that the log defines, and batches can be appended to the log.
 pub fn restore<D: Disk>(
     alloc: Global,
     reader: LogReader<D>,

@@ -1,4 +1,4 @@
-//! Rows of a course: a book, and what is done with it.
+//! Rows of a course: a book, and a sequence of operations on it.
 mod requests;
 mod words;
 mod working;
@@ -14,7 +14,7 @@ use up_headers::Request;
 use up_machine::{Asked, Book, Plan, Reason, Refusal, Remains};
 use up_message::Segments;
 
-/// A book, what is said before each commit, and bytes that were given.
+/// A book, what the closures say before each commit, and bytes from a response.
 #[derive(Drop)]
 pub struct Course {
     book: Book,
@@ -22,18 +22,18 @@ pub struct Course {
     kept: Segments,
 }
 
-/// The id of a word.
+/// The id whose number is in a word.
 fn id_of(word: &str) -> Result<Id, RowFault> {
     Ok(Id::new(u128::from(number_of(word)?)))
 }
 
-/// Whether a change is the last one of the journal, behind so many others.
+/// Whether a change is the last one of the journal, after `before` others.
 fn is_last(book: &Book, change: Accepted, before: usize) -> bool {
     let changes = book.journal().accepted();
     changes.len() == before.saturating_add(1) && changes.last() == Some(&change)
 }
 
-/// Whether words are a response.
+/// Whether this text is a response.
 fn is_response(words: &str) -> bool {
     matches!(words.as_bytes(), [b'0'..=b'9', ..])
 }
@@ -46,7 +46,7 @@ fn in_brackets(alloc: Global, bytes: Option<&[u8]>) -> Result<String, RowFault> 
     }
 }
 
-/// The reason whose bytes these numbers are.
+/// The reason with these bytes, which are given as numbers.
 fn reason(alloc: Global, numbers: &str) -> Result<String, RowFault> {
     let mut text = Vec::new(alloc);
     for number in numbers.split_ascii_whitespace() {
@@ -61,7 +61,8 @@ fn reason(alloc: Global, numbers: &str) -> Result<String, RowFault> {
     }
 }
 
-/// Notes a new upload of no bytes, and puts where its events stand as "LANE FIRST COUNT; ". One that is known is skipped.
+/// Notes a new upload without bytes, and writes the place of its events as "LANE FIRST COUNT; ". An upload that is
+/// known is skipped.
 fn push_place(words: &mut String, journal: &mut Journal, id: Id) -> Result<(), RowFault> {
     if !journal.knows(id) {
         let Added { lane, first, count } = journal.note(Accepted::Created {
@@ -74,7 +75,7 @@ fn push_place(words: &mut String, journal: &mut Journal, id: Id) -> Result<(), R
     Ok(())
 }
 
-/// Where the events of new uploads of no bytes stand in a journal.
+/// The places of the events of new uploads without bytes in a journal.
 fn places(alloc: Global, numbers: &str) -> Result<String, RowFault> {
     let mut journal = Journal::new(alloc, 2)?;
     let mut words = String::new(alloc);
@@ -84,7 +85,7 @@ fn places(alloc: Global, numbers: &str) -> Result<String, RowFault> {
     Ok(words)
 }
 
-/// The value of a key of what is asked at planning.
+/// The value of a key in the question of a plan.
 fn value_of(alloc: Global, planned: &Result<Plan, Refusal>, key: &str) -> Result<String, RowFault> {
     match planned {
         Ok(Plan::Ask(ask)) => in_brackets(alloc, ask.value(key.as_bytes())),
@@ -99,13 +100,13 @@ fn numbered(alloc: Global, row: &str) -> Result<Request, RowFault> {
     request_of(alloc, id_of(number)?, rest)
 }
 
-/// The bytes that a book gives of an upload.
+/// The bytes of an upload, as a book returns them.
 fn given(book: &mut Book, alloc: Global, id: Id, asked: &Asked) -> Result<Segments, RowFault> {
     let given = book.commit(alloc, Request::Get(id), id, asked, &mut Remains::new())?;
     Ok(given.response.body)
 }
 
-/// Fails where a book does not show what it did before.
+/// Returns an error if the state of a book differs from the one before.
 fn hold_unchanged(alloc: Global, book: &Book, before: &str) -> Result<(), RowFault> {
     if words::state(alloc, book)?.as_str() != before {
         return Err(RowFault::Changed);
@@ -122,19 +123,19 @@ impl Course {
         })
     }
 
-    /// Begins a new book, whose uploads have at most so many bytes.
+    /// Starts a new book, whose uploads have at most `size` bytes.
     fn begin(&mut self, alloc: Global, size: &str) -> Result<(), RowFault> {
         self.book = Book::new(alloc, 2, size_of(size)?)?;
         Ok(())
     }
 
-    /// What is said of a request at planning, in words.
+    /// The plan of a request, as text.
     fn planned(&self, alloc: Global, row: &str) -> Result<String, RowFault> {
         let request = numbered(alloc, row)?;
         words::of_plan(alloc, &self.book.plan(alloc, &request))
     }
 
-    /// What is said of a request at planning, in words, which changes nothing.
+    /// The plan of a request, as text. Checks that planning changes nothing.
     fn plan(&self, alloc: Global, row: &str) -> Result<String, RowFault> {
         let before = words::state(alloc, &self.book)?;
         let planned = self.planned(alloc, row)?;
@@ -142,7 +143,7 @@ impl Course {
         Ok(planned)
     }
 
-    /// What a request changes, and what is answered to it, in words.
+    /// The change and the response of a request, as text.
     fn decided(
         &mut self,
         alloc: Global,
@@ -157,7 +158,8 @@ impl Course {
         Ok((words::change_of(&decided), words::of_done(alloc, &decided)?))
     }
 
-    /// What comes of a request, in words. A change must be the last of the journal, and without one the book is as it was.
+    /// The result of a request, as text. If there is a change, it must be the last of the journal; otherwise the book
+    /// must be unchanged.
     fn commit(&mut self, alloc: Global, row: &str) -> Result<String, RowFault> {
         let before = words::state(alloc, &self.book)?;
         let count = self.book.journal().accepted().len();
@@ -170,7 +172,7 @@ impl Course {
         Ok(found)
     }
 
-    /// What comes of a request, in words, which is what the plan says where that is a response.
+    /// The result of a request, as text. If the plan is a response, this must be the same.
     fn step(&mut self, alloc: Global, row: &str) -> Result<String, RowFault> {
         let planned = self.plan(alloc, row)?;
         let found = self.commit(alloc, row)?;
@@ -180,7 +182,7 @@ impl Course {
         Ok(found)
     }
 
-    /// The value of a key of what is asked first about a request.
+    /// The value of a key in the first question about a request.
     fn value(&self, alloc: Global, row: &str) -> Result<String, RowFault> {
         let (key, row) = row.split_once("] ").unwrap_or((row, ""));
         let key = key.strip_prefix("[").unwrap_or(key);
@@ -188,14 +190,14 @@ impl Course {
         value_of(alloc, &self.book.plan(alloc, &request), key)
     }
 
-    /// Keeps the bytes that are given of an upload.
+    /// Keeps the bytes of an upload.
     fn keep(&mut self, alloc: Global, number: &str) -> Result<(), RowFault> {
         let id = id_of(number)?;
         self.kept = given(&mut self.book, alloc, id, &self.asked)?;
         Ok(())
     }
 
-    /// Takes what a line says of the rows behind it.
+    /// Reads a line that says something about the following rows.
     pub fn set(&mut self, alloc: Global, line: &str) -> Result<(), RowFault> {
         let (word, rest) = cut(line);
         match word {
@@ -213,7 +215,7 @@ impl Course {
         }
     }
 
-    /// What comes of a row, in words.
+    /// The result of a row, as text.
     fn found(&mut self, alloc: Global, row: &str) -> Result<String, RowFault> {
         let (word, rest) = cut(row);
         match word {
@@ -232,7 +234,7 @@ impl Course {
         }
     }
 
-    /// What comes of a row, in words, without spaces behind them.
+    /// The result of a row, as text, without spaces at the end.
     pub fn take(&mut self, alloc: Global, row: &str) -> Result<String, RowFault> {
         let found = self.found(alloc, row)?;
         Ok(String::from_str(alloc, found.trim_end())?)

@@ -1,8 +1,8 @@
-//! Bytes in runs, in one piece.
+//! Bytes in runs, copied into one piece.
 use std::alloc::{AllocError, Global};
 use up_message::{Piece, Run, Segments};
 
-/// Puts the pieces behind the bytes.
+/// Appends the pieces to the bytes.
 pub fn put_pieces(bytes: &mut Vec<u8>, pieces: &[Piece]) -> Result<(), AllocError> {
     for piece in pieces {
         bytes.extend_from_slice(piece.as_slice())?;
@@ -10,7 +10,7 @@ pub fn put_pieces(bytes: &mut Vec<u8>, pieces: &[Piece]) -> Result<(), AllocErro
     Ok(())
 }
 
-/// Puts the runs behind the bytes.
+/// Appends the runs to the bytes.
 pub fn put_runs(bytes: &mut Vec<u8>, runs: &[Run]) -> Result<(), AllocError> {
     for run in runs {
         put_pieces(bytes, run.pieces())?;

@@ -1,12 +1,12 @@
-//! Words of a line.
+//! The words of a line.
 use crate::row_fault::RowFault;
 
-/// The first word of a text, and what stands behind it.
+/// The first word of a text, and the text after it.
 pub fn cut(text: &str) -> (&str, &str) {
     text.split_once(' ').unwrap_or((text, ""))
 }
 
-/// The number of a word.
+/// The number in a word.
 pub fn number_of(word: &str) -> Result<u64, RowFault> {
     word.parse::<u64>().map_err(|_| RowFault::Number)
 }

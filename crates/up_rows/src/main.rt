@@ -1,65 +1,69 @@
-//! Holds messages, responses and requests, and courses of requests to a book, as standard input has them and then the files that
-//! the command line names, to what must come of them.
+//! Checks messages, responses and requests, and courses of requests to a book, against the expected results. The rows
+//! are read from standard input, and then from the files on the command line.
 //!
-//! A line that is empty or begins with `#` says nothing. Each other line is a mark with a text, and a row has besides, behind an
-//! arrow, what must come of it. Of each input one line is written: how many rows it has, and how many differ. Each row that
-//! differs has a line before that, with its number.
+//! A line that is empty or begins with `#` is ignored. Each other line is a mark with a text. A row also has an arrow
+//! and, after it, the expected result. For each input, one line is printed: the number of rows, and how many of them
+//! differ. Before it, there is a line for each row that differs, with its line number.
 //!
-//! Of single messages, responses and requests:
+//! For single messages, responses and requests:
 //!
 //! ```text
-//! start TEXT                  the text of each row from here on begins so
-//! put TEXT                    the next row's text goes on so, and ends with its own
-//! times COUNT TEXT            as `put`, so many times
-//! reads WAITS EACH            the next row's source is interrupted so often before its first byte, and before each other
-//! writes ROOM WAITS EACH      the next row's sink has room for so many bytes, and is interrupted so
-//! end TEXT => ..              messages that are read, in one piece and byte by byte, and of a reader that gives single bytes; the input ends
-//!                             behind the text
-//! fail TEXT => ..             messages that are read, byte by byte; a read fails behind the text
-//! both TEXT => ..             as `end`, and as `fail`
-//! slow TEXT => ..             as `end`, byte by byte alone, and all that is left unread is told
-//! count TEXT => ..            how many messages are read, bytes of their bodies, and pairs of their metadata
+//! start TEXT                  the text of each row from here on begins with this
+//! put TEXT                    the text of the next row continues with this, and ends with its own
+//! times COUNT TEXT            like `put`, COUNT times
+//! reads WAITS EACH            the source of the next row is interrupted WAITS times before its first byte,
+//!                             and EACH times before every other byte
+//! writes ROOM WAITS EACH      the sink of the next row has room for ROOM bytes, and is interrupted in the same way
+//! end TEXT => ..              the messages read from one piece, byte by byte, and from a reader of single bytes; the
+//!                             input ends after the text
+//! fail TEXT => ..             the messages read byte by byte; a read fails after the text
+//! both TEXT => ..             like `end`, and like `fail`
+//! slow TEXT => ..             like `end`, but only byte by byte, and with everything that is left unread
+//! count TEXT => ..            the number of messages read, of bytes in their bodies, and of pairs in their metadata
 //! pass TEXT => ..             the sum of the text's bytes
 //! slice STEPS : TEXT => ..    a slice as a source; each step is `byte`, `run` or `line`
-//! reader STEPS : TURNS => ..  a reader that gives so many bytes at each turn, `i` where it is interrupted and `f` where it fails
-//! writer TURNS => ..          five writes of two bytes to a writer whose turns are such, and one of none
-//! respond STATUS FLAGS BODY => ..  what is written of a response: `b` where it is bare, `c` where it closes
-//! sent STATUS FLAGS BODY => ..     what a buffered writer has then sent on
-//! pieces FLUSHES => ..        what it has sent on of three pieces
-//! shared TEXT => ..           a body of which another owner knows
-//! refused => .. and lost => ..     the responses for what is refused, and for what no memory is left
+//! reader STEPS : TURNS => ..  a reader that returns a number of bytes at each turn; `i` is an interruption, and `f`
+//!                             a failure
+//! writer TURNS => ..          five writes of two bytes to a writer with such turns, and one of none
+//! respond STATUS FLAGS BODY => ..  what is written of a response: `b` if it is bare, `c` if it closes
+//! sent STATUS FLAGS BODY => ..     what a buffered writer has then sent
+//! pieces FLUSHES => ..        what it has sent of three pieces
+//! shared TEXT => ..           a body that has another owner
+//! refused => .. and lost => ..     the responses to a refused request, and when memory ran out
 //! faults => ..                each fault, its status and its text
-//! id TEXT => ..               the id that has the text
-//! metadata TEXT => ..         what a metadata text reads as
-//! request TEXT => ..          what a line of method and target, and a line for each field, ask for
+//! id TEXT => ..               the id with this text
+//! metadata TEXT => ..         the pairs of a metadata text
+//! request TEXT => ..          what a line with method and target, and a line for each field, ask for
 //! ```
 //!
-//! Where ` | ` parts what must come, as many messages are read. A text has Rust's escapes of bytes: `\r`, `\n`, `\t`, `\\`, `\'`, `\"`
-//! and `\xHH`.
+//! If the expected result is split by ` | `, that many messages are read. A text has Rust's escapes of bytes: `\r`,
+//! `\n`, `\t`, `\\`, `\'`, `\"` and `\xHH`.
 //!
-//! Of a course of requests:
+//! For a course of requests:
 //!
 //! ```text
-//! book 11                     a new book of two lanes, whose uploads have at most 11 bytes
-//! said allowed                said before each commit from here on; at first it is `finish`
+//! book 11                     a new book with two lanes, whose uploads have at most 11 bytes
+//! said allowed                what the closures say before each commit from here on; at first it is `finish`
 //! close                       the book is closed
-//! 1 plain 5 => 201 ..         a request of the upload 1 is planned, and committed
-//! plan 1 delete => ..         a request is planned alone
-//! uploads => ..               the uploads that are there, and the ids of those that are gone
+//! 1 plain 5 => 201 ..         a request with the id 1 is planned, and committed
+//! plan 1 delete => ..         a request is only planned
+//! uploads => ..               the uploads that exist, and the ids of those that were removed
 //! accepted => ..              the changes
 //! events 0 => ..              the events of a lane
-//! places 1 2 => ..            the lane, the first place and the count of the events of these new uploads, in a journal of two lanes
-//! keep 1                      the bytes of the upload 1 are asked for, and kept
+//! places 1 2 => ..            the lane, the first place and the number of the events of these new uploads,
+//!                             in a journal with two lanes
+//! keep 1                      the bytes of the upload 1 are requested, and kept
 //! kept => ..                  the bytes that were kept
-//! value [name] 1 plain .. => ..    the value of a key of what is asked about a request
-//! reason 120 32 => ..         the reason of these bytes
-//! wanting => ..               what is answered where memory is wanting
-//! fill 1000 => ..             how many changes are accepted where so many uploads are made in a new book, and filled
-//! removals 1000 => ..         as many, where each is removed before the next is made
+//! value [name] 1 plain .. => ..    the value of a key in the question about a request
+//! reason 120 32 => ..         the reason with these bytes
+//! wanting => ..               the response when memory ran out
+//! fill 1000 => ..             the number of accepted changes if 1000 uploads are created in a new book, and filled
+//! removals 1000 => ..         the same if each is removed before the next one is created
 //! ```
 //!
-//! The requests are `options`, `plain LENGTH METADATA`, `partial LENGTH`, `final PARTS CONCAT`, `head`, `get`, `delete`, and `patch OFFSET
-//! BYTES LENGTH`, or `text` in place of `patch` where the media type is wrong. A dash stands for what isn't sent.
+//! The requests are `options`, `plain LENGTH METADATA`, `partial LENGTH`, `final PARTS CONCAT`, `head`, `get`,
+//! `delete`, and `patch OFFSET BYTES LENGTH`, or `text` instead of `patch` for a wrong media type. A dash means that a
+//! value is not sent.
 #![tactic(auto)]
 
 mod courses;
@@ -75,7 +79,8 @@ use std::fs::{self, Files};
 use std::io;
 use up_machine::{post_finish_is_asked, refusals_of_plans_are_kept};
 
-/// Holds the row of a line, if it has one, to what it must come to, and prints how it differs. Answers whether it does.
+/// Checks the row of a line, if it has one, against its expected result, and prints the difference. Returns whether
+/// there is one.
 fn hold_line(
     rt: &(impl Print + AllocGlobal),
     rows: &mut Rows,
@@ -89,7 +94,7 @@ fn hold_line(
     Ok(true)
 }
 
-/// Holds the rows of a text to what they must come to.
+/// Checks the rows of a text against their expected results.
 fn hold_all(rt: &(impl Print + AllocGlobal), rows: &mut Rows, text: &str) -> io::Result<()> {
     let (mut count, mut differing) = (0u64, 0u64);
     for (before, line) in text.lines().enumerate() {
@@ -126,6 +131,7 @@ fn hold_each(
 }
 
 fn main(rt: HostRuntime) -> io::Result<()> {
+    // Laws, which do nothing when they run.
     refusals_of_plans_are_kept();
     post_finish_is_asked();
     match Rows::new(rt.alloc()) {

@@ -1,4 +1,4 @@
-//! Rows of messages: what the next one is about, and what comes of it.
+//! Rows of messages: the settings of the next row, and its result.
 mod asked;
 mod counting;
 mod devices;
@@ -12,7 +12,7 @@ use crate::row_fault::RowFault;
 use std::alloc::Global;
 use up_escape::put_bytes;
 
-/// How the next row's text begins, and how its devices are.
+/// The start of the next row's text, and the settings of its devices.
 #[derive(Drop)]
 pub struct Messages {
     start: Vec<u8>,
@@ -55,7 +55,7 @@ impl Messages {
         Ok(())
     }
 
-    /// Takes what a line says of the next row, or of all rows behind it.
+    /// Reads a line that says something about the next row, or about all following rows.
     pub fn set(&mut self, line: &str) -> Result<(), RowFault> {
         let (mark, text) = cut(line);
         match mark {
@@ -79,7 +79,7 @@ impl Messages {
         }
     }
 
-    /// What comes of a row, in words. The next one begins anew.
+    /// The result of a row, as text. Then resets the settings for the next row.
     pub fn take(&mut self, alloc: Global, row: &str, wanted: &str) -> Result<String, RowFault> {
         let (mark, text) = cut(row);
         let mut bytes = Vec::from_slice(alloc, &self.start)?;
@@ -94,7 +94,7 @@ impl Messages {
         found
     }
 
-    /// What comes of a row with this mark, with its text as it stands and as bytes.
+    /// The result of a row with this mark. Its text is given as it was written, and as bytes.
     fn found(
         &self,
         alloc: Global,

@@ -1,11 +1,11 @@
-//! Why a row of the input can't be read, or what is wrong behind it.
+//! Why a row of the input cannot be read, or what went wrong after it.
 use std::alloc::AllocError;
 use thiserror::Error;
 use up_escape::EscapeFault;
 use up_events::NoMemory;
 use up_machine::Refusal;
 
-/// Why a row says nothing that a row may say, or what is wrong behind it.
+/// Why a row has none of the allowed forms, or what went wrong after it.
 #[derive(Clone, Copy, Debug, PartialEq, Eq, Error)]
 pub enum RowFault {
     #[error("no such mark")]

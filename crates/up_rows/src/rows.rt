@@ -1,10 +1,10 @@
-//! A row, and what it must come to.
+//! A row, and its expected result.
 use crate::courses::Course;
 use crate::messages::Messages;
 use crate::row_fault::RowFault;
 use std::alloc::{AllocError, Global};
 
-/// The messages and the course that rows are about.
+/// The messages and the course that the rows are about.
 #[derive(Drop)]
 pub struct Rows {
     messages: Messages,
@@ -19,7 +19,7 @@ impl Rows {
         })
     }
 
-    /// What comes of a row, in words. A mark that messages don't have is one of a course.
+    /// The result of a row, as text. A mark that is not one of messages is one of a course.
     fn take(&mut self, alloc: Global, row: &str, wanted: &str) -> Result<String, RowFault> {
         match self.messages.take(alloc, row, wanted) {
             Err(RowFault::Mark) => self.course.take(alloc, row),
@@ -27,7 +27,7 @@ impl Rows {
         }
     }
 
-    /// Takes what a line says of the rows behind it.
+    /// Reads a line that says something about the following rows.
     fn note(&mut self, alloc: Global, line: &str) -> Result<(), RowFault> {
         if line.is_empty() || line.starts_with('#') {
             return Ok(());
@@ -38,7 +38,7 @@ impl Rows {
         }
     }
 
-    /// How what comes of a row differs from what must.
+    /// How the result of a row differs from the expected one.
     fn difference(
         &mut self,
         alloc: Global,
@@ -64,7 +64,7 @@ impl Rows {
         }
     }
 
-    /// What is printed of a line, where it has a row that differs or can't be read.
+    /// What is printed for a line, if it has a row that differs or cannot be read.
     pub fn fault_of(&mut self, alloc: Global, line: &str) -> Result<Option<String>, AllocError> {
         match self.hold_line(alloc, line) {
             Ok(difference) => Ok(difference),

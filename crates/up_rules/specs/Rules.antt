@@ -1,4 +1,4 @@
--- What the rules of the command line answer, and which of them its words ask for.
+-- The verdicts of the rules of the command line, and which rules its words ask for.
 use Rattle.std.specs.Prelude.{ℕ, ◌||◌, ◌++◌, Bool, true, false, List, [], ◌∷◌, Option, Some, None, is_some, map, codes, string_bytes, if◌then◌else◌}
 use Rattle.up_headers.specs.Creations.{is_above}
 use Rattle.up_machine.specs.Asks.{value_of}
@@ -17,11 +17,11 @@ abbrev pub needs_key : Ask → List ℕ → Verdict
 needs_key ask key =
     if is_partial ask.kind || is_some (value_of key ask.pairs) then Allow else Refuse 422 (codes "metadata key missing")
 
--- an upload that is known to be longer is refused
+-- an upload with a known length above the limit is refused
 abbrev pub at_most : Ask → ℕ → Verdict
 at_most ask limit = if is_above limit ask.length then Refuse 413 (codes "too long for this server") else Allow
 
--- an upload that would be longer once it is complete is refused
+-- an upload that would be longer than the limit once it is complete is refused
 abbrev pub finishes_at_most : Ask → ℕ → Verdict
 finishes_at_most ask limit = if is_above limit ask.length then Refuse 422 (codes "too long to finish") else Allow
 
@@ -29,25 +29,25 @@ finishes_at_most ask limit = if is_above limit ask.length then Refuse 422 (codes
 abbrev pub keeps : Ask → Verdict
 keeps ask = Refuse 403 (codes "uploads are kept")
 
--- when a rule is asked
+-- the point at which a rule is asked
 abbrev pub point_of : Rule → Point
 point_of (NeedsKey key) = Create
 point_of (AtMost limit) = Create
 point_of Keeps = Terminate
 point_of (FinishesAtMost limit) = Finish
 
--- what a rule answers
+-- the verdict of a rule
 abbrev pub judged : Rule → Ask → Verdict
 judged (NeedsKey key) ask = needs_key ask (string_bytes key)
 judged (AtMost limit) ask = at_most ask limit
 judged Keeps ask = keeps ask
 judged (FinishesAtMost limit) ask = finishes_at_most ask limit
 
--- when each of these rules is asked, and what it answers
+-- the point at which each of these rules is asked, and its verdict
 abbrev pub meant_by : List Rule → List (Point × (Ask → Verdict))
 meant_by rules = map (λ rule. (point_of rule, judged rule)) rules
 
--- one if there is something, and else none
+-- a list with one value if there is something, and otherwise empty
 abbrev pub one_for : {X Y : Type 0} → (X → Y) → Option X → List Y
 one_for f None = []
 one_for f (Some x) = f x ∷ []
@@ -56,7 +56,7 @@ abbrev pub one_if : {Y : Type 0} → Y → Bool → List Y
 one_if y true = y ∷ []
 one_if y false = []
 
--- what the words ask for, in the order in which the help names it
+-- the rules that the words ask for, in the order of the help
 abbrev pub asked_by : Words → List (Point × (Ask → Verdict))
 asked_by words =
     one_for (λ key. (Create, λ ask. needs_key ask (string_bytes key))) words.require_key

@@ -1,4 +1,4 @@
-//! What the rules answer: each is asked about a request, and says what becomes of it.
+//! The verdicts of the rules on a request.
 ghost use Rattle.std.specs.Prelude.{◌≡◌, true, IsTrue};
 ghost use Rattle.up_headers.specs.Creations.{is_above};
 ghost use Rattle.up_hooks.specs.Verdicts.{is_lawful};
@@ -9,8 +9,8 @@ ghost use Rattle.up_rules.specs.Rules.{at_most, finishes_at_most, keeps, needs_k
 use up_events::Kind;
 use up_machine::{Ask, Reason, Verdict};
 
-/// A refusal with this status and this reason, for a closure to answer. The reason is 1 to 80 bytes, each a space or a visible character
-/// of ASCII. That the status is one with which a closure may refuse is for the closure to show.
+/// A refusal with this status and this reason, as a verdict of a closure. The reason has 1 to 80 bytes, each a space or
+/// a visible character of ASCII. The closure must show that it may refuse with this status.
 pub fn refuse(status: u16, text: &[u8]) -> Verdict
     requires { is_reason text.now ≡ true }
     ensures { result ≡ Refuse status text.now }
@@ -19,8 +19,8 @@ pub fn refuse(status: u16, text: &[u8]) -> Verdict
     Verdict::Refuse { status, reason }
 }
 
-/// Refuses a plain or final upload whose metadata has no such key, compared byte for byte, with 422. An empty value will do, and a
-/// partial upload needs no key.
+/// Refuses a plain or final upload whose metadata does not have this key, compared byte for byte, with 422. The value
+/// may be empty, and a partial upload needs no key.
 pub fn needs_key(ask: &Ask, key: &[u8]) -> Verdict
     ensures answer { result ≡ needs_key ask.now key.now }
     ensures lawful { IsTrue (is_lawful result) }
@@ -32,15 +32,15 @@ pub fn needs_key(ask: &Ask, key: &[u8]) -> Verdict
     }
 }
 
-/// Whether the upload that is asked about is known to have more bytes than the limit once it is complete.
+/// Whether the length of the upload is known and above the limit.
 fn is_longer(ask: &Ask, limit: u64) -> bool
     ensures { result ≡ is_above limit ask.now.length }
 {
     ask.length.is_some_and(|length| length > limit)
 }
 
-/// Refuses an upload of more bytes than the limit with 413. A final upload has the length of its parts together, and one whose
-/// length isn't known yet is allowed.
+/// Refuses an upload with more bytes than the limit, with 413. The length of a final upload is that of its parts
+/// together. An upload whose length is not known yet is allowed.
 pub fn at_most(ask: &Ask, limit: u64) -> Verdict
     ensures answer { result ≡ at_most ask.now limit }
     ensures lawful { IsTrue (is_lawful result) }
@@ -52,7 +52,7 @@ pub fn at_most(ask: &Ask, limit: u64) -> Verdict
     }
 }
 
-/// Refuses an upload that would be complete with more bytes than the limit with 422.
+/// Refuses to complete an upload with more bytes than the limit, with 422.
 pub fn finishes_at_most(ask: &Ask, limit: u64) -> Verdict
     ensures answer { result ≡ finishes_at_most ask.now limit }
     ensures lawful { IsTrue (is_lawful result) }
@@ -64,7 +64,7 @@ pub fn finishes_at_most(ask: &Ask, limit: u64) -> Verdict
     }
 }
 
-/// Refuses, whatever is asked, with 403.
+/// Refuses every request, with 403.
 pub fn keeps(ask: &Ask) -> Verdict
     ensures answer { result ≡ keeps ask.now }
     ensures lawful { IsTrue (is_lawful result) }

@@ -1,4 +1,4 @@
-//! The rules that the words of the command line ask for: what is asked of each, and what it answers.
+//! The rules that the words of the command line ask for: when each is asked, and its verdict.
 #![tactic(auto)]
 
 mod answers;

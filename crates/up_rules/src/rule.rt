@@ -8,21 +8,21 @@ use std::alloc::{AllocError, Global};
 use up_machine::{Ask, Point, Verdict};
 use up_words::Words;
 
-/// A rule that a closure of the program keeps.
+/// A rule that a closure of the program enforces.
 #[derive(Debug, Drop, PartialEq, Eq)]
 pub enum Rule {
-    /// A plain or final upload is made only with this key in its metadata.
+    /// A plain or final upload is created only with this key in its metadata.
     NeedsKey(String),
-    /// An upload is made only if it isn't known to have more bytes than this.
+    /// An upload is created only if its length is not known or at most this number of bytes.
     AtMost(u64),
     /// No upload is removed.
     Keeps,
-    /// An upload is completed only if it then has no more bytes than this.
+    /// An upload is completed only if it then has at most this number of bytes.
     FinishesAtMost(u64),
 }
 
 impl Rule {
-    /// When the rule is asked.
+    /// The point at which the rule is asked.
     pub fn point(&self) -> Point
         ensures { result ≡ point_of self.now }
     {
@@ -33,7 +33,7 @@ impl Rule {
         }
     }
 
-    /// What the rule answers. It refuses with 403, 413 or 422.
+    /// The verdict of the rule. It refuses with 403, 413 or 422.
     pub fn judge(&self, ask: &Ask) -> Verdict
         ensures answer { result ≡ judged self.now ask.now }
         ensures lawful { IsTrue (is_lawful result) }
@@ -47,7 +47,7 @@ impl Rule {
     }
 }
 
-/// The rules that the words ask for, in the order in which the help names them.
+/// The rules that the words ask for, in the order of the help. `AllocError` if memory runs out.
 pub fn rules_of(alloc: Global, words: &Words) -> Result<Vec<Rule>, AllocError>
     ensures { IfOk result (λ rules. meant_by rules.items ≡ asked_by words.now) }
 {

@@ -1,11 +1,11 @@
-//! Clients over sockets of this machine.
+//! Clients that use sockets of this machine.
 use std::alloc::Global;
 use std::io::{Read, Write};
 use std::net::{Shutdown, SocketAddr, TcpStream};
 use std::process::Abort;
 use std::test::Fail;
 
-/// Connects, asks, and sends no more. What is answered is still to be read.
+/// Connects, sends the request, and sends no more. The response can then be read.
 pub fn ask(rt: &HostRuntime, address: SocketAddr, asked: &[u8]) -> Result<TcpStream, Fail> {
     let mut stream = TcpStream::connect(rt, address)?;
     stream.write_all(asked)?;
@@ -13,7 +13,7 @@ pub fn ask(rt: &HostRuntime, address: SocketAddr, asked: &[u8]) -> Result<TcpStr
     Ok(stream)
 }
 
-/// Connects so many times as there are requests, and asks one by each.
+/// Connects once for each request, and sends it.
 pub fn ask_each(
     rt: &HostRuntime,
     address: SocketAddr,
@@ -26,7 +26,7 @@ pub fn ask_each(
     Ok(clients)
 }
 
-/// Reads what is answered to its end, and holds that it starts and ends so.
+/// Reads the response to its end, and checks its start and its end.
 pub fn hold_answer(
     rt: &impl Abort,
     alloc: Global,

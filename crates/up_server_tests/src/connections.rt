@@ -1,4 +1,4 @@
-//! Who is let in, which seats connections take, which ids uploads get, and connections over sockets of this machine.
+//! Who is let in, which seats connections take, which ids uploads get, and connections through sockets of this machine.
 mod accept;
 mod door;
 mod drawn;

@@ -1,3 +1,3 @@
-//! Hooks that wait for what happens elsewhere.
+//! Hooks that wait for events elsewhere.
 mod closures;
 mod meeting;

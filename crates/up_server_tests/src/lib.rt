@@ -1,4 +1,5 @@
-//! The tests of the connections and the server, which use them from outside, as a program does: what no contract says of them.
+//! Tests of the connections and the server, for what no contract says about them. They use the crates from outside, as
+//! a program does.
 #![tactic(auto)]
 
 #[cfg(test)]

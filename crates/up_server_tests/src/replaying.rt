@@ -1,4 +1,4 @@
-//! A run of the server over one conversation.
+//! A run of the server with one conversation.
 ghost use Rattle.up_hooks.specs.Told.{GivesCodes};
 
 use std::alloc::Global;
@@ -11,7 +11,8 @@ use up_server::{ServerFault, replay};
 use up_wire::{Output, Source};
 use up_words::Settings;
 
-/// How a run over this source ends, without closures that are asked and with post-hooks that answer so, and what it writes.
+/// How a run with this source ends, and what it writes. No closures are asked, and the post-hooks return the outcomes
+/// of `answer`.
 pub fn replayed<F: Fn(&Event) -> Outcome + Send + Copy + Drop, R: Source, T: Threads + Wait + Sync>(
     rt: &T,
     alloc: Global,

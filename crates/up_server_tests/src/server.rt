@@ -1,4 +1,4 @@
-//! Conversations over devices and closures of the tests' own: what is asked, and what is then answered and reported, to the byte.
+//! Conversations with devices and closures of the tests: the responses and the report, compared byte by byte.
 mod command_lines;
 mod dripping;
 mod event_lines;
@@ -27,7 +27,7 @@ const U2: &str = "00000000000000000000000000000002";
 /// The report of a run that changed nothing.
 const NOTHING: &str = "\naccepted 0\nlane 0 drained 0\nlane 1 drained 0\n";
 
-/// A conversation: what is asked, and by the rules what is written then.
+/// A conversation: the requests, and the expected output.
 #[derive(Drop)]
 struct Talk {
     asked: String,
@@ -42,7 +42,7 @@ impl Talk {
         }
     }
 
-    /// Asks with a method and a target, fields beside the two that each message has, and a body.
+    /// Adds a request: method and target, fields other than the two that each message has, and a body.
     fn ask(&mut self, start: &str, fields: &str, body: &str) -> Result<(), AllocError> {
         self.asked.push_str(start)?;
         self.asked
@@ -60,7 +60,7 @@ impl Talk {
         self.asked.push_str("\r\n\r\n")
     }
 
-    /// Asks to put the bytes at the offset.
+    /// Adds a PATCH with the bytes at the offset.
     fn ask_patch(&mut self, id: &str, offset: &str, bytes: &str) -> Result<(), AllocError> {
         let count = bytes.len();
         write!(
@@ -75,7 +75,7 @@ impl Talk {
         self.wanted.push_str(text)
     }
 
-    /// Wants the answer to a POST that made the upload.
+    /// Expects the response to a POST that created the upload.
     fn want_created(&mut self, id: &str) -> Result<(), AllocError> {
         write!(
             self.wanted,
@@ -84,7 +84,7 @@ impl Talk {
         )
     }
 
-    /// Wants the answer to a PATCH that was taken.
+    /// Expects the response to a PATCH that was accepted.
     fn want_reached(&mut self, offset: &str) -> Result<(), AllocError> {
         write!(
             self.wanted,
@@ -93,7 +93,7 @@ impl Talk {
         )
     }
 
-    /// Wants the answer to a HEAD of an upload without metadata.
+    /// Expects the response to a HEAD of an upload without metadata.
     fn want_standing(&mut self, offset: &str, length: &str) -> Result<(), AllocError> {
         write!(
             self.wanted,
@@ -102,7 +102,7 @@ impl Talk {
         )
     }
 
-    /// Wants the answer to a GET, with so many bytes.
+    /// Expects the response to a GET, with `count` bytes.
     fn want_bytes(&mut self, count: &str, bytes: &str) -> Result<(), AllocError> {
         write!(
             self.wanted,
@@ -111,7 +111,7 @@ impl Talk {
         )
     }
 
-    /// Wants a refusal, whose body is a line of so many bytes.
+    /// Expects a refusal, whose body is a line of `count` bytes.
     fn want_refused(&mut self, status: &str, count: &str, line: &str) -> Result<(), AllocError> {
         write!(
             self.wanted,
@@ -120,7 +120,7 @@ impl Talk {
         )
     }
 
-    /// Serves what is asked on a server without closures, and compares.
+    /// Serves the requests with a server without closures, and checks the output.
     fn hold(
         &self,
         rt: &(impl Threads + Wait + Abort + Sync),
@@ -130,7 +130,7 @@ impl Talk {
         self.hold_with(rt, alloc, PreHooks::new(Vec::new(alloc)), settings)
     }
 
-    /// Serves what is asked on a server with these closures, and compares.
+    /// Serves the requests with a server with these closures, and checks the output.
     fn hold_with(
         &self,
         rt: &(impl Threads + Wait + Abort + Sync),
@@ -144,7 +144,7 @@ impl Talk {
         self.compare(rt, ended, &sink.into_inner())
     }
 
-    /// Compares what a run wrote that was to end well.
+    /// Checks the output of a run that must end without an error.
     fn compare(
         &self,
         rt: &impl Abort,
@@ -157,7 +157,7 @@ impl Talk {
     }
 }
 
-/// A run with these closures, whose post-hooks answer that they are done.
+/// A run with these closures, whose post-hooks return `Done`.
 fn run_with<R: Source, W: Sink, T: Threads + Wait + Sync>(
     rt: &T,
     alloc: Global,

@@ -1,4 +1,4 @@
-//! A run of the server over connections.
+//! A run of the server with connections.
 ghost use Rattle.std.specs.Prelude.{◌≡◌, false, IfOk};
 ghost use Rattle.up_dispatch.specs.declared.finish.Report.{Report};
 ghost use Rattle.up_hooks.specs.Told.{GivesCodes};
@@ -19,7 +19,8 @@ use up_server::{ServerFault, serve};
 use up_wire::Output;
 use up_words::Settings;
 
-/// What a server with these closures, whose post-hooks answer so and whose ids are counted, reports once its last connection has ended.
+/// The report of a server after its last connection has ended. It has these closures, its post-hooks return the
+/// outcomes of `answer`, and its ids are counted.
 pub fn reported<
     F: Fn(&Event) -> Outcome + Send + Copy + Drop,
     N: Notices,

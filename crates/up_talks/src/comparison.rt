@@ -1,4 +1,4 @@
-//! Whether there came of a talk what must come of it.
+//! Comparing the result of a talk with the expected one.
 ghost use Rattle.std.specs.Prelude.{◌≡◌, ◌≢◌, Ok, IsOk, IsNone, IsTrue, IfOk};
 ghost use Rattle.up_events.specs.Delivery.{IsPrefix};
 ghost use Rattle.up_talks.specs.declared.comparison.Comparison.TheVariants.{Line, Same};
@@ -10,16 +10,16 @@ use std::fmt;
 use up_escape::{LineDifference, difference};
 use up_server::ServerFault;
 
-/// How what came of a talk stands to what must come of it.
+/// How the result of a talk compares with the expected one.
 #[derive(Clone, Copy)]
 pub enum Comparison<'a> {
     Same,
     Line(LineDifference<'a>),
-    /// The run ended otherwise.
+    /// The run ended differently.
     Ended(Result<(), ServerFault>),
-    /// The run left so many bytes unread.
+    /// The run left this number of bytes unread.
     Unread(usize),
-    /// A book alone answers otherwise, or accepts another number of changes.
+    /// A book alone gives other replies, or accepts another number of changes.
     Twin,
 }
 
@@ -39,7 +39,7 @@ impl<'a> fmt::Display for Comparison<'a> {
     }
 }
 
-/// Whether a run ended with the fault of this text, or without one where there is none.
+/// Whether a run ended with the fault of this text, or without a fault if there is no text.
 fn ends_so(
     alloc: Global,
     wanted: &Option<String>,
@@ -54,7 +54,7 @@ fn ends_so(
     }
 }
 
-/// Whether as many bytes were left unread as must be.
+/// Whether the expected number of bytes was left unread.
 fn stops_so(talk: &Talk, unread: usize) -> bool {
     match talk.read {
         Some(read) => talk.asked.len().saturating_sub(read) == unread,
@@ -69,8 +69,8 @@ fn begins_with(text: &[u8], front: &[u8]) -> bool
     text.starts_with(front)
 }
 
-/// How what came of a talk stands to what must come of it: the first line that differs, or else how it ended, or else how
-/// much it left unread, or else whether a book alone answers the same.
+/// How the result of a talk compares with the expected one: the first line that differs, or else how it ended, or else
+/// how much it left unread, or else whether a book alone gives the same replies.
 pub fn compare<'a>(
     alloc: Global,
     talk: &'a Talk,

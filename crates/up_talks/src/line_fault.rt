@@ -1,9 +1,9 @@
-//! Why a line of the input can't be read.
+//! Why a line of the input cannot be read.
 use std::alloc::AllocError;
 use thiserror::Error;
 use up_escape::EscapeFault;
 
-/// Why a line says nothing that a talk may have.
+/// Why a line is not one that a talk may have.
 #[derive(Clone, Copy, Debug, PartialEq, Eq, Error)]
 pub enum LineFault {
     #[error("no such mark")]
@@ -24,7 +24,7 @@ pub enum LineFault {
     Memory(#[from(alloc)] AllocError),
 }
 
-/// A line that can't be read, and its number, counted from 1.
+/// A line that cannot be read, and its number, counted from 1.
 #[derive(Clone, Copy, Debug, PartialEq, Eq, Error)]
 #[error("line {number}: {fault}")]
 pub struct BadLine {

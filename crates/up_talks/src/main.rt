@@ -1,31 +1,32 @@
-//! Holds whole conversations with the server, as standard input has them and then the files that the command line names, to what
-//! must come of them.
+//! Checks whole conversations with the server against the expected results. They are read from standard input, and then
+//! from the files on the command line.
 //!
-//! Each talk is served by `replay` on a server of its own, and has one line of output: its name and `same`, or `differs`
-//! with the first line that is not as it must be. It is served once more by a book alone, with no thread, and is only then the same
-//! where the replies and the number of accepted changes are. A line that can't be read is told in place of all talks of its text.
+//! Each talk is served by `replay` with a server of its own, and has one line of output: its name and `same`, or
+//! `differs` with the first line that differs from the expected one. It is served again by a book alone, without
+//! threads, and is the same only if the replies and the number of accepted changes are. If a line cannot be read, this
+//! is reported instead of all talks of its text.
 //!
-//! A line of input that is empty or begins with `#` says nothing. A talk begins with its name, and ends where the next one
-//! begins:
+//! A line of input that is empty or begins with `#` is ignored. A talk begins with its name, and ends where the next
+//! one begins:
 //!
 //! ```text
-//! talk NAME           the name that the output gives
-//! words WORD ..       the words of the command line behind `replay`; without this line there are none
-//! fault TEXT          the fault with which the run ends; without this line it ends with none
-//! unread              what is asked from here on must be left unread
-//! >> POST /files/     asked: a line of this method and target, `Host: a` and `Tus-Resumable: 1.0.0`
+//! talk NAME           the name in the output
+//! words WORD ..       the words of the command line after `replay`; without this line there are none
+//! fault TEXT          the fault with which the run ends; without this line it ends without a fault
+//! unread              everything asked from here on must be left unread
+//! >> POST /files/     asked: a line with this method and target, `Host: a` and `Tus-Resumable: 1.0.0`
 //! > TEXT              asked: a line, ended by CRLF
-//! >. TEXT             asked: the text alone
-//! >* COUNT TEXT       asked: the text so many times
-//! << 201 Created      wanted: a line of this status, `Tus-Resumable: 1.0.0` and `Cache-Control: no-store`
+//! >. TEXT             asked: only the text
+//! >* COUNT TEXT       asked: the text COUNT times
+//! << 201 Created      wanted: a line with this status, `Tus-Resumable: 1.0.0` and `Cache-Control: no-store`
 //! < TEXT              wanted: a line, ended by CRLF
-//! <. TEXT             wanted: the text alone
-//! <* COUNT TEXT       wanted: the text so many times
+//! <. TEXT             wanted: only the text
+//! <* COUNT TEXT       wanted: the text COUNT times
 //! | TEXT              wanted: a line, ended by LF
 //! ```
 //!
-//! One space stands between a mark and its text. A text has Rust's escapes of bytes: `\r`, `\n`, `\t`, `\\`, `\'`, `\"` and
-//! `\xHH`.
+//! There is one space between a mark and its text. A text has Rust's escapes of bytes: `\r`, `\n`, `\t`, `\\`, `\'`,
+//! `\"` and `\xHH`.
 #![tactic(auto)]
 
 mod comparison;
@@ -44,21 +45,21 @@ use std::sync::Wait;
 use std::thread::Threads;
 use std::{fs, io};
 
-/// Prints how what came of a talk stands to what must come of it.
+/// Prints how the result of a talk compares with the expected one.
 fn tell(rt: &(impl Print + AllocGlobal), talk: &Talk, served: &Served) -> io::Result<()> {
     let comparison = compare(rt.alloc(), talk, served)?;
     let name = &talk.name;
     println!(rt; "{name}: {comparison}")
 }
 
-/// Serves a talk, and prints how it stands.
+/// Serves a talk, and prints the comparison.
 fn hold(rt: &(impl Print + AllocGlobal + Threads + Wait + Sync), mut talk: Talk) -> io::Result<()> {
     let words = talk.words.take().unwrap_or_default();
     let served = serve(rt, rt.alloc(), &words, &talk.asked)?;
     tell(rt, &talk, &served)
 }
 
-/// Holds the talks of a text in their order, or prints which of its lines can't be read.
+/// Checks the talks of a text, in order, or prints which of its lines cannot be read.
 fn hold_all(rt: &(impl Print + AllocGlobal + Threads + Wait + Sync), text: &str) -> io::Result<()> {
     match talks_of(rt.alloc(), text) {
         Ok(talks) => {

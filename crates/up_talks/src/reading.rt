@@ -3,7 +3,7 @@ use crate::line_fault::{BadLine, LineFault};
 use crate::talk::Talk;
 use std::alloc::Global;
 
-/// Takes what a line says: a new talk, or more of the last one.
+/// Reads a line: a new talk, or more of the last one.
 fn take_line(alloc: Global, talks: &mut Vec<Talk>, line: &str) -> Result<(), LineFault> {
     if line.is_empty() || line.starts_with('#') {
         return Ok(());
@@ -19,7 +19,7 @@ fn take_line(alloc: Global, talks: &mut Vec<Talk>, line: &str) -> Result<(), Lin
     }
 }
 
-/// The talks of a text, in their order. An error is the first line that can't be read.
+/// The talks of a text, in order. The error is the first line that cannot be read.
 pub fn talks_of(alloc: Global, text: &str) -> Result<Vec<Talk>, BadLine> {
     let mut talks = Vec::new(alloc);
     for (before, line) in text.lines().enumerate() {

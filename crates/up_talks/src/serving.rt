@@ -16,18 +16,18 @@ use up_server::{ServerFault, replay};
 use up_wire::{Input, Output};
 use up_words::{Settings, Words};
 
-/// What came of a run.
+/// The result of a run.
 #[derive(Drop)]
 pub struct Served {
     pub ended: Result<(), ServerFault>,
     pub written: Vec<u8>,
-    /// How many of the asked bytes were not read.
+    /// The number of asked bytes that were not read.
     pub unread: usize,
-    /// What a book alone answers, and how many changes it accepts, as the report tells it.
+    /// The replies of a book alone, and the number of changes that it accepts, as in the report.
     pub twin: Vec<u8>,
 }
 
-/// Serves what is asked as one conversation, with these closures and post-hooks that answer that they are done.
+/// Serves the bytes as one conversation, with these closures and with post-hooks that return `Done`.
 fn run<T: Threads + Wait + Sync>(
     rt: &T,
     alloc: Global,
@@ -59,8 +59,7 @@ fn run<T: Threads + Wait + Sync>(
     })
 }
 
-/// Serves what is asked as the words ask for it: the closures of their rules are asked in the order in which the help names
-/// them.
+/// Serves the bytes as the words ask for it: the closures of their rules are asked in the order of the help.
 pub fn serve<T: Threads + Wait + Sync>(
     rt: &T,
     alloc: Global,

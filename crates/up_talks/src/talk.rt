@@ -1,25 +1,25 @@
-//! A conversation, and what must come of it.
+//! A conversation, and its expected result.
 use crate::line_fault::LineFault;
 use std::alloc::{AllocError, Global};
 use up_escape::put_bytes;
 use up_words::{Words, WordsFault, words};
 
-/// What is asked in a conversation, of which server, and what must come of it.
+/// What is asked in a conversation, of which server, and the expected result.
 #[derive(Drop)]
 pub struct Talk {
     pub name: String,
-    /// What the words of the command line ask for, where they are given.
+    /// What the words of the command line ask for, if they are given.
     pub words: Option<Words>,
     pub asked: Vec<u8>,
-    /// How many of the asked bytes must be read, where that is said.
+    /// How many of the asked bytes must be read, if that is given.
     pub read: Option<usize>,
     pub wanted: Vec<u8>,
-    /// The text of the fault with which the run must end, where there is one.
+    /// The text of the fault with which the run must end, if any.
     pub fault: Option<String>,
 }
 
 impl Talk {
-    /// A talk in which nothing is asked and nothing wanted.
+    /// A talk in which nothing is asked and nothing expected.
     pub fn new(alloc: Global, name: &str) -> Result<Talk, LineFault> {
         if name.is_empty() {
             return Err(LineFault::NoName);
@@ -34,7 +34,7 @@ impl Talk {
         })
     }
 
-    /// Adds what a line says.
+    /// Adds a line.
     pub fn add(&mut self, alloc: Global, mark: &str, text: &str) -> Result<(), LineFault> {
         match mark {
             "words" => set(&mut self.words, words_of(alloc, text)?),
@@ -54,7 +54,7 @@ impl Talk {
     }
 }
 
-/// Keeps what is said once.
+/// Stores a value, which may be given only once.
 fn set<T: Drop>(kept: &mut Option<T>, said: T) -> Result<(), LineFault> {
     if kept.is_some() {
         return Err(LineFault::Twice);
@@ -63,7 +63,7 @@ fn set<T: Drop>(kept: &mut Option<T>, said: T) -> Result<(), LineFault> {
     Ok(())
 }
 
-/// What these words behind `replay` ask for.
+/// What these words ask for after `replay`.
 fn words_of(alloc: Global, text: &str) -> Result<Words, LineFault> {
     let mut list = Vec::new(alloc);
     list.push(String::from_str(alloc, "replay")?)?;
@@ -88,14 +88,14 @@ fn put_feed(bytes: &mut Vec<u8>, text: &str) -> Result<(), LineFault> {
     Ok(())
 }
 
-/// Puts the start of a message with this method and target.
+/// Adds the start of a message with this method and target.
 fn put_ask(bytes: &mut Vec<u8>, text: &str) -> Result<(), LineFault> {
     put_bytes(bytes, text)?;
     bytes.extend_from_slice(b" HTTP/1.1\r\nHost: a\r\nTus-Resumable: 1.0.0\r\n")?;
     Ok(())
 }
 
-/// Puts the start of an answer with this status.
+/// Adds the start of a response with this status.
 fn put_answer(bytes: &mut Vec<u8>, text: &str) -> Result<(), LineFault> {
     bytes.extend_from_slice(b"HTTP/1.1 ")?;
     put_bytes(bytes, text)?;
@@ -103,7 +103,7 @@ fn put_answer(bytes: &mut Vec<u8>, text: &str) -> Result<(), LineFault> {
     Ok(())
 }
 
-/// Puts a text as often as the number before it says.
+/// Adds a text as often as the number before it says.
 fn put_times(bytes: &mut Vec<u8>, text: &str) -> Result<(), LineFault> {
     let Some((count, text)) = text.split_once(' ') else {
         return Err(LineFault::Count);

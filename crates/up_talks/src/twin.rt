@@ -1,4 +1,4 @@
-//! What a book alone makes of a talk, with no board and no thread.
+//! The result of a talk with a book alone, without a board or threads.
 use std::alloc::{AllocError, Global};
 use up_dispatch::{Counting, converse_by_book};
 use up_hooks::PreHooks;
@@ -6,7 +6,7 @@ use up_machine::Book;
 use up_wire::{Input, Output};
 use up_words::Settings;
 
-/// The replies of a book that is lent to one conversation, its ids counted from 1.
+/// The replies of a book that is lent to one conversation, with ids counted from 1.
 fn replies(
     alloc: Global,
     book: &mut Book,
@@ -29,13 +29,13 @@ fn replies(
     sink.into_inner()
 }
 
-/// Puts the line of a report that tells how many changes the book accepted.
+/// Adds the line of a report with the number of changes that the book accepted.
 fn put_count(alloc: Global, text: &mut Vec<u8>, book: &Book) -> Result<(), AllocError> {
     let count = book.journal().accepted().len();
     text.extend_from_slice(format!(in alloc; "\naccepted {count}\n")?.as_bytes())
 }
 
-/// The replies of a book, and behind them the line of a report that tells how many changes it accepted.
+/// The replies of a book, followed by the line of a report with the number of changes that it accepted.
 pub fn replies_of_book(
     alloc: Global,
     hooks: &PreHooks,

@@ -1,4 +1,4 @@
-//! What lies under the lock of the book.
+//! The data that the lock of the book protects.
 ghost use Rattle.std.specs.Prelude.{◌≡◌, ◌≢◌, ◌↔◌, ◌++◌, ◌∷◌, [], length, Err, IsTrue};
 ghost use Rattle.up_headers.specs.Table.{FitsWithin};
 ghost use Rattle.up_machine.specs.Decision.{Answers, decide};
@@ -15,7 +15,7 @@ use up_log::Entry;
 use up_machine::{Book, Done, Refusal, Remains};
 use up_replay::{asked_of, replays_begin_alike};
 
-/// A book, and how far it follows a history. Contracts see it as the entries that were committed.
+/// A book, and how far it follows a history. Contracts describe it as the entries that were committed.
 #[derive(Drop)]
 pub struct Committed<J: Site> {
     book: Book,
@@ -36,7 +36,7 @@ impl<J: Site> Model for Committed<J> {
         × (c.book ≡ book_of J.setup (take c.count c.front)) };
 }
 
-/// Commits an entry as a replay of it does. For want of memory the book stays as it is.
+/// Commits an entry as a replay does. If memory runs out, the book is unchanged.
 fn commit_entry(
     alloc: Global,
     book: &mut Book,
@@ -57,7 +57,7 @@ fn commit_entry(
     book.commit(alloc, request, id, &asked_of(consent), remains)
 }
 
-/// Whether there was no memory for a commit.
+/// Whether memory ran out in a commit.
 fn wants_memory(answer: &Result<Done, Refusal>) -> bool
     ensures { IsTrue result ↔ (answer.now ≡ Err NoMemory) }
 {
@@ -65,7 +65,7 @@ fn wants_memory(answer: &Result<Done, Refusal>) -> bool
 }
 
 impl<J: Site> Committed<J> {
-    /// The book that the entries define which the front has seen.
+    /// The book that is defined by the entries that the front has seen.
     pub fn new(book: Book, front: Front<Entry, J>) -> Committed<J>
         requires { book ≡ book_of J.setup front }
         ensures { result ≡ front }
@@ -77,15 +77,15 @@ impl<J: Site> Committed<J> {
         }
     }
 
-    /// How many entries were committed.
+    /// The number of entries that were committed.
     pub fn len(&self) -> u64
         ensures { result ≡ length self.now }
     {
         self.count
     }
 
-    /// Commits the entry of the next receipt. What refuses it is an answer too, and the entry is then among those that
-    /// were committed; for want of memory nothing is.
+    /// Commits the entry of the next receipt. A refusal is a result too: the entry then counts as committed. If memory
+    /// runs out, no entry is committed.
     pub fn commit(
         &mut self,
         alloc: Global,
@@ -101,8 +101,10 @@ impl<J: Site> Committed<J> {
         ensures committed { result ≢ Err NoMemory → self.new ≡ self.old ++ entry ∷ [] }
         ensures memory { result ≡ Err NoMemory → self.new ≡ self.old }
     {
+        // For the prover: a law, which does nothing when it runs.
         replays_begin_alike();
         let front = receipt.follow(&self.front);
+        // For the prover: the length of a front is below 2^64, so the sum does not overflow.
         let _ = front.len();
         let result = commit_entry(alloc, &mut self.book, entry, remains);
         if wants_memory(&result) {

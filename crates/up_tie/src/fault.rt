@@ -1,15 +1,15 @@
-//! Why a log takes no more, and why one isn't opened.
+//! Why a log does not accept a batch, and why a log is not opened.
 use thiserror::Error;
 use up_log::LogFault;
 use up_replay::Unreplayed;
 
-/// Why a batch isn't added to a log.
+/// Why a batch is not appended to a log.
 #[derive(Clone, Copy, Debug, Error)]
 pub enum Unwritten {
-    /// The receipts aren't those of the next places. Nothing was written.
+    /// The receipts are not those of the next places. Nothing was written.
     #[error("the entries aren't the next of the history")]
     OutOfOrder,
-    /// The log took no more, or there was no memory.
+    /// The log does not accept the batch, or memory ran out.
     #[error("{0}")]
     Log(LogFault),
 }
@@ -25,16 +25,16 @@ impl From<LogFault> for Unwritten {
     }
 }
 
-/// Why a log isn't opened.
+/// Why a log is not opened.
 #[derive(Clone, Copy, Debug, Error)]
 pub enum Unopened {
-    /// The history has entries that aren't the log's, or can take no more.
+    /// The history has entries that are not in the log, or accepts no more entries.
     #[error("the history has entries that are not of the log")]
     Late,
-    /// The log can't be read.
+    /// The log cannot be read.
     #[error("{0}")]
     Log(LogFault),
-    /// An entry can't be committed again.
+    /// An entry cannot be committed again.
     #[error("{0}")]
     Entry(Unreplayed),
 }

@@ -1,4 +1,4 @@
-//! A log that is read to its end, and the book that it defines.
+//! Reading a log to its end, and restoring the book that it defines.
 ghost use Rattle.std.specs.Prelude.{◌≡◌, [], List, IfOk};
 ghost use Rattle.up_log.specs.Logs.{IsReading};
 ghost use Rattle.up_log.specs.declared.entry.Entry.{Entry as Logged};
@@ -15,8 +15,9 @@ use up_log::{Entry, LogReader};
 use up_machine::Book;
 use up_replay::{replay, replays_begin_alike};
 
-/// Reads a log to its end. Each batch is added to the history, which has no entry yet, and committed to the book. As
-/// many entries are then committed as are written: all that the log has.
+/// Reads a log to its end. Each batch is added to the history, which has no entry yet, and is committed to the book.
+/// Then the committed entries are the written ones: all entries of the log. `Late` if the history has other entries or
+/// accepts no more, `Log` if the log cannot be read, `Entry` if an entry cannot be committed again.
 pub fn reopen<D: Disk, J: Site>(
     alloc: Global,
     reader: LogReader<D>,
@@ -32,6 +33,7 @@ where
     requires front { front ≡ [] }
     ensures { IfOk result (λ r. r.1 ≡ r.0) }
 {
+    // For the prover: a law, which does nothing when it runs.
     replays_begin_alike();
     let mut reader = reader;
     let mut book = book;

@@ -1,15 +1,15 @@
-//! Which log and which book it is.
+//! The identity of a log and a book.
 use std::marker::Brand;
 use up_history::Chronicle;
 
-/// Which history a log and a book follow, and the numbers that they rest on. Each call of a program picks it, so a
-/// `Written` and a `Committed` that name one `Site` follow one history.
+/// The history that a log and a book follow, and the numbers that they depend on. Each call of a program chooses it, so
+/// a `Written` and a `Committed` with the same `Site` follow the same history.
 pub trait Site: Chronicle {
     ghost use Rattle.up_log.specs.declared.setup.Setup.{Setup};
 
     ghost setup: { Setup };
 
-    // What all facts of the log rest on, as that its file was one of such a server when it was opened.
+    // The premise of all facts about the log, such as that its file was the log of such a server when it was opened.
     ghost premise: { Type 0 };
 }
 

@@ -1,4 +1,4 @@
-//! What lies under the lock of the log's writer.
+//! The data that the lock of the log's writer protects.
 ghost use Rattle.std.specs.Prelude.{◌≡◌, ◌++◌, length, map, Err, OnOk, OnErr};
 ghost use Rattle.up_history.specs.Histories.{IsOutOfOrder};
 ghost use Rattle.up_tie.specs.Ties.{IsWritten};
@@ -12,7 +12,7 @@ use std::marker::Model;
 use up_history::{Front, Receipt};
 use up_log::{Entry, Log, Spelled};
 
-/// A log, and how far its batches follow a history. Contracts see it as the entries that were written.
+/// A log, and how far its batches follow a history. Contracts describe it as the entries that were written.
 #[derive(Drop)]
 pub struct Written<D: Disk, J: Site> {
     log: Log<D>,
@@ -34,7 +34,7 @@ impl<D: Disk, J: Site> Model for Written<D, J> {
 }
 
 impl<D: Disk, J: Site> Written<D, J> {
-    /// A log whose entries are those that the front has seen.
+    /// A log with the entries that the front has seen.
     pub fn new(log: Log<D>, front: Front<Entry, J>) -> Written<D, J>
         requires { IsWritten D.Disk log J.setup J.premise front }
         ensures { result ≡ front }
@@ -46,15 +46,16 @@ impl<D: Disk, J: Site> Written<D, J> {
         }
     }
 
-    /// How many entries were written.
+    /// The number of entries that were written.
     pub fn len(&self) -> u64
         ensures { result ≡ length self.now }
     {
         self.count
     }
 
-    /// Adds the entries of the next receipts as one batch, and returns once it is on the disk. After an error of the log
-    /// that isn't want of memory it takes no more.
+    /// Appends the entries of the next receipts as one batch, and returns once the batch is on the disk. `OutOfOrder`
+    /// if the receipts are not those of the next places. After an error of the log, its state is that after the same
+    /// error of `Log::append`.
     pub fn append(
         &mut self,
         alloc: Global,
@@ -69,6 +70,7 @@ impl<D: Disk, J: Site> Written<D, J> {
         let Some(front) = Receipt::follow_all(receipts, &self.front, self.count) else {
             return Err(Unwritten::OutOfOrder);
         };
+        // For the prover: the length of a front is below 2^64, so the sum does not overflow.
         let _ = front.len();
         self.log.append(alloc, entries)?;
         self.count += receipts.len() as u64;
@@ -76,7 +78,7 @@ impl<D: Disk, J: Site> Written<D, J> {
         Ok(())
     }
 
-    /// The log, which has the entries that were written.
+    /// The log, which contains the entries that were written.
     pub fn into_log(self) -> Log<D>
         ensures { IsWritten D.Disk result J.setup J.premise self }
     {

@@ -1,4 +1,4 @@
--- Where a message's body ends, by its head (RFC 9112, section 6.3).
+-- Where the body of a message ends, according to the head (RFC 9112, section 6.3).
 use Rattle.std.specs.Prelude.{ℕ, Bool, true, false, ◌&&◌, ◌||◌, List, [], ◌∷◌, Result, Ok, Err, if◌then◌else◌, nat_lt, nat_le, ◌==◌, codes}
 use Rattle.std.specs.List.{list_any}
 use Rattle.std.specs.Str.Parse.{digits_value}
@@ -10,20 +10,20 @@ use Rattle.up_wire.specs.declared.framing.Framing.TheVariants.{NoBody, Sized, Ch
 use Rattle.up_message.specs.Digits.{is_digits}
 use Rattle.up_message.specs.Fields.{Field, values, same_name, split_commas}
 
--- a `Content-Length` that stands alone
+-- `Content-Length` is the only field about the length
 abbrev pub sized : ℕ → List ℕ → Result Framing WireFault
 sized limit value =
     if is_digits value
     then (if nat_le (digits_value 10 value) limit then Ok (Sized (digits_value 10 value)) else Err Fault.BodyTooLarge)
     else Err Fault.BadFraming
 
--- a `Transfer-Encoding` that stands alone; HTTP/1.0 has none
+-- `Transfer-Encoding` is the only field about the length; HTTP/1.0 does not have it
 abbrev pub coded : ℕ → List ℕ → Result Framing WireFault
 coded minor value =
     if minor == 0 then Err Fault.BadFraming
     else (if same_name value (codes "chunked") then Ok Chunked else Err Fault.UnknownCoding)
 
--- from the values of both fields: at most one of the fields, and it once
+-- from the values of both fields: at most one of the fields may be there, and only once
 abbrev pub framed : ℕ → ℕ → List (List ℕ) → List (List ℕ) → Result Framing WireFault
 framed limit minor [] [] = Ok NoBody
 framed limit minor (size ∷ []) [] = sized limit size
@@ -35,7 +35,7 @@ abbrev pub framing : ℕ → ℕ → List Field → Result Framing WireFault
 framing limit minor fields =
     framed limit minor (values (codes "content-length") fields) (values (codes "transfer-encoding") fields)
 
--- there is a body to wait for
+-- a body is expected
 abbrev pub has_body : Framing → Bool
 has_body NoBody = false
 has_body (Sized size) = nat_lt 0 size
@@ -49,15 +49,15 @@ is_continue value = same_name value (codes "100-continue")
 abbrev pub asks_to_continue : ℕ → List Field → Bool
 asks_to_continue minor fields = (minor == 1) && list_any is_continue (values (codes "expect") fields)
 
--- whether one of the tokens of a value is this, without regard to case
+-- whether one of the tokens of a value is this one, ignoring case
 abbrev pub has_token : List ℕ → List ℕ → Bool
 has_token token value = list_any (λ piece. same_name (trim_ows piece) token) (split_commas value)
 
--- whether a field says that the conversation closes (RFC 9112, section 9.3)
+-- whether a field says that the connection closes (RFC 9112, section 9.3)
 abbrev pub says_close : List Field → Bool
 says_close fields = list_any (has_token (codes "close")) (values (codes "connection") fields)
 
--- the conversation closes after the message
+-- the connection closes after the message
 abbrev pub closes : ℕ → List Field → Bool
 closes minor fields = (minor == 0) || says_close fields
 

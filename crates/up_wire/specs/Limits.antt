@@ -1,26 +1,26 @@
--- What is allowed of a message, and of a device.
+-- The limits of a message and of a device.
 use Rattle.std.specs.Prelude.{ℕ}
 
--- how many bytes a head or a trailer section may have
+-- the maximum number of bytes of a head or a trailer section
 abbrev pub max_head : ℕ
 max_head = 16384
 
--- how many fields a head or a trailer section may have
+-- the maximum number of fields of a head or a trailer section
 abbrev pub max_fields : ℕ
 max_fields = 64
 
--- how many bytes a chunk line may have, its CRLF among them
+-- the maximum number of bytes of a chunk line, its CRLF included
 abbrev pub max_line : ℕ
 max_line = 256
 
--- how many bytes of room a body has at first
+-- the number of bytes of room that a body has at first
 abbrev pub first_room : ℕ
 first_room = 8192
 
--- how many bytes a large body has at least: so many are read of it before it has any room
+-- the minimum size of a large body, in bytes: this many bytes are read of it before it has any room
 abbrev pub large : ℕ
 large = 32768
 
--- the interruption of one call that counts as a failure
+-- the interruption of a call that counts as a failure
 abbrev pub max_interruptions : ℕ
 max_interruptions = 1000

@@ -1,4 +1,4 @@
--- Of one stream of bytes there is one answer, but for the cases that are left open.
+-- One stream of bytes has one result, except in the cases that are left open.
 use Rattle.std.specs.Prelude.{◌≡◌, ◌≢◌, ℕ, ◌+◌, ◌-◌, ◌<◌, ◌≤◌, ◌⊎◌, Bool, false, List, [], ◌++◌, length, take, Some, Ok}
 use Rattle.httparse.specs.Grammar.{RequestHead, HasNoRequest, NeverHasRequest, NeverHasChunkLine, NeverHasSection, EndsInTarget}
 use Rattle.httparse.specs.Spans.{RequestExceeds, SectionExceeds}
@@ -13,7 +13,8 @@ use Rattle.up_wire.specs.Device.{Device, device_of, interrupted}
 use Rattle.up_wire.specs.Reading.{IsAnswer, IsReading}
 use Rattle.up_wire.specs.Chunks.{HasChunks, IsOpenLine, IsLastLine, AreOpenTrailers}
 
--- what may be answered to a stream, whose end is as told: a call takes a front of it and leaves the rest, and sees the end only where it took all
+-- a possible result for a stream with this end: a call takes a prefix of the stream and leaves the rest, and sees the
+-- end only if it took everything
 pub record MayAnswer (limit : ℕ) (all : List ℕ) (end : Ending) (answer : Taken) (rest : List ℕ) : Type 0 where
   pub input : List ℕ
   pub ending : Ending
@@ -21,24 +22,24 @@ pub record MayAnswer (limit : ℕ) (all : List ℕ) (end : Ending) (answer : Tak
   pub stands : (ending ≡ open_yet) ⊎ ((rest ≡ []) × (ending ≡ end))
   pub is_answer : IsAnswer limit input ending answer
 
--- the answer is one of the input, and not of the memory or the sink
+-- the result depends on the input, and not on memory or the sink
 abbrev pub IsOfInput : Taken → Type 0
 IsOfInput answer = (bare : Bool) → (answer ≢ Taken.Fault Fault.NoMemory bare) × (answer ≢ Taken.Fault Fault.WriteFailed bare)
 
--- the answers are the same, and a message ends at one place
+-- the results are the same, and a message ends at the same place
 pub record IsSameAnswer (a : Taken) (rest : List ℕ) (b : Taken) (other : List ℕ) : Type 0 where
   pub same : a ≡ b
   pub ends : (m : Message) → a ≡ Taken.Message m → rest ≡ other
 
--- no whole head stands in the stream, and more fields than a head may have
+-- the stream does not begin with a whole head, and has more fields than a head may have
 abbrev pub HasManyFields : List ℕ → Type 0
 HasManyFields all = HasNoRequest all × RequestExceeds max_fields (take max_head all)
 
--- nothing makes the bytes a head, and they stop inside the target
+-- no continuation of the bytes is a head, and they end inside the target
 abbrev pub StopsInTarget : List ℕ → Type 0
 StopsInTarget text = NeverHasRequest text × EndsInTarget text
 
--- the stream breaks off behind chunks, in a line or in trailers that nothing completes
+-- the stream breaks off after chunks, in a line or in trailers that no continuation completes
 pub record BreaksOff (limit : ℕ) (all : List ℕ) : Type 0 where
   pub head : RequestHead
   pub behind : List ℕ
@@ -53,11 +54,11 @@ pub record BreaksOff (limit : ℕ) (all : List ℕ) : Type 0 where
       ⊎ ((lines : List ℕ) × IsLastLine lines chunks × (behind ≡ lines ++ part) × AreOpenTrailers part
       × (NeverHasSection part ⊎ SectionExceeds max_fields part))
 
--- a fault where no whole head stands
+-- a fault before a whole head
 abbrev pub refusal : WireFault → Taken
 refusal fault = Taken.Fault fault false
 
--- the cases that are left open: the one answer may stand in place of the other
+-- the cases that are left open: the first result is possible instead of the second
 pub data MayStandFor (limit : ℕ) (all : List ℕ) (end : Ending) : Taken → Taken → Type 0 where
   many_fields : HasManyFields all → MayStandFor limit all end (refusal Fault.HeadTooLarge) (refusal Fault.BadHead)
   many_fields_at_failure : HasManyFields all → end ≡ failed → MayStandFor limit all end (refusal Fault.HeadTooLarge) (refusal Fault.ReadFailed)
@@ -65,11 +66,11 @@ pub data MayStandFor (limit : ℕ) (all : List ℕ) (end : Ending) : Taken → T
   in_target_at_failure : StopsInTarget all → length all < max_head → end ≡ failed → MayStandFor limit all end (refusal Fault.ReadFailed) (refusal Fault.BadHead)
   in_body : (m : Message) (bare : Bool) → BreaksOff limit all → MayStandFor limit all end (Taken.Cut m) (Taken.Fault Fault.BadFraming bare)
 
--- the answers are one, but for what is left open
+-- the results are the same, except in the cases that are left open
 abbrev pub AreOne : ℕ → List ℕ → Ending → Taken → List ℕ → Taken → List ℕ → Type 0
 AreOne limit all end a rest b other = IsSameAnswer a rest b other ⊎ (MayStandFor limit all end a b ⊎ MayStandFor limit all end b a)
 
--- of one stream there is one answer
+-- one stream has one result
 abbrev pub HasOneAnswer : ℕ → Type 0
 HasOneAnswer limit =
     (all : List ℕ) (end : Ending) (a b : Taken) (rest other : List ℕ) → IsOfInput a → IsOfInput b
@@ -84,7 +85,7 @@ pub record Reads (limit : ℕ) (all rest : List ℕ) (answer : Taken) : Type 0 w
   pub patient : (after - before) + interrupted sink sink_after < max_interruptions
   pub is_reading : IsReading limit (device_of (Some all) false before) (device_of (Some rest) false after) sink sink_after answer
 
--- two calls that find the same bytes have one answer
+-- two calls that find the same bytes have the same result
 abbrev pub ReadingsAgree : ℕ → Type 0
 ReadingsAgree limit =
     (all rest other : List ℕ) (a b : Taken) → IsOfInput a → IsOfInput b

@@ -1,4 +1,4 @@
--- What a call of `read_message` took, wrote and answered.
+-- What a call of `read_message` takes, writes and returns.
 use Rattle.std.specs.Prelude.{◌≡◌, ℕ, Bool, ◌+◌, ◌<◌, ◌⊎◌, List, [], ◌++◌, length, Result, Ok, Err, ⊤}
 use Rattle.std.specs.Io.KnownBytes.{Consumes, Appends, IsAtEnd}
 use Rattle.httparse.specs.Grammar.{RequestHead}
@@ -11,21 +11,21 @@ use Rattle.up_wire.specs.Limits.{max_interruptions}
 use Rattle.up_wire.specs.Framing.{interim}
 use Rattle.up_wire.specs.Message.{Ending, fields_of, IsHead, framing_of, open_yet, ended, failed, IsMessage, IsCut, IsEndOfInput, IsFault}
 
--- some front of the text
+-- a prefix of the text
 abbrev pub IsFront : List ℕ → List ℕ → Type 0
 IsFront front text = (rest : List ℕ) × (text ≡ front ++ rest)
 
--- what is due to be written behind a head: nothing where its fields are at fault
+-- what must be written after a head: nothing if its fields are at fault
 abbrev pub interim_after : Result Framing WireFault → RequestHead → List ℕ
 interim_after (Ok framing) head = interim framing head.minor (fields_of head)
 interim_after (Err fault) head = []
 
--- the line is what is due behind the head of the input
+-- the line is what must be written after the head of the input
 abbrev pub IsDue : ℕ → List ℕ → List ℕ → Type 0
 IsDue limit input line =
     (head : RequestHead) × (behind : List ℕ) × IsHead input head behind × (line ≡ interim_after (framing_of limit head) head)
 
--- what was written where a fault is answered
+-- what was written if the call returns a fault
 abbrev pub IsInterimAtFault : ℕ → List ℕ → WireFault → List ℕ → Type 0
 IsInterimAtFault limit input Fault.BadHead line = line ≡ []
 IsInterimAtFault limit input Fault.HeadTooLarge line = line ≡ []
@@ -43,37 +43,37 @@ IsInterim limit input (Taken.Cut m) line = IsDue limit input line
 IsInterim limit input (Taken.Fault fault bare) line = IsInterimAtFault limit input fault line
 IsInterim limit input Taken.End line = line ≡ []
 
--- what `read_message` may answer, having taken these bytes
+-- what `read_message` may return after taking these bytes
 abbrev pub IsAnswer : ℕ → List ℕ → Ending → Taken → Type 0
 IsAnswer limit input ending (Taken.Message m) = IsMessage limit input m []
 IsAnswer limit input ending (Taken.Cut m) = IsCut limit input m × ((ending ≡ ended) ⊎ (ending ≡ failed))
 IsAnswer limit input ending (Taken.Fault fault bare) = IsFault limit input ending fault bare
 IsAnswer limit input ending Taken.End = IsEndOfInput input × (ending ≡ ended)
 
--- how the input goes on, by what the source shows before and after a call that was interrupted so often
+-- how the input continues, as the source shows it before and after a call with `count` interruptions
 abbrev pub Shows : Ending → Device → Device → ℕ → Type 0
 Shows open_yet source source_after count = ⊤
 Shows ended source source_after count = IsAtEnd source_after.bytes
 Shows failed source source_after count = Broke source source_after count
 
--- `100 Continue` wasn't taken
+-- `100 Continue` was not written completely
 abbrev pub IsWriteFailure : Taken → Type 0
 IsWriteFailure answer = (bare : Bool) × (answer ≡ Taken.Fault Fault.WriteFailed bare)
 
--- the sink was given up where that is answered
+-- if the call returns this fault, the sink failed or was given up
 abbrev pub IsUnwritten : Taken → Device → Device → ℕ → Type 0
 IsUnwritten answer sink sink_after count = IsWriteFailure answer → Broke sink sink_after count
 
--- a call gives up at the last interruption that it may have, of reads and writes together, and not before
+-- a call gives up exactly at the last allowed interruption, of reads and writes together
 abbrev pub IsPatient : Ending → Taken → ℕ → Type 0
 IsPatient ending answer count =
     (count < max_interruptions) ⊎ ((count ≡ max_interruptions) × ((ending ≡ failed) ⊎ IsWriteFailure answer))
 
--- how often both devices were interrupted in a call
+-- the number of interruptions of both devices during a call
 abbrev pub interruptions : Device → Device → Device → Device → ℕ
 interruptions source source_after sink sink_after = interrupted source source_after + interrupted sink sink_after
 
--- a call of `read_message`, by the source and the sink before and after it
+-- a call of `read_message`, described by the source and the sink before and after it
 pub record IsReading (limit : ℕ) (source source_after sink sink_after : Device) (answer : Taken) : Type 0 where
   pub input : List ℕ
   pub ending : Ending

@@ -9,20 +9,20 @@ use Rattle.up_message.specs.declared.response.Response.{Response}
 use Rattle.up_message.specs.Fields.{Field}
 use Rattle.up_wire.specs.Reading.{IsFront}
 
--- some front of the text was written
+-- a prefix of the text was written
 abbrev pub WritesFront : Option (List ℕ) → Option (List ℕ) → List ℕ → Type 0
 WritesFront before after text = (front : List ℕ) × IsFront front text × Appends before after front
 
--- the text was written, and at an error some front of it
+-- the text was written; after an error, a prefix of it
 abbrev pub Writes : {X E : Type 0} → Option (List ℕ) → Option (List ℕ) → List ℕ → Result X E → Type 0
 Writes before after text (Ok done) = Appends before after text
 Writes before after text (Err fault) = WritesFront before after text
 
--- the slices joined
+-- the slices, joined
 abbrev pub joined : List (Bor (List ℕ)) → List ℕ
 joined pieces = flat_map (λ piece. piece.now) pieces
 
--- the phrase of a status, which is empty where there is none
+-- the reason phrase of a status, empty if there is none
 abbrev pub phrase : ℕ → List ℕ
 phrase status = if nat_le 100 status && nat_lt status 1000 then unwrap_or (reason_phrase status) [] else []
 
@@ -31,28 +31,28 @@ abbrev pub start_text : ℕ → List ℕ
 start_text status =
     concat (codes "HTTP/1.1 " ∷ decimal status ∷ codes " " ∷ phrase status ∷ codes "\r\nTus-Resumable: 1.0.0\r\nCache-Control: no-store\r\n" ∷ [])
 
--- a field and its line end
+-- a field and the end of its line
 abbrev pub field_line : Field → List ℕ
 field_line field = concat (field.0 ∷ codes ": " ∷ field.1 ∷ crlf_bytes ∷ [])
 
--- the line that gives the length of the body; none where no body is meant
+-- the line with the length of the body; none if there is no body to describe
 abbrev pub length_line : Bool → Response → List ℕ
 length_line bare r =
     if bare || r.status == 204 then [] else concat (codes "Content-Length: " ∷ decimal (length r.body) ∷ crlf_bytes ∷ [])
 
--- the line that says that the conversation closes
+-- the line that says that the connection closes
 abbrev pub close_line : Bool → List ℕ
 close_line close = if close then codes "Connection: close\r\n" else []
 
--- the body, where one is sent
+-- the body, if one is sent
 abbrev pub shown : Bool → List ℕ → List ℕ
 shown bare body = if bare then [] else body
 
--- that line and the empty line
+-- the closing line, if any, and the empty line
 abbrev pub gap_text : Bool → List ℕ
 gap_text close = concat (close_line close ∷ crlf_bytes ∷ [])
 
--- these lines and the body
+-- the closing line, the empty line and the body
 abbrev pub end_text : Bool → Bool → List ℕ → List ℕ
 end_text bare close body = gap_text close ++ shown bare body
 

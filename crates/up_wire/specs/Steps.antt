@@ -1,4 +1,4 @@
--- What the steps of reading a message answer.
+-- What the steps of reading a message return.
 use Rattle.std.specs.Prelude.{◌≡◌, ◌≢◌, ℕ, ◌*◌, ◌<◌, ◌≤◌, ◌⊎◌, ⊤, max, Vec, vec_len, vec_capacity, Bool, true, false, ◌&&◌, ◌==◌, List, [], ◌∷◌, ◌++◌, length, Option, Result, Ok, Err}
 use Rattle.std.specs.Io.KnownBytes.{Appends, IsAtEnd}
 use Rattle.std.specs.declared.alloc.Global.{Global}
@@ -25,32 +25,32 @@ use Rattle.up_wire.specs.Limits.{max_fields, max_interruptions, first_room}
 use Rattle.up_wire.specs.Device.{Device, GaveUp, HasNoFeed, IsEndedLine}
 use Rattle.up_wire.specs.Reading.{IsFront}
 
--- the bytes that a step gives
+-- the bytes of a step
 abbrev pub step_bytes : Step → List ℕ
 step_bytes (Step.Byte byte) = byte ∷ []
 step_bytes Step.Ended = []
 step_bytes Step.Failed = []
 
--- how the input goes on, by the source after it and the interruptions of the call
+-- how the input continues, by the source afterwards and the interruptions of the call
 abbrev pub EndsSo : Ending → Device → ℕ → Type 0
 EndsSo open_yet source count = count < max_interruptions
 EndsSo ended source count = IsAtEnd source.bytes × (count < max_interruptions)
 EndsSo failed source count = GaveUp source count × (count ≤ max_interruptions)
 
--- the ending that a step shows
+-- the ending that a step means
 abbrev pub step_ending : Step → Ending
 step_ending (Step.Byte byte) = open_yet
 step_ending Step.Ended = ended
 step_ending Step.Failed = failed
 
--- what is kept of a head
+-- the parts of a head that are kept
 pub record HasHead (h : Head) (head : RequestHead) : Type 0 where
   pub method : h.method ≡ head.method
   pub target : h.target ≡ head.target
   pub minor : h.minor ≡ head.minor
   pub fields : h.fields ≡ fields_of head
 
--- what the parser says of the bytes so far
+-- what the parser says about the bytes so far
 abbrev pub IsParsed : List ℕ → Parsed → Type 0
 IsParsed text (Parsed.Whole h) =
     (head : RequestHead) × (rest : List ℕ) × ReadsRequest text head rest × (length head.fields ≤ max_fields) × HasHead h head
@@ -71,53 +71,53 @@ IsHeadFault input ending Fault.ReadFailed bare = IsReadFailure input ending × (
 IsHeadFault input ending Fault.NoMemory bare = IsBare input bare
 IsHeadFault input ending Fault.WriteFailed bare = ⊥
 
--- a whole head, and what is kept of it; the input goes on behind it
+-- a whole head, and the parts of it that are kept; the input is still open
 pub record IsHeadOf (input : List ℕ) (ending : Ending) (h : Head) : Type 0 where
   pub head : RequestHead
   pub is_head : IsHead input head []
   pub keeps : HasHead h head
   pub goes_on : ending ≡ open_yet
 
--- what came of reading a head
+-- the result of reading a head
 abbrev pub IsHeadRead : List ℕ → Ending → HeadRead → Type 0
 IsHeadRead input ending (HeadRead.Whole h) = IsHeadOf input ending h
 IsHeadRead input ending (HeadRead.Fault fault bare) = IsHeadFault input ending fault bare
 IsHeadRead input ending HeadRead.End = IsEndOfInput input × (ending ≡ ended)
 
--- what bytes are that are no head: one may come of them, and the answer is this, or their fault
+-- the fault of bytes that are no head: `waiting` if they can still become one, and otherwise what is wrong with them
 abbrev pub IsStanding : List ℕ → WireFault → WireFault → Type 0
 IsStanding text waiting fault =
     ((fault ≡ waiting) × MayBecomeRequest text)
     ⊎ (((fault ≡ Fault.BadHead) × NeverHasRequest text)
     ⊎ ((fault ≡ Fault.HeadTooLarge) × RequestExceeds max_fields text))
 
--- what came of reading a body
+-- the result of reading a body
 abbrev pub IsBodyRead : ℕ → Framing → List ℕ → Ending → BodyRead → Type 0
 IsBodyRead limit framing input ending (BodyRead.Whole body) = IsBody limit framing body.items input × (ending ≡ open_yet)
 IsBodyRead limit framing input ending (BodyRead.Cut body) = IsCutBody limit framing body.items input × ((ending ≡ ended) ⊎ (ending ≡ failed))
 IsBodyRead limit framing input ending (BodyRead.Fault fault) = (fault ≡ Fault.NoMemory) ⊎ IsBodyFault limit framing input fault
 
--- a buffer has the room that it has at first, or twice what it holds
+-- a buffer has at most the room that it has at first, or twice its length
 abbrev pub IsBounded : Vec ℕ Global → Type 0
 IsBounded buffer = vec_capacity buffer ≤ max first_room (2 * vec_len buffer)
 
--- a buffer that holds so many bytes, and places behind them, has no more room than that
+-- a buffer with this many bytes, and places after them, has at most the room that it has at first, or twice this number
 abbrev pub IsBoundedBy : ℕ → Vec ℕ Global → Type 0
 IsBoundedBy filled buffer = vec_capacity buffer ≤ max first_room (2 * filled)
 
--- the body's buffer is so
+-- the buffer of the body has no more room than that
 abbrev pub HasBoundedBody : BodyRead → Type 0
 HasBoundedBody (BodyRead.Whole body) = IsBounded body
 HasBoundedBody (BodyRead.Cut body) = IsBounded body
 HasBoundedBody (BodyRead.Fault fault) = ⊤
 
--- the ending that a batch shows
+-- the ending that a batch means
 abbrev pub batch_ending : Batch → Ending
 batch_ending (Batch.Came count) = open_yet
 batch_ending Batch.Ended = ended
 batch_ending Batch.Failed = failed
 
--- the bytes of a batch: as many as it says, some and at most so many, or none
+-- the bytes of a batch: as many as it says, at least one and at most `most`, or none
 abbrev pub IsBatch : Batch → ℕ → List ℕ → Type 0
 IsBatch (Batch.Came count) most run = (length run ≡ count) × (0 < count) × (count ≤ most)
 IsBatch Batch.Ended most run = run ≡ []
@@ -135,7 +135,8 @@ is_line_end (a ∷ []) = a == line_feed
 is_line_end (a ∷ b ∷ []) = (a == carriage_return) && (b == line_feed)
 is_line_end (a ∷ b ∷ c ∷ rest) = false
 
--- what was taken of a line: all of it, or some of it and why no more; with the text behind which it was put
+-- how much of a line was taken: all of it, or a part, and why no more; `text` is the buffer with the taken part at its
+-- end
 abbrev pub IsLineTaken : ℕ → List ℕ → List ℕ → Ending → LineTaken → Type 0
 IsLineTaken most text line ending Taken.Whole = IsEndedLine line × (ending ≡ open_yet)
 IsLineTaken most text line ending Taken.Full = HasNoFeed line × (length text ≡ most) × (ending ≡ open_yet)
@@ -143,32 +144,32 @@ IsLineTaken most text line ending Taken.Ended = HasNoFeed line × (length text <
 IsLineTaken most text line ending Taken.Failed = HasNoFeed line × (length text < most) × (ending ≡ failed)
 IsLineTaken most text line ending Taken.NoMemory = HasNoFeed line × (ending ≡ open_yet)
 
--- why a part stopped: it breaks off so, or is wrong so
+-- why reading stopped: the input breaks off as `cut` says, or is malformed as `bad` says
 abbrev pub IsStop : Ending → Type 0 → Type 0 → Stop → Type 0
 IsStop ending cut bad Stop.Ended = cut × (ending ≡ ended)
 IsStop ending cut bad Stop.Failed = cut × (ending ≡ failed)
 IsStop ending cut bad Stop.Bad = bad
 IsStop ending cut bad Stop.NoMemory = ending ≡ open_yet
 
--- a body that stops so, with the bytes that came
+-- the result for a body that stops so, with the bytes that arrived
 abbrev pub stopped : Stop → Vec ℕ Global → BodyRead
 stopped Stop.Ended body = BodyRead.Cut body
 stopped Stop.Failed body = BodyRead.Cut body
 stopped Stop.Bad body = BodyRead.Fault Fault.BadFraming
 stopped Stop.NoMemory body = BodyRead.Fault Fault.NoMemory
 
--- a body of that size, or less
+-- a body of this size, or a part of it
 abbrev pub IsBytesRead : {X : Type 0} → ℕ → List ℕ → Ending → Result X Stop → Type 0
 IsBytesRead size bytes ending (Ok done) = (length bytes ≡ size) × (ending ≡ open_yet)
 IsBytesRead size bytes ending (Err stop) = IsStop ending (length bytes < size) ⊥ stop
 
--- the buffer holds the bytes that came of a body of that size or more, and no more room than is allowed
+-- the buffer has the bytes that arrived, at most `size`, and no more room than is allowed
 pub record HoldsFront (size : ℕ) (came : List ℕ) (body : Vec ℕ Global) : Type 0 where
   pub items : body.items ≡ came
   pub within : length came ≤ size
   pub bounded : IsBounded body
 
--- the front of a body, before which no memory was lacking
+-- the result of reading the prefix of a body; nothing is said if memory ran out
 abbrev pub IsFrontRead : {X : Type 0} → ℕ → List ℕ → Ending → Vec ℕ Global → Result X Stop → Type 0
 IsFrontRead size came ending body (Ok done) = HoldsFront size came body × (ending ≡ open_yet)
 IsFrontRead size came ending body (Err Stop.Ended) = HoldsFront size came body × (length came < size) × (ending ≡ ended)
@@ -176,7 +177,7 @@ IsFrontRead size came ending body (Err Stop.Failed) = HoldsFront size came body 
 IsFrontRead size came ending body (Err Stop.Bad) = ⊥
 IsFrontRead size came ending body (Err Stop.NoMemory) = ⊤
 
--- a chunk line that says this size; the input goes on behind it
+-- a chunk line with this size; the input is still open
 pub record IsLineOf (input : List ℕ) (ending : Ending) (size : ℕ) : Type 0 where
   pub line : ChunkLine
   pub is_line : IsLine line
@@ -184,39 +185,39 @@ pub record IsLineOf (input : List ℕ) (ending : Ending) (size : ℕ) : Type 0 w
   pub size_is : size ≡ chunk_size line
   pub goes_on : ending ≡ open_yet
 
--- a chunk line and its size
+-- the result of reading a chunk line: its size
 abbrev pub IsLineRead : List ℕ → Ending → Result ℕ Stop → Type 0
 IsLineRead input ending (Ok size) = IsLineOf input ending size
 IsLineRead input ending (Err stop) = IsStop ending (IsOpenLine input) (IsBadLine input) stop
 
--- one byte
+-- the result of reading one byte
 abbrev pub IsByteRead : {X : Type 0} → ℕ → List ℕ → Ending → Result X Stop → Type 0
 IsByteRead wanted input ending (Ok done) = (input ≡ wanted ∷ []) × (ending ≡ open_yet)
 IsByteRead wanted input ending (Err stop) = IsStop ending (input ≡ []) ((b : ℕ) × (input ≡ b ∷ []) × (b ≢ wanted)) stop
 
--- CRLF
+-- the result of reading CRLF
 abbrev pub IsCrlfRead : {X : Type 0} → List ℕ → Ending → Result X Stop → Type 0
 IsCrlfRead input ending (Ok done) = (input ≡ crlf_bytes) × (ending ≡ open_yet)
 IsCrlfRead input ending (Err stop) = IsStop ending (IsOpenEnd input) (IsBadEnd input) stop
 
--- what the parser says of the bytes so far of a trailer section
+-- what the parser says about the bytes so far of a trailer section
 abbrev pub AreParsed : List ℕ → Trailers → Type 0
 AreParsed text Trailers.Whole =
     (fields : List Line.Field) × (last : Line.LineEnd) × (rest : List ℕ) × ReadsSection text fields last rest × (length fields ≤ max_fields)
 AreParsed text Trailers.Partial = HasNoSection text × MayBecomeSection text
 AreParsed text Trailers.Bad = NeverHasSection text ⊎ SectionExceeds max_fields text
 
--- whole lines behind which trailers break off so, or which are bad
+-- trailers break off after these whole lines, or the lines are malformed
 abbrev pub IsStopBehind : List ℕ → Stop → Stop → Type 0
 IsStopBehind lines stop result =
     ((result ≡ stop) × MayBecomeSection lines) ⊎ ((result ≡ Stop.Bad) × (NeverHasSection lines ⊎ SectionExceeds max_fields lines))
 
--- a trailer section
+-- the result of reading a trailer section
 abbrev pub AreTrailersRead : {X : Type 0} → List ℕ → Ending → Result X Stop → Type 0
 AreTrailersRead input ending (Ok done) = IsTrailers input × (ending ≡ open_yet)
 AreTrailersRead input ending (Err stop) = IsStop ending (AreOpenTrailers input) (AreBadTrailers input) stop
 
--- some front of the text was written, and where it is done all of it
+-- a prefix of the text was written: all of it if `done`
 abbrev pub WritesIf : Option (List ℕ) → Option (List ℕ) → List ℕ → Bool → Type 0
 WritesIf before after text done =
     (front : List ℕ) × IsFront front text × Appends before after front × (done ≡ true → front ≡ text)

@@ -1,9 +1,9 @@
--- What is answered to a fault of the wire.
+-- The responses to the faults of the wire.
 use Rattle.std.specs.Prelude.{ℕ, List, Option, Some, None, codes}
 use Rattle.up_wire.specs.declared.wire_fault.WireFault.{WireFault}
 use Rattle.up_wire.specs.declared.wire_fault.WireFault.TheVariants.{BadHead, HeadTooLarge, BadFraming, UnknownCoding, BodyTooLarge, ReadFailed, NoMemory, WriteFailed}
 
--- the status code of each fault, where it is answered
+-- the status code of each fault that gets a response
 abbrev pub status_of : WireFault → Option ℕ
 status_of BadHead = Some 400
 status_of HeadTooLarge = Some 431
@@ -14,7 +14,7 @@ status_of ReadFailed = None
 status_of NoMemory = Some 503
 status_of WriteFailed = None
 
--- the line that names each fault
+-- the line with the number and the name of each fault
 abbrev pub line_of : WireFault → List ℕ
 line_of BadHead = codes "1 BadHead\n"
 line_of HeadTooLarge = codes "2 HeadTooLarge\n"

@@ -14,7 +14,7 @@ use crate::step::{MAX_INTERRUPTIONS, Step, take_step};
 use crate::wire_fault::WireFault;
 use std::alloc::Global;
 
-/// What came of reading a body.
+/// The result of reading a body.
 #[derive(Drop)]
 pub(crate) enum BodyRead {
     Whole(Vec<u8>),
@@ -22,18 +22,18 @@ pub(crate) enum BodyRead {
     Fault(WireFault),
 }
 
-/// Why a part of a body was not read.
+/// Why reading a part of a body stopped.
 #[derive(Clone, Copy)]
 pub(crate) enum Stop {
     Ended,
     Failed,
-    /// No body has such bytes there.
+    /// No body has these bytes there.
     Bad,
     NoMemory,
 }
 
 impl Stop {
-    /// What comes of a body that stops so, with the bytes that came.
+    /// The result for a body that stops so, with the bytes that arrived.
     pub(crate) fn into_body(self, body: Vec<u8>) -> BodyRead
         ensures { result ≡ stopped self body }
     {
@@ -45,7 +45,7 @@ impl Stop {
     }
 }
 
-/// Reads a body in its framing. Its room grows with the bytes that come, whatever length was announced.
+/// Reads a body with this framing. Its room grows with the bytes that arrive, whatever length was announced.
 pub(crate) fn read_body<R: Source>(
     alloc: Global,
     source: &mut R,
@@ -69,7 +69,7 @@ pub(crate) fn read_body<R: Source>(
     }
 }
 
-/// Reads so many bytes.
+/// Reads `size` bytes.
 fn read_sized<R: Source>(
     alloc: Global,
     source: &mut R,
@@ -96,10 +96,11 @@ fn read_sized<R: Source>(
     }
 }
 
-/// A body of so many bytes or more is large: so many are read of it before it has any room.
+/// The minimum size of a large body, in bytes. This many bytes are read of it before it has any room.
 const LARGE: usize = 1 << 15;
 
-/// Reads the front of a large body, behind its first byte, for which it waits. Reads nothing of one that isn't large.
+/// Waits for the first byte of a large body, and then reads the start of the body. Reads nothing of a body that is not
+/// large.
 fn read_front<R: Source>(
     source: &mut R,
     interruptions: &mut u32,
@@ -126,8 +127,8 @@ fn read_front<R: Source>(
     }
 }
 
-/// Reads the front of a large body, of which the first byte came, and gives the body its room only then. It has a frame of its own on the
-/// stack, so that no connection that only announced a body touches it.
+/// Reads the start of a large body, after its first byte, and only then gives the body its room. This function has a
+/// stack frame of its own, which a connection that has only announced a body does not touch.
 #[inline(never)]
 fn read_large_front<R: Source>(
     source: &mut R,
@@ -166,7 +167,7 @@ fn read_large_front<R: Source>(
     put_front(body, &front, size)
 }
 
-/// Puts the front of a body into it, with room for as many bytes more, but for no more than `size` in all.
+/// Copies the start of a body into it, with room for as many bytes again, but for at most `size` in all.
 fn put_front(body: &mut Vec<u8>, front: &[u8], size: u64) -> Result<(), Stop>
     requires empty { body.old.items ≡ [] }
     requires some { 0 < length front.now }
@@ -180,14 +181,14 @@ fn put_front(body: &mut Vec<u8>, front: &[u8], size: u64) -> Result<(), Stop>
         return Err(Stop::NoMemory);
     }
     let room = body.capacity();
-    // std promises of no call that fills a buffer that it takes no more room than there is.
+    // std does not promise that filling a buffer takes no more room than there is.
     if body.extend_from_slice(front).is_err() || body.capacity() > room {
         return Err(Stop::NoMemory);
     }
     Ok(())
 }
 
-/// Reads bytes to the end of `body` until it has `size` of them. It may come to have `most`.
+/// Reads bytes to the end of `body` until it has `size` bytes. The body may later grow to `most` bytes.
 pub(crate) fn read_bytes<R: Source>(
     source: &mut R,
     interruptions: &mut u32,
@@ -227,23 +228,24 @@ pub(crate) fn read_bytes<R: Source>(
     Ok(())
 }
 
-/// How much room a body has at first.
+/// The room of a body at first, in bytes.
 const FIRST_ROOM: usize = 8192;
 
-/// How many bytes are asked for at a time, at most. That many places stay in the processor's cache between their being made
-/// ready and their being filled.
+/// The maximum number of bytes that are asked for at a time. This many places stay in the processor's cache from when
+/// they are made ready until they are filled.
 const MOST_READY: usize = 1 << 18;
 
-/// Whether so many places are enough to read into, behind so many bytes: as many as are wanted, or a good part of what can be
-/// made ready at a time.
+/// Whether `ready` places after the first `filled` bytes are enough to read into: all that are wanted, or a good part
+/// of the maximum that can be made ready at a time.
 fn is_enough(ready: usize, filled: usize, wanted: u64) -> bool
     ensures { result ≡ true → (0 < wanted → 0 < ready) }
 {
     ready as u64 == wanted || ready > filled.min(MOST_READY) / 4 && ready > 0
 }
 
-/// Makes places ready behind the first `filled` bytes, for some of those that are wanted up to `size`: there they can be read
-/// to directly. Answers whether there are some; where there are none the body has these bytes alone.
+/// Makes places ready after the first `filled` bytes, for some of the bytes up to `size`, so that they can be read
+/// directly into the body. Returns whether there are such places. If there are none, the body has only the first
+/// `filled` bytes.
 fn make_ready(body: &mut Vec<u8>, filled: usize, size: u64, most: u64) -> bool
     requires filled { filled ≤ vec_len body.old }
     requires within { (vec_len body.old ≤ size) × (filled < size) × (size ≤ most) }
@@ -263,7 +265,7 @@ fn make_ready(body: &mut Vec<u8>, filled: usize, size: u64, most: u64) -> bool
     let room = body.capacity();
     let wanted = (size - filled as u64).min(MOST_READY as u64) as usize;
     let ready = wanted.min(room - filled);
-    // std promises of no call that fills a buffer that it takes no more room than there is.
+    // std does not promise that filling a buffer takes no more room than there is.
     if body.resize(filled + ready, 0).is_err() || body.capacity() > room {
         body.truncate(filled);
         return false;
@@ -271,7 +273,7 @@ fn make_ready(body: &mut Vec<u8>, filled: usize, size: u64, most: u64) -> bool
     true
 }
 
-/// Bytes came, so many, or why none did.
+/// The number of bytes that arrived, or why none did.
 #[derive(Clone, Copy)]
 enum Batch {
     Came(usize),
@@ -279,7 +281,7 @@ enum Batch {
     Failed,
 }
 
-/// Reads some of the next bytes to the places behind the first `filled`.
+/// Reads some of the next bytes to the places after the first `filled`.
 fn fill<R: Source>(
     source: &mut R,
     interruptions: &mut u32,
@@ -299,7 +301,7 @@ fn fill<R: Source>(
     take_batch(source, interruptions, &mut whole[filled..])
 }
 
-/// Reads some of the next bytes to the front of `into`, where an interrupted read is tried again.
+/// Reads some of the next bytes to the start of `into`. Retries an interrupted read.
 fn take_batch<R: Source>(source: &mut R, interruptions: &mut u32, into: &mut [u8]) -> Batch
     requires patient { interruptions.old < max_interruptions }
     requires some { 0 < length into.old }

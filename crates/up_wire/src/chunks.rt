@@ -19,10 +19,10 @@ use httparse::spans::{EMPTY_HEADER_SPAN, parse_headers};
 use httparse::{Error, Status, parse_chunk_size};
 use std::alloc::Global;
 
-/// How many bytes a chunk line may have, its CRLF among them.
+/// The maximum number of bytes of a chunk line, its CRLF included.
 const MAX_LINE: usize = 256;
 
-/// Reads chunks, the last line and the trailers.
+/// Reads the chunks, the last line and the trailers.
 pub(crate) fn read_chunks<R: Source>(
     alloc: Global,
     source: &mut R,
@@ -64,7 +64,7 @@ pub(crate) fn read_chunks<R: Source>(
     }
 }
 
-/// Reads a chunk line into `text`, in place of what is there, and answers the size that it says.
+/// Reads a chunk line into `text`, which it clears first, and returns the size in the line.
 fn read_line<R: Source>(
     source: &mut R,
     interruptions: &mut u32,
@@ -92,7 +92,7 @@ fn read_line<R: Source>(
     }
 }
 
-/// Reads the CRLF behind a chunk.
+/// Reads the CRLF after a chunk.
 fn read_crlf<R: Source>(source: &mut R, interruptions: &mut u32) -> Result<(), Stop>
     requires { interruptions.old < max_interruptions }
     ensures answer { (input : List ℕ) × (ending : Ending)
@@ -126,7 +126,7 @@ fn read_byte<R: Source>(source: &mut R, interruptions: &mut u32, wanted: u8) -> 
     }
 }
 
-/// What the bytes so far are of a trailer section.
+/// The state of a trailer section after the bytes so far.
 #[derive(Clone, Copy)]
 enum Trailers {
     Whole,
@@ -134,7 +134,7 @@ enum Trailers {
     Bad,
 }
 
-/// Reads a trailer section that stands at the front of the bytes.
+/// Parses a trailer section at the start of the bytes.
 fn parse_trailers(text: &[u8]) -> Trailers
     ensures { AreParsed text.now result }
 {
@@ -147,7 +147,7 @@ fn parse_trailers(text: &[u8]) -> Trailers
     }
 }
 
-/// Why trailers of which so many whole lines came broke off, or that these lines are none.
+/// Why trailers stopped after these whole lines: `stop`, or that the lines are malformed.
 fn stop_behind(lines: &[u8], stop: Stop) -> Stop
     requires { HasNoSection lines.now }
     ensures { IsStopBehind lines.now stop result }
@@ -159,8 +159,8 @@ fn stop_behind(lines: &[u8], stop: Stop) -> Stop
     }
 }
 
-/// Reads trailer fields and the empty line behind them, and drops them. They are parsed behind the first line and behind
-/// an empty line, which is where they can be whole.
+/// Reads trailer fields and the empty line after them, and drops them. They are parsed after the first line, and after
+/// each empty line, which is where they can be whole.
 fn read_trailers<R: Source>(
     alloc: Global,
     source: &mut R,

@@ -1,4 +1,5 @@
-//! What a head says of the conversation: that it ends behind the message, or that the client waits for `100 Continue`.
+//! What a head says about the connection: that it closes after the message, or that the client waits for
+//! `100 Continue`.
 ghost use Rattle.std.specs.Prelude.{◌≡◌, codes};
 ghost use Rattle.std.specs.List.{list_any};
 ghost use Rattle.httparse.specs.Grammar.{skip_ows, trim_ows};
@@ -19,14 +20,14 @@ fn trim_start_ows(mut text: &[u8]) -> &[u8]
     text
 }
 
-/// The text without the blanks at both ends.
+/// The text without the blanks around it.
 fn trim_ows(text: &[u8]) -> &[u8]
     ensures { result.now ≡ trim_ows text.now }
 {
     trim_end_ows(trim_start_ows(text))
 }
 
-/// Whether the text, up to each comma, is the token somewhere.
+/// Whether one of the tokens between the commas of the text is this one.
 fn has_token(value: &[u8], token: &[u8]) -> bool
     ensures { result ≡ has_token token.now value.now }
 {
@@ -44,7 +45,7 @@ fn has_token(value: &[u8], token: &[u8]) -> bool
     }
 }
 
-/// Whether the conversation closes after a message with these fields.
+/// Whether the connection closes after a message with these fields.
 pub(crate) fn closes(minor: u8, fields: &[Field]) -> bool
     ensures { result ≡ closes minor fields.now }
 {

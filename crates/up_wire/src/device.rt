@@ -1,40 +1,40 @@
-//! Where bytes come from and go to.
+//! Sources and sinks of bytes.
 ghost use Rattle.std.specs.Prelude.{◌≡◌, ℕ, ◌+◌, ◌<◌, ◌≤◌, IsTrue, List, ◌++◌, length, take, vec_len, vec_capacity};
 ghost use Rattle.std.specs.Io.KnownBytes.{Consumes, Appends, Keeps};
 ghost use Rattle.up_wire.specs.Device.{Device, given, is_failed_read, interrupted_reads, EndsAt, IsRun, is_failed_run, interrupted_runs, RunEndsAt, KeepsRoom, IsInLine, taken, is_failed_write, interrupted_writes, TakesSome};
 
-/// What a source answers when it is asked for its next byte.
+/// The result of asking a source for its next byte.
 #[derive(Clone, Copy, Debug, PartialEq, Eq)]
 pub enum NextByte {
     Byte(u8),
     /// No bytes are left.
     End,
-    /// Nothing came this time.
+    /// Nothing arrived this time.
     Interrupted,
-    /// The source answers nothing else from now on.
+    /// The source failed. From now on it returns only this.
     Failed,
 }
 
-/// What a source answers when it is asked for bytes.
+/// The result of asking a source for bytes.
 #[derive(Clone, Copy, Debug, PartialEq, Eq)]
 pub enum ReadSome {
-    /// It moved so many bytes, at least one.
+    /// The number of bytes that it moved, at least one.
     Moved(usize),
     /// No bytes are left.
     End,
-    /// Nothing came this time.
+    /// Nothing arrived this time.
     Interrupted,
-    /// The source answers nothing else from now on.
+    /// The source failed. From now on it returns only this.
     Failed,
 }
 
-/// Where bytes come from. A source that answered Failed answers nothing else from then on, and End comes only where
-/// no bytes are left.
+/// A source of bytes. After it has returned `Failed`, it returns nothing else. It returns `End` only if no bytes are
+/// left.
 pub trait Source {
-    /// The bytes that are left, where they are known; whether it answered Failed, and how often Interrupted.
+    /// The bytes that are left, if they are known; whether it returned `Failed`, and how often `Interrupted`.
     ghost device: { Self → Device };
 
-    /// Takes the next byte, or says why there is none.
+    /// Takes the next byte, or returns why there is none.
     fn next_byte(&mut self) -> NextByte
         ensures bytes { Consumes (device self.old).bytes (device self.new).bytes (given result) }
         ensures end { EndsAt result (device self.new).bytes }
@@ -44,8 +44,9 @@ pub trait Source {
         ensures interrupted { (device self.new).interruptions
             ≡ (device self.old).interruptions + interrupted_reads result };
 
-    /// Moves some of the next bytes to the front of `into`, at most as many as it has places. Nothing is said of the places
-    /// behind them. It is as a few calls of `next_byte`, but a source that has many bytes at hand can move them at once.
+    /// Moves some of the next bytes to the start of `into`, at most as many as it has places. The places after them may
+    /// have any content. The effect is that of a few calls of `next_byte`, but a source that has many bytes available
+    /// can move them at once.
     fn take_into(&mut self, into: &mut [u8]) -> ReadSome
         requires some { 0 < length into.old }
         ensures bytes { (run : List ℕ)
@@ -69,8 +70,8 @@ pub trait Source {
         }
     }
 
-    /// Moves some of the next bytes, at most `most` and none behind a line feed, to the end of `into`, which has room for
-    /// them. Where none moved, the room stays as it was.
+    /// Moves some of the next bytes to the end of `into`, at most `most` and none after a line feed. `into` has room
+    /// for them. If none is moved, the room is unchanged.
     fn take_in_line(&mut self, into: &mut Vec<u8>, most: usize) -> ReadSome
         requires some { 0 < most }
         requires room { vec_len into.old + most ≤ vec_capacity into.old }
@@ -97,23 +98,23 @@ pub trait Source {
     }
 }
 
-/// What a sink answers when it is given bytes.
+/// The result of giving bytes to a sink.
 #[derive(Clone, Copy, Debug, PartialEq, Eq)]
 pub enum WriteSome {
-    /// It took so many bytes from the front.
+    /// The number of bytes that it took from the start.
     Took(usize),
     /// It took nothing this time.
     Interrupted,
-    /// The sink answers nothing else from now on.
+    /// The sink failed. From now on it returns only this.
     Failed,
 }
 
-/// Where bytes go. A sink that answered Failed answers nothing else from then on.
+/// A sink for bytes. After it has returned `Failed`, it returns nothing else.
 pub trait Sink {
-    /// The bytes that were written, where they are known; whether it answered Failed, and how often Interrupted.
+    /// The bytes that were written, if they are known; whether it returned `Failed`, and how often `Interrupted`.
     ghost device: { Self → Device };
 
-    /// Takes some bytes from the front of `bytes`: at least one, where there are any.
+    /// Takes some bytes from the start of `bytes`: at least one, if there are any.
     fn write_some(&mut self, bytes: &[u8]) -> WriteSome
         ensures bytes { Appends (device self.old).bytes (device self.new).bytes
             (taken result bytes.now) }
@@ -124,8 +125,8 @@ pub trait Sink {
         ensures interrupted { (device self.new).interruptions
             ≡ (device self.old).interruptions + interrupted_writes result };
 
-    /// Sends on what the sink holds back, and answers that it took nothing more. A sink that holds nothing back has
-    /// nothing to do.
+    /// Sends everything that the sink holds back, and reports this as taking no bytes. A sink that holds nothing back
+    /// has nothing to do.
     fn flush(&mut self) -> WriteSome
         ensures bytes { Keeps (device self.old).bytes (device self.new).bytes }
         ensures failed { (device self.new).has_failed ≡ is_failed_write result }

@@ -1,4 +1,4 @@
-//! Where a message's body ends.
+//! Where the body of a message ends.
 ghost use Rattle.std.specs.Prelude.{◌≡◌};
 ghost use Rattle.up_wire.specs.Framing.{sized, coded, framing};
 

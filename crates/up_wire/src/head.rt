@@ -1,4 +1,4 @@
-//! A head out of its bytes.
+//! Parsing a head.
 ghost use Rattle.std.specs.Prelude.{◌≡◌, length, take, map, All, IfOk, bytes_eq, codes};
 ghost use Rattle.up_wire.specs.Framing.{closes};
 ghost use Rattle.http_header.specs.Token.{IsToken};
@@ -13,7 +13,7 @@ use httparse::{Error, Status};
 use std::alloc::{AllocError, Global};
 use up_message::{Field, Message, Sequence};
 
-/// How many fields a head may have.
+/// The maximum number of fields of a head.
 pub(crate) const MAX_FIELDS: usize = 64;
 
 /// The parts of a head.
@@ -55,20 +55,20 @@ impl Head {
     }
 }
 
-/// What the bytes so far are.
+/// The result of parsing the bytes so far.
 #[derive(Drop)]
 pub(crate) enum Parsed {
     Whole(Head),
-    /// They are a head, whose method may be HEAD, and there was no memory for its parts.
+    /// They are a head, but memory for its parts ran out. The value is whether the method is HEAD.
     NoMemory(bool),
-    /// They are none yet, and may become one.
+    /// They are no head yet, and can become one.
     Partial,
-    /// No head begins so.
+    /// No head begins with them.
     Invalid,
     TooManyFields,
 }
 
-/// Reads a head that stands at the front of the bytes.
+/// Parses a head at the start of the bytes.
 pub(crate) fn parse(alloc: Global, text: &[u8]) -> Parsed
     ensures { IsParsed text.now result }
 {

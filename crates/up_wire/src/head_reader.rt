@@ -15,10 +15,10 @@ use httparse::spans::{EMPTY_HEADER_SPAN, parse_request};
 use httparse::{Error, Status};
 use std::alloc::Global;
 
-/// How many bytes a head may have.
+/// The maximum number of bytes of a head.
 pub(crate) const MAX_HEAD: usize = 16384;
 
-/// What came of reading a head.
+/// The result of reading a head.
 #[derive(Drop)]
 pub(crate) enum HeadRead {
     Whole(Head),
@@ -34,7 +34,7 @@ impl HeadRead {
     }
 }
 
-/// Whether the bytes are empty lines alone.
+/// Whether the bytes are only empty lines.
 fn is_blank(mut text: &[u8]) -> bool
     ensures { result ≡ is_crlfs text.now }
 {
@@ -44,7 +44,7 @@ fn is_blank(mut text: &[u8]) -> bool
     text.is_empty()
 }
 
-/// The fault of bytes that are no head, or this one where they may become a head.
+/// The fault of bytes that are no head: `waiting` if they can still become one.
 fn fault_of(text: &[u8], waiting: WireFault) -> WireFault
     requires { HasNoRequest text.now }
     ensures { IsStanding text.now waiting result }
@@ -58,8 +58,8 @@ fn fault_of(text: &[u8], waiting: WireFault) -> WireFault
     }
 }
 
-/// Reads a head, and no byte behind it. Its bytes are parsed behind its first line, so that one that is no request line is
-/// answered at once, and behind an empty line, which is where it can be whole.
+/// Reads a head, and no byte after it. Its bytes are parsed after its first line, so that a line that is not a request
+/// line is refused at once, and after each empty line, which is where the head can be whole.
 pub(crate) fn read_head<R: Source>(
     alloc: Global,
     source: &mut R,

@@ -7,7 +7,7 @@ use crate::device::{NextByte, ReadSome, Source};
 use memchr::memchr;
 use std::io::{self, BufRead, ErrorKind, Read};
 
-/// A reader of std as a source. Once the reader showed that it has no more, the source stays at its end.
+/// A reader of std as a source. Once the reader has been at its end, the source stays at its end.
 #[derive(Drop)]
 pub struct Input<R> {
     reader: R,
@@ -17,7 +17,7 @@ pub struct Input<R> {
 }
 
 impl<R> Input<R> {
-    /// Whether an error of the reader was an interruption. Otherwise the source has failed for good.
+    /// Whether an error of the reader was an interruption. If it was not, the source has failed for good.
     fn is_interrupted(&mut self, error: &io::Error) -> bool
         ensures reader { self.new.reader ≡ self.old.reader }
         ensures ended { self.new.has_ended ≡ self.old.has_ended }
@@ -37,7 +37,7 @@ impl<R> Input<R> {
 }
 
 impl<R: BufRead> Input<R> {
-    /// A source that reads from the reader.
+    /// A source that reads from this reader.
     pub fn new(reader: R) -> Input<R>
         ensures { ⟦<Input<R> as Source>⟧.device result
             ≡ device_of (R.remaining reader) false 0 }
@@ -50,7 +50,7 @@ impl<R: BufRead> Input<R> {
         }
     }
 
-    /// The reader. The source keeps no byte back.
+    /// The reader. The source holds no byte back.
     pub fn into_inner(self) -> R
         ensures { IsAtEnd (⟦<Input<R> as Source>⟧.device self).bytes
             ⊎ (R.remaining result ≡ (⟦<Input<R> as Source>⟧.device self).bytes) }
@@ -118,7 +118,7 @@ impl<R: BufRead> Source for Input<R> {
     }
 }
 
-/// The next byte of the reader, or None at its end.
+/// The next byte of the reader, or `None` at its end.
 fn take_shown<R: BufRead>(reader: &mut R) -> io::Result<Option<u8>>
     ensures bytes { IfOk result (λ found.
         Consumes (R.remaining reader.old) (R.remaining reader.new) (maybe_byte found)) }
@@ -137,7 +137,7 @@ fn take_shown<R: BufRead>(reader: &mut R) -> io::Result<Option<u8>>
     Ok(Some(byte))
 }
 
-/// How many bytes stand up to the first line feed and with it, or in all.
+/// The length of the bytes up to and with the first line feed, or of all bytes if there is none.
 fn line_length(bytes: &[u8]) -> usize
     ensures within { result ≤ length bytes.now }
     ensures in_line { IsInLine (take result bytes.now) }
@@ -149,7 +149,8 @@ fn line_length(bytes: &[u8]) -> usize
     }
 }
 
-/// Moves what the reader has at hand, or waits for some: at most so many bytes, none behind a line feed, and none at its end.
+/// Moves the bytes that the reader has available, or waits for some: at most `most`, and none after a line feed. Moves
+/// none only at the end.
 fn move_in_line<R: BufRead>(reader: &mut R, into: &mut Vec<u8>, most: usize) -> io::Result<usize>
     requires some { 0 < most }
     requires room { vec_len into.old + most ≤ vec_capacity into.old }

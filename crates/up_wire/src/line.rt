@@ -1,4 +1,4 @@
-//! One line of a source.
+//! Reading one line of a source.
 ghost use Rattle.std.specs.Prelude.{◌≡◌, ◌+◌, ◌<◌, ◌≤◌, ◌++◌, List, ℕ, vec_len};
 ghost use Rattle.std.specs.Io.KnownBytes.{Consumes};
 ghost use Rattle.up_wire.specs.Device.{Counts};
@@ -10,19 +10,19 @@ use crate::device::{ReadSome, Source};
 use crate::room::make_room;
 use crate::step::MAX_INTERRUPTIONS;
 
-/// What came of a line.
+/// The result of taking a line.
 #[derive(Clone, Copy)]
 pub(crate) enum Line {
-    /// All of it.
+    /// All of it, with its line feed.
     Whole,
-    /// So many bytes that the text is full, and no line feed.
+    /// The text is full, and has no line feed yet.
     Full,
     Ended,
     Failed,
     NoMemory,
 }
 
-/// How much room a line has at first.
+/// The room of a line at first, in bytes.
 const FIRST_ROOM: usize = 512;
 
 /// Whether the bytes end in a line feed.
@@ -35,7 +35,7 @@ fn ends_in_feed(text: &[u8]) -> bool
     }
 }
 
-/// Whether the line is a line end alone: CRLF, or a line feed.
+/// Whether the line is only a line end: CRLF, or a line feed.
 pub(crate) fn is_line_end(line: &[u8]) -> bool
     ensures { result ≡ is_line_end line.now }
 {
@@ -46,7 +46,7 @@ pub(crate) fn is_line_end(line: &[u8]) -> bool
     }
 }
 
-/// Moves the rest of a line to the end of `text`, its line feed too. The text may come to have `most` bytes.
+/// Moves the rest of a line to the end of `text`, its line feed included. The text may grow to `most` bytes.
 pub(crate) fn take_line<R: Source>(
     source: &mut R,
     interruptions: &mut u32,

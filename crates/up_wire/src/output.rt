@@ -5,7 +5,7 @@ ghost use Rattle.up_wire.specs.Device.{device_of, IsNothing, is_failed_write, in
 use crate::device::{Sink, WriteSome};
 use std::io::{self, ErrorKind, Write};
 
-/// A writer of std as a sink. A write that takes nothing, though it was given something, is a failed one.
+/// A writer of std as a sink. A write that takes nothing of a slice that is not empty counts as failed.
 #[derive(Drop)]
 pub struct Output<W> {
     writer: W,
@@ -14,7 +14,7 @@ pub struct Output<W> {
 }
 
 impl<W> Output<W> {
-    /// Notes an error of the writer: it was interrupted, or has failed for good.
+    /// Records an error of the writer: it was interrupted, or has failed for good.
     fn note(&mut self, error: &io::Error) -> WriteSome
         ensures writer { self.new.writer ≡ self.old.writer }
         ensures nothing { IsNothing result }
@@ -33,7 +33,7 @@ impl<W> Output<W> {
         WriteSome::Failed
     }
 
-    /// What the sink answers where the writer answered so to `most` bytes.
+    /// What the sink returns for this result of the writer, which was given `most` bytes.
     fn answer(&mut self, written: io::Result<usize>, most: usize) -> WriteSome
         requires { IsFalse self.old.has_failed }
         ensures answer { IsWriteAnswer written most self.old.interruptions result }
@@ -54,7 +54,7 @@ impl<W> Output<W> {
 }
 
 impl<W: Write> Output<W> {
-    /// A sink that writes to the writer.
+    /// A sink that writes to this writer.
     pub fn new(writer: W) -> Output<W>
         ensures { ⟦<Output<W> as Sink>⟧.device result
             ≡ device_of (W.contents writer) false 0 }

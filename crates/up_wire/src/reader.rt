@@ -11,17 +11,22 @@ use crate::write::continue_if_asked;
 use std::alloc::Global;
 use up_message::Sequence;
 
-/// Reads the next message of HTTP/1.0 or HTTP/1.1, and no byte behind it (RFC 9112). Empty lines in front of it are
-/// dropped. The sink takes `100 Continue` alone, where the client waits for it (RFC 9110, section 10.1.1).
+/// Reads the next message of HTTP/1.0 or HTTP/1.1, and no byte after it (RFC 9112). Empty lines before it are dropped.
+/// Only `100 Continue` is written to the sink, if the client waits for it (RFC 9110, section 10.1.1).
 ///
-/// The head has at most 16,384 bytes and 64 fields. The body has the bytes that `Content-Length` says, or is in chunks,
-/// and has at most `limits.max_body` bytes; it takes memory only as they come. Trailer fields are read and dropped.
+/// The head has at most 16,384 bytes and 64 fields. The body has the number of bytes in `Content-Length`, or is
+/// chunked, and has at most `limits.max_body` bytes. It takes memory only as its bytes arrive. Trailer fields are read
+/// and dropped.
 ///
-/// The faults, in the order in which they are looked for: `BadHead` where no head begins so or the input ends inside
-/// one; `HeadTooLarge`; `BadFraming`, `UnknownCoding` and `BodyTooLarge` where the fields say so, and where the chunks
-/// do; `ReadFailed` where a read failed before the head was whole; `WriteFailed` where `100 Continue` wasn't taken; and
-/// `NoMemory` where a growth was refused. The 1,000th interruption of a call, reads and writes together, counts as a
-/// failed read or write.
+/// The faults:
+/// - `BadHead` if no head begins with these bytes, or the input ends inside one;
+/// - `HeadTooLarge` if the head exceeds a limit;
+/// - `BadFraming`, `UnknownCoding` and `BodyTooLarge` if the fields or the chunks are at fault;
+/// - `ReadFailed` if a read failed before the head was whole;
+/// - `WriteFailed` if `100 Continue` was not written completely;
+/// - `NoMemory` if memory ran out.
+///
+/// The 1,000th interruption of a call, reads and writes together, counts as a failed read or write.
 pub fn read_message<R: Source, W: Sink>(
     alloc: Global,
     source: &mut R,

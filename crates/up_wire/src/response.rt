@@ -40,7 +40,7 @@ fn write_fields<W: Sink>(sink: &mut W, fields: &[Field], interruptions: &mut u32
     true
 }
 
-/// The phrase of a status.
+/// The reason phrase of a status.
 fn phrase(status: u16) -> &'static str
     ensures { result.now ≡ phrase status }
 {
@@ -92,7 +92,7 @@ fn write_length<W: Sink>(
     write_each(sink, &pieces, interruptions)
 }
 
-/// Writes the pieces of a run, one after another.
+/// Writes the pieces of a run, in order.
 fn write_run<W: Sink>(sink: &mut W, run: &Run, interruptions: &mut u32) -> bool
     requires { interruptions.old < max_interruptions }
     ensures written { WritesIf (W.device sink.old).bytes (W.device sink.new).bytes run.now result }
@@ -102,7 +102,7 @@ fn write_run<W: Sink>(sink: &mut W, run: &Run, interruptions: &mut u32) -> bool
     write_pieces(sink, run.pieces(), interruptions)
 }
 
-/// Writes pieces, one after another.
+/// Writes pieces, in order.
 fn write_pieces<W: Sink>(sink: &mut W, pieces: &[Piece], interruptions: &mut u32) -> bool
     requires { interruptions.old < max_interruptions }
     ensures written { WritesIf (W.device sink.old).bytes (W.device sink.new).bytes
@@ -118,7 +118,7 @@ fn write_pieces<W: Sink>(sink: &mut W, pieces: &[Piece], interruptions: &mut u32
     true
 }
 
-/// Writes runs, one after another.
+/// Writes runs, in order.
 fn write_runs<W: Sink>(sink: &mut W, runs: &[Run], interruptions: &mut u32) -> bool
     requires { interruptions.old < max_interruptions }
     ensures written { WritesIf (W.device sink.old).bytes (W.device sink.new).bytes
@@ -161,7 +161,7 @@ fn write_gap<W: Sink>(sink: &mut W, close: bool, interruptions: &mut u32) -> boo
     write_each(sink, &pieces, interruptions)
 }
 
-/// Writes what follows the length.
+/// Writes everything after the line with the length.
 fn write_end<W: Sink>(
     sink: &mut W,
     body: &Segments,
@@ -184,7 +184,9 @@ fn write_end<W: Sink>(
     write_body(sink, body, interruptions)
 }
 
-/// Writes a response. No memory is taken.
+/// Writes a response. `bare` leaves out the body and its length, and `close` adds `Connection: close`. It takes no
+/// memory. `WriteFailed` if the sink failed, or was interrupted 1,000 times: a prefix of the response may then be
+/// written.
 pub fn write_response<W: Sink>(
     sink: &mut W,
     response: &Response,

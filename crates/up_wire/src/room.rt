@@ -1,12 +1,13 @@
-//! Room for bytes that come.
+//! Room for bytes that arrive.
 ghost use Rattle.std.specs.Prelude.{◌≡◌, ◌*◌, ◌<◌, ◌≤◌, true, max, min, vec_len, vec_capacity};
 
-/// A buffer of at most so many bytes grows into memory of its own, to which its bytes are copied. A larger one grows where it
-/// lies, or its pages are moved. The C library would copy a small one too, but with the lock held that all threads share.
+/// A buffer of at most this many bytes grows by a copy of its bytes into new memory. A larger buffer grows in place, or
+/// its pages are moved. The C library would copy a small buffer too, but while it holds the lock that all threads
+/// share.
 const MOST_COPIED: usize = 1 << 19;
 
-/// Makes room for a byte at least, where the buffer may come to have `most` bytes: a buffer that is nearly full doubles, or
-/// has `first` bytes of room at first, but not past `most`. Answers whether there is room.
+/// Makes room for at least one byte in a buffer that may grow to `most` bytes. A buffer that is nearly full doubles, or
+/// gets `first` bytes of room at first, but no more than `most`. Returns whether there is room.
 pub(crate) fn make_room(buffer: &mut Vec<u8>, most: u64, first: usize) -> bool
     requires some { 0 < first }
     requires within { vec_len buffer.old < most }
@@ -27,7 +28,7 @@ pub(crate) fn make_room(buffer: &mut Vec<u8>, most: u64, first: usize) -> bool
     move_to_room(buffer, len + growth)
 }
 
-/// Moves the bytes to a buffer of their own with room for so many. Answers whether there was memory for it.
+/// Moves the bytes to new memory with room for `room` bytes. Returns whether there was memory for it.
 fn move_to_room(buffer: &mut Vec<u8>, room: usize) -> bool
     requires within { vec_len buffer.old < room }
     ensures items { buffer.new.items ≡ buffer.old.items }
@@ -39,7 +40,7 @@ fn move_to_room(buffer: &mut Vec<u8>, room: usize) -> bool
         return false;
     }
     let given = larger.capacity();
-    // std promises of no call that fills a buffer that it takes no more room than there is.
+    // std does not promise that filling a buffer takes no more room than there is.
     if larger.extend_from_slice(buffer).is_err() || larger.capacity() > given {
         return false;
     }

@@ -1,4 +1,4 @@
-//! A buffer in memory as a sink, which is interrupted and fails as it is told to.
+//! A buffer in memory as a sink, with interruptions and failures on request.
 ghost use Rattle.std.specs.Prelude.{◌≡◌, ◌+◌, false, length, [], IsTrue, Some, IfOk};
 ghost use Rattle.std.specs.Io.KnownBytes.{Appends, Keeps};
 ghost use Rattle.up_wire.specs.Device.{device_of, taken, is_failed_write, interrupted_writes, TakesSome};
@@ -8,8 +8,8 @@ use crate::device::{Sink, WriteSome};
 use std::alloc::{AllocError, Global};
 use std::marker::Model;
 
-/// A buffer in memory as a sink, for trying what writes to one. It answers Interrupted so many times, then takes as many
-/// bytes as it has room for in all, and then answers Failed to more.
+/// A buffer in memory as a sink, for testing code that writes to a sink. It first returns `Interrupted` a number of
+/// times, then takes bytes until its room is used up, and then returns `Failed` for more.
 #[derive(Drop)]
 pub struct Slip {
     bytes: Vec<u8>,
@@ -38,8 +38,8 @@ impl Model for Slip {
 }
 
 impl Slip {
-    /// A sink with room for so many bytes, which is interrupted so many times before it takes the first. All its memory
-    /// is taken here; there is an error where it is refused.
+    /// A sink with room for `room` bytes, which is interrupted `interruptions` times before it takes the first. All its
+    /// memory is allocated here; `AllocError` if memory runs out.
     pub fn new(alloc: Global, room: usize, interruptions: u64) -> Result<Slip, AllocError>
         ensures device { IfOk result (λ slip. slip_device slip ≡ device_of (Some []) false 0) }
         ensures room { IfOk result (λ slip. slip.room ≡ room) }

@@ -1,4 +1,4 @@
-//! One byte of a source, where an interrupted read is tried again.
+//! Reading one byte of a source. An interrupted read is retried.
 ghost use Rattle.std.specs.Prelude.{◌<◌};
 ghost use Rattle.std.specs.Io.KnownBytes.{Consumes};
 ghost use Rattle.up_wire.specs.Device.{Counts};
@@ -18,7 +18,7 @@ pub(crate) enum Step {
     Failed,
 }
 
-/// The next byte, where an interrupted read is tried again.
+/// Takes the next byte. Retries an interrupted read.
 pub(crate) fn take_step<R: Source>(source: &mut R, interruptions: &mut u32) -> Step
     requires { interruptions.old < max_interruptions }
     ensures bytes { Consumes (R.device source.old).bytes (R.device source.new).bytes

@@ -1,25 +1,25 @@
-//! What a caller allows a message, and what came of reading one.
+//! The caller's limits for a message, and the result of reading one.
 use crate::wire_fault::WireFault;
 use up_message::Message;
 
-/// What a caller allows.
+/// The caller's limits.
 #[derive(Clone, Copy, Debug, PartialEq, Eq)]
 pub struct Limits {
-    /// The most bytes that a body may have.
+    /// The maximum number of bytes of a body.
     pub max_body: u64,
 }
 
-/// What came of reading a message.
+/// The result of reading a message.
 #[derive(Drop)]
 pub enum Taken {
     Message(Message),
-    /// The input ended, or a read failed, inside the body. The message has the bytes of the body that came.
+    /// The input ended, or a read failed, inside the body. The message has the bytes of the body that arrived.
     Cut(Message),
     Fault {
         fault: WireFault,
-        /// Whether the method is HEAD, where the head is whole.
+        /// Whether the method is HEAD, if the head is whole.
         bare: bool,
     },
-    /// The input ended before any byte of a message, empty lines aside.
+    /// The input ended before any byte of a message. Empty lines do not count.
     End,
 }

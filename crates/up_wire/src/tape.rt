@@ -1,4 +1,4 @@
-//! Bytes in memory as a source, which is interrupted and fails as it is told to.
+//! Bytes in memory as a source, with interruptions and failures on request.
 ghost use Rattle.std.specs.Prelude.{◌≡◌, ◌+◌, false, IsTrue, Some};
 ghost use Rattle.std.specs.Io.KnownBytes.{Consumes};
 ghost use Rattle.up_wire.specs.Device.{device_of, given, is_failed_read, interrupted_reads, EndsAt};
@@ -7,8 +7,8 @@ ghost use Rattle.up_wire.specs.InMemory.{tape_answer, tape_device};
 use crate::device::{NextByte, Source};
 use std::marker::Model;
 
-/// Bytes in memory as a source, for trying what reads from one. It answers Interrupted so many times, then gives its
-/// bytes one at a time, and behind the last answers Failed, where it is to fail, or else End.
+/// Bytes in memory as a source, for testing code that reads from a source. It first returns `Interrupted` a number of
+/// times, then its bytes one at a time, and after the last one `Failed` if it is to fail, and otherwise `End`.
 #[derive(Drop)]
 pub struct Tape<'a> {
     bytes: &'a [u8],
@@ -36,8 +36,8 @@ impl<'a> Model for Tape<'a> {
 }
 
 impl<'a> Tape<'a> {
-    /// A source of these bytes, which is interrupted so many times before the first, and fails behind the last or ends
-    /// there.
+    /// A source of these bytes, which is interrupted `interruptions` times before the first. After the last it fails if
+    /// `fails`, and otherwise ends.
     pub fn new(bytes: &'a [u8], interruptions: u64, fails: bool) -> Tape<'a>
         ensures device { tape_device result ≡ device_of (Some bytes.now) false 0 }
         ensures waits { result.waits ≡ interruptions }

@@ -1,4 +1,4 @@
-//! Writing texts of any kind.
+//! Writing any text.
 ghost use Rattle.std.specs.Prelude.{◌<◌, ◌≤◌, OnOk, OnErr};
 ghost use Rattle.std.specs.Io.KnownBytes.{Keeps};
 ghost use Rattle.up_wire.specs.Device.{GaveUp, interrupted};
@@ -9,13 +9,13 @@ use crate::device::Sink;
 use crate::write::{send_on, write_each};
 use thiserror::Error;
 
-/// A write failed, so that the text is not whole.
+/// A write failed, so that the text is incomplete.
 #[derive(Clone, Copy, Debug, PartialEq, Eq, Error)]
 #[error("write failed")]
 pub struct WriteFailed;
 
-/// Writes the pieces, one after another. It takes no memory. An error comes where the sink failed, or was interrupted
-/// 1,000 times: a front of the text may then be written.
+/// Writes the pieces, in order. It takes no memory. `WriteFailed` if the sink failed, or was interrupted 1,000 times: a
+/// prefix of the text may then be written.
 pub fn write_pieces<W: Sink>(sink: &mut W, pieces: &[&[u8]]) -> Result<(), WriteFailed>
     ensures written { Writes (W.device sink.old).bytes (W.device sink.new).bytes
         (joined pieces.now) result }
@@ -32,7 +32,7 @@ pub fn write_pieces<W: Sink>(sink: &mut W, pieces: &[&[u8]]) -> Result<(), Write
     Ok(())
 }
 
-/// Has the sink send on what it holds back. An error comes where it failed, or was interrupted 1,000 times.
+/// Makes the sink send everything that it holds back. `WriteFailed` if the sink failed, or was interrupted 1,000 times.
 pub fn flush<W: Sink>(sink: &mut W) -> Result<(), WriteFailed>
     ensures kept { Keeps (W.device sink.old).bytes (W.device sink.new).bytes }
     ensures patient { OnOk result

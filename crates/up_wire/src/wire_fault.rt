@@ -3,32 +3,33 @@ ghost use Rattle.std.specs.Prelude.{◌≡◌};
 
 use thiserror::Error;
 
-/// Why no message was read. The conversation closes behind it.
+/// Why no message was read. The connection closes after it.
 #[derive(Clone, Copy, Debug, PartialEq, Eq, Error)]
 pub enum WireFault {
-    /// No head of HTTP/1.0 or HTTP/1.1 begins so, or the input ends inside a head (RFC 9112, sections 2.2, 3 and 5).
+    /// No head of HTTP/1.0 or HTTP/1.1 begins with these bytes, or the input ends inside a head (RFC 9112, sections
+    /// 2.2, 3 and 5).
     #[error("bad head")]
     BadHead,
     /// A head has more than 16,384 bytes or more than 64 fields (RFC 6585, section 5).
     #[error("head too large")]
     HeadTooLarge,
-    /// The fields contradict each other on the length of the body, or chunks are malformed (RFC 9112, sections 6
-    /// and 7.1).
+    /// The fields contradict each other about the length of the body, or chunks are malformed (RFC 9112, sections 6 and
+    /// 7.1).
     #[error("bad framing")]
     BadFraming,
     /// A transfer coding other than `chunked` (RFC 9112, section 6.1).
     #[error("unknown transfer coding")]
     UnknownCoding,
-    /// The body is above the limit (RFC 9110, section 15.5.14).
+    /// The body exceeds the limit (RFC 9110, section 15.5.14).
     #[error("body too large")]
     BodyTooLarge,
-    /// A read failed before a head was whole.
+    /// A read failed before the head was whole.
     #[error("read failed")]
     ReadFailed,
-    /// There was no memory for the message.
+    /// Memory for the message ran out.
     #[error("out of memory")]
     NoMemory,
-    /// A write of `100 Continue` failed.
+    /// Writing `100 Continue` failed.
     #[error("write failed")]
     WriteFailed,
 }
@@ -36,8 +37,8 @@ pub enum WireFault {
 impl WireFault {
     ghost use Rattle.up_wire.specs.WireFaults.{status_of, line_of};
 
-    /// The status code of the answer (RFC 9110, section 15). `ReadFailed` and `WriteFailed` are not answered, and have
-    /// none.
+    /// The status code of the response (RFC 9110, section 15). `ReadFailed` and `WriteFailed` get no response, and have
+    /// no status.
     pub fn status(&self) -> Option<u16>
         ensures { result ≡ status_of self.now }
     {
@@ -51,7 +52,7 @@ impl WireFault {
         }
     }
 
-    /// The body of the answer: a line with the number of the fault and its name.
+    /// The body of the response: a line with the number of the fault and its name.
     pub fn text(&self) -> &'static str
         ensures { result.now ≡ line_of self.now }
     {

@@ -14,7 +14,7 @@ use crate::framing::Framing;
 use crate::head::Head;
 use crate::step::MAX_INTERRUPTIONS;
 
-/// Writes all the bytes, where an interrupted write is tried again. Answers whether all were taken.
+/// Writes all bytes. Retries an interrupted write. Returns whether all bytes were taken.
 pub(crate) fn write_all<W: Sink>(sink: &mut W, bytes: &[u8], interruptions: &mut u32) -> bool
     requires { interruptions.old < max_interruptions }
     ensures written { (front : List ℕ) × IsFront front bytes.now
@@ -39,7 +39,7 @@ pub(crate) fn write_all<W: Sink>(sink: &mut W, bytes: &[u8], interruptions: &mut
     true
 }
 
-/// Writes the pieces, one after another.
+/// Writes the pieces, in order. Returns whether all bytes were taken.
 pub(crate) fn write_each<W: Sink>(sink: &mut W, pieces: &[&[u8]], interruptions: &mut u32) -> bool
     requires { interruptions.old < max_interruptions }
     ensures written { WritesIf (W.device sink.old).bytes (W.device sink.new).bytes
@@ -55,7 +55,7 @@ pub(crate) fn write_each<W: Sink>(sink: &mut W, pieces: &[&[u8]], interruptions:
     true
 }
 
-/// Has the sink send on what it holds back, where an interrupted try is repeated. Answers whether it did.
+/// Makes the sink send everything that it holds back. Retries an interrupted try. Returns whether it succeeded.
 pub(crate) fn send_on<W: Sink>(sink: &mut W, interruptions: &mut u32) -> bool
     requires { interruptions.old < max_interruptions }
     ensures kept { Keeps (W.device sink.old).bytes (W.device sink.new).bytes }
@@ -76,7 +76,7 @@ pub(crate) fn send_on<W: Sink>(sink: &mut W, interruptions: &mut u32) -> bool
     }
 }
 
-/// Whether a body may follow in this framing.
+/// Whether a body may follow with this framing.
 fn has_body(framing: Framing) -> bool
     ensures { result ≡ has_body framing }
 {
@@ -87,7 +87,7 @@ fn has_body(framing: Framing) -> bool
     }
 }
 
-/// Writes `100 Continue` where the client waits for it. Answers whether all of it was taken.
+/// Writes `100 Continue` if the client waits for it. Returns whether all of it was taken.
 pub(crate) fn continue_if_asked<W: Sink>(
     sink: &mut W,
     head: &Head,

@@ -1,18 +1,18 @@
--- How large a server may be.
+-- The limits of a server.
 use Rattle.std.specs.Prelude.{ℕ}
 
--- how many items the queue of a lane may hold
+-- the maximum number of items in the queue of a lane
 abbrev pub most_capacity : ℕ
 most_capacity = 4096
 
--- how many connections a server may be asked for by their number
+-- the maximum number of connections after which a server can be asked to end
 abbrev pub most_connections : ℕ
 most_connections = 65536
 
--- how many connections may be open at a time
+-- the maximum number of connections that are open at a time
 abbrev pub most_open : ℕ
 most_open = 4096
 
--- the greatest shard that there can be
+-- the greatest possible shard
 abbrev pub most_shard : ℕ
 most_shard = 255

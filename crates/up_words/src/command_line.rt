@@ -12,14 +12,14 @@ use clap::{Arg, ArgAction, ArgMatches, Command, Error};
 use std::alloc::{AllocError, Global};
 use up_events::{MOST_BYTES, MOST_LANES};
 
-/// What `--version` tells: the version of the program, and the logic of the toolchain by which it is proved, as `rt
-/// version` has it.
+/// The output of `--version`: the version of the program, and the logic of the toolchain that proved it, as in
+/// `rt version`.
 pub const VERSION: &str = "1.0.0\nproved by Rattle's logic dac8208d650f15bf";
 
-/// Why the command line asks for nothing.
+/// Why the command line could not be read.
 #[derive(Debug, Drop, thiserror::Error)]
 pub enum WordsFault {
-    /// `clap` refuses the words, or was asked for help or the version. Its error has the text for the user.
+    /// `clap` refuses the words, or was asked for help or the version. Its error contains the text for the user.
     #[error(transparent)]
     Refused(Error),
     #[error("out of memory")]
@@ -42,13 +42,13 @@ impl From<Error> for WordsFault {
     }
 }
 
-/// What stands behind a word.
+/// The value of a word.
 #[derive(Clone, Copy)]
 enum Kind<'a> {
     Nothing,
-    /// A text, by the name that the help gives it.
+    /// A text, with its name in the help.
     Text(&'a str),
-    /// A number between these, both included.
+    /// A number between these two, inclusive.
     Number(u64, u64),
 }
 
@@ -57,12 +57,12 @@ enum Kind<'a> {
 struct Word<'a> {
     name: &'a str,
     kind: Kind<'a>,
-    /// What stands behind it where it isn't given.
+    /// The value if the word is not given.
     default: Option<&'a str>,
     help: &'a str,
 }
 
-/// The words that any server has: how large it is, and what it refuses.
+/// The words of every server: its size, and what it refuses.
 const COMMON: [Word<'static>; 7] = [
     Word {
         name: "lanes",
@@ -108,7 +108,7 @@ const COMMON: [Word<'static>; 7] = [
     },
 ];
 
-/// The words that say which connections are served, and what is told meanwhile.
+/// The words that say which connections are served, and what is reported meanwhile.
 const CONNECTIONS: [Word<'static>; 11] = [
     Word {
         name: "address",
@@ -178,7 +178,7 @@ const CONNECTIONS: [Word<'static>; 11] = [
     },
 ];
 
-/// A word, as `clap` is told of it.
+/// A word in the form that `clap` takes.
 fn arg_of<'a>(alloc: Global, word: Word<'a>) -> Arg<'a> {
     let arg = Arg::new(alloc, word.name).long(word.name).help(word.help);
     let arg = match word.kind {
@@ -194,7 +194,7 @@ fn arg_of<'a>(alloc: Global, word: Word<'a>) -> Arg<'a> {
     }
 }
 
-/// A command that knows these words too.
+/// The command with these words added.
 fn with_words<'a>(
     alloc: Global,
     mut command: Command<'a>,
@@ -222,7 +222,7 @@ fn serve<'a>(alloc: Global) -> Result<Command<'a>, AllocError> {
     with_words(alloc, with_words(alloc, serve, &CONNECTIONS)?, &COMMON)
 }
 
-/// The words that are known.
+/// The command with all words.
 fn command<'a>(alloc: Global) -> Result<Command<'a>, AllocError> {
     let up = Command::new(alloc, "up")
         .about("An upload server for the tus resumable upload protocol 1.0.0")
@@ -233,7 +233,7 @@ fn command<'a>(alloc: Global) -> Result<Command<'a>, AllocError> {
     up.subcommand(replay(alloc)?)?.subcommand(serve(alloc)?)
 }
 
-/// A number of the command line. `clap` has seen to its limits.
+/// A number from the command line. `clap` has checked its limits.
 fn value_of(matches: &ArgMatches<'_>, id: &str, most: u64) -> u64
     requires { 1 ≤ most }
     ensures { (1 ≤ result) × (result ≤ most) }
@@ -241,7 +241,7 @@ fn value_of(matches: &ArgMatches<'_>, id: &str, most: u64) -> u64
     matches.get_one::<u64>(id).unwrap_or(1).clamp(1, most)
 }
 
-/// A number of the command line, where it is given. `clap` has seen to its limits.
+/// A number from the command line, if it is given. `clap` has checked its limits.
 fn number_of(matches: &ArgMatches<'_>, id: &str, most: u64) -> Option<u64>
     requires { 1 ≤ most }
     ensures { IfSome result (λ number. (1 ≤ number) × (number ≤ most)) }
@@ -250,13 +250,13 @@ fn number_of(matches: &ArgMatches<'_>, id: &str, most: u64) -> Option<u64>
     Some(number.clamp(1, most))
 }
 
-/// The byte of a shard, where it is given. `clap` has seen to its limits.
+/// The byte of a shard, if it is given. `clap` has checked its limits.
 fn shard_of(serve: &ArgMatches<'_>) -> Option<u8> {
     let number = serve.get_one::<u64>("shard")?;
     Some(number.min(MOST_SHARD) as u8)
 }
 
-/// A text of the command line, where it is given.
+/// A text from the command line, if it is given.
 fn text_of(alloc: Global, matches: &ArgMatches<'_>, id: &str) -> Result<Option<String>, AllocError>
     ensures { IfOk result (λ text. option_map string_bytes text ≡ first_value (found_of matches.now) id.now) }
 {
@@ -266,7 +266,7 @@ fn text_of(alloc: Global, matches: &ArgMatches<'_>, id: &str) -> Result<Option<S
     }
 }
 
-/// Which connections the words behind `serve` ask for.
+/// The connections that the words after `serve` ask for.
 fn serving_of(alloc: Global, serve: &ArgMatches<'_>) -> Result<Serving, AllocError> {
     Ok(Serving {
         address: text_of(alloc, serve, "address")?.unwrap_or(String::new(alloc)),
@@ -283,7 +283,7 @@ fn serving_of(alloc: Global, serve: &ArgMatches<'_>) -> Result<Serving, AllocErr
     })
 }
 
-/// What the words behind `replay` or `serve` ask for.
+/// What the words after `replay` or `serve` ask for.
 fn words_of(
     alloc: Global,
     matches: &ArgMatches<'_>,
@@ -303,9 +303,8 @@ fn words_of(
     })
 }
 
-/// Reads the words behind the program's name. Refused comes for words that are not known, for a word that lacks its
-/// value or stands twice, for a number outside its limits, for `--help` and for `--version`; Memory where memory is
-/// wanting.
+/// Reads the words after the program's name. `Refused` for an unknown word, for a word that lacks its value or is given
+/// twice, for a number outside its limits, and for `--help` and `--version`. `Memory` if memory runs out.
 pub fn words(alloc: Global, words: Vec<String>) -> Result<Words, WordsFault> {
     let matches = command(alloc)?.try_get_matches_from(words.as_slice())?;
     match matches.subcommand() {

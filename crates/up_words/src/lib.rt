@@ -1,5 +1,5 @@
-//! The words of the command line: how large the server is that they ask for, which rules it keeps, and which
-//! connections it serves.
+//! The words of the command line: the size of the server that they ask for, the rules that it enforces, and the
+//! connections that it serves.
 #![tactic(auto)]
 
 mod command_line;

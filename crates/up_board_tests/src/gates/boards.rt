@@ -1,4 +1,5 @@
-//! A closure that is asked about a request from one seat of a board and waits until a request from another was answered.
+//! A closure that is asked about a request from one seat of a board, and waits until a request from another seat got
+//! its response.
 ghost use Rattle.std.specs.Prelude.{◌≡◌, IsTrue, length};
 ghost use Rattle.up_dispatch.specs.Parts.{IsNamed};
 ghost use Rattle.up_hooks.specs.Verdicts.{is_lawful};
@@ -31,7 +32,7 @@ fn talk_from<B: Naming, R: Wait>(
     talk(alloc, &mut keeper, hooks, &mut Counting::new(), asked)
 }
 
-/// Asks from the seat once the closure was called.
+/// Sends a request from the seat once the closure was called.
 fn talk_meanwhile<B: Naming, R: Wait>(
     rt: &R,
     alloc: Global,
@@ -46,7 +47,7 @@ fn talk_meanwhile<B: Naming, R: Wait>(
     (was_called, written)
 }
 
-/// An upload is made from one seat, and asked for from the other.
+/// An upload is created from one seat, and requested from the other.
 fn talk_from_two_seats<B: Naming + Send + Sync, R: Threads + Wait + Abort + Sync>(
     rt: &R,
     alloc: Global,
@@ -68,7 +69,7 @@ fn talk_from_two_seats<B: Naming + Send + Sync, R: Threads + Wait + Abort + Sync
     Ok(())
 }
 
-/// Two seats of a new board of these parts.
+/// Two seats of a new board with these parts.
 fn two_seats<B: Naming + Send + Sync, R: Threads + Wait + Abort + Sync>(
     rt: &R,
     alloc: Global,

@@ -1,4 +1,4 @@
-//! A lane whose post-hook is refused memory: it stops, nobody else does, and it goes on where it stood.
+//! A lane whose post-hook runs out of memory: only this lane stops, and it continues where it stopped.
 ghost use Rattle.std.specs.Prelude.{◌≡◌, All, [], IfOk, length};
 ghost use Rattle.up_dispatch.specs.Parts.{IsNamed};
 
@@ -16,7 +16,7 @@ use up_dispatch::{Board, BoardParts, LaneReport, Naming, Report, Seat, Seated};
 use up_hooks::PostHook;
 use up_lanes::{How, Lane, LaneEnd};
 
-/// The requests are answered from the seat.
+/// The requests get their responses from the seat.
 fn answered<B: Naming, R: Wait + Abort>(
     rt: &R,
     alloc: Global,
@@ -27,7 +27,7 @@ fn answered<B: Naming, R: Wait + Abort>(
     Ok(seat)
 }
 
-/// Holds that lane 0 stopped once it had two events.
+/// Checks that lane 0 stopped after two events.
 fn has_stopped(rt: &impl Abort, ends: &[LaneEnd<Listing>]) -> Result<(), Fail> {
     let Some(first) = ends.first() else {
         return Err("a lane".into());
@@ -37,7 +37,7 @@ fn has_stopped(rt: &impl Abort, ends: &[LaneEnd<Listing>]) -> Result<(), Fail> {
     Ok(())
 }
 
-/// Runs each lane again from where it stood, in a thread of its own.
+/// Runs each lane again from where it stopped, in a thread of its own.
 fn resume_each<B: Naming + Send + Sync, R: Threads + Wait + Sync>(
     rt: &R,
     board: &Board<B>,
@@ -56,7 +56,7 @@ fn resume_each<B: Naming + Send + Sync, R: Threads + Wait + Sync>(
     )
 }
 
-/// The lanes as they ended, or as they end once they are resumed where that is wanted.
+/// The lanes as they ended, or, if `is_resumed`, as they end after they are resumed.
 fn ends_of<B: Naming + Send + Sync, R: Threads + Wait + Sync>(
     rt: &R,
     board: &Board<B>,
@@ -73,7 +73,7 @@ fn ends_of<B: Naming + Send + Sync, R: Threads + Wait + Sync>(
     }
 }
 
-/// The report on a board of two lanes that run while the requests are answered, and again afterwards where that is wanted.
+/// The report of a board of two lanes that run during the requests and, if `is_resumed`, again afterwards.
 fn stopped<B: Naming + Send + Sync, R: Threads + Wait + Abort + Sync>(
     rt: &R,
     alloc: Global,
@@ -107,7 +107,7 @@ fn stopped<B: Naming + Send + Sync, R: Threads + Wait + Abort + Sync>(
     finished(alloc, board, seats, ends)
 }
 
-/// That report, where the post-hook of lane 0 is refused memory so often once it has two events.
+/// That report if the post-hook of lane 0 runs out of memory `refusals` times after two events.
 fn reported<R: Threads + Wait + Abort + Sync>(
     rt: &R,
     alloc: Global,
@@ -119,12 +119,12 @@ fn reported<R: Threads + Wait + Abort + Sync>(
     stopped::<Brand, _>(rt, alloc, parts, hooks, is_resumed)
 }
 
-/// The lane, how it ended, how many events were left and how many were handed over.
+/// The lane, how it ended, the number of events left, and the number handed over.
 fn told(lane: &LaneReport<Listing>) -> (u64, How, u64, usize) {
     (lane.lane, lane.how, lane.left, lane.hook.events.len())
 }
 
-/// Holds that lane 0 was handed so many of its events, and lane 1 all of its own.
+/// Checks that lane 0 was handed `count` of its events, and lane 1 all of its own.
 fn hold(
     rt: &impl Abort,
     report: &Report<Listing>,

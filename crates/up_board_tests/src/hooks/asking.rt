@@ -12,14 +12,14 @@ use up_hooks::{PreHook, PreHooks};
 use up_machine::{Ask, Asked, Point, Reason, Verdict};
 use up_message::Sequence;
 
-/// With what a closure refuses: a status and a reason.
+/// The refusal of a closure: a status and a reason.
 type Refusal = (u16, &'static str);
 
 const MISSING: Option<Refusal> = Some((422, "metadata key missing"));
 
 const KEPT: Option<Refusal> = Some((403, "uploads are kept"));
 
-/// The closure's answer: it refuses so, or allows.
+/// The closure's verdict: it refuses in this way, or allows.
 fn verdict_of(refusal: Option<Refusal>) -> Result<Verdict, Fail> {
     let Some((status, text)) = refusal else {
         return Ok(Verdict::Allow);
@@ -28,7 +28,7 @@ fn verdict_of(refusal: Option<Refusal>) -> Result<Verdict, Fail> {
     Ok(Verdict::Refuse { status, reason })
 }
 
-/// The answer of all closures of a point: one refuses so, or none does.
+/// The verdict of all closures of a point: one refuses in this way, or none does.
 fn asked_of(point: Point, refusal: Option<Refusal>) -> Result<Asked, Fail> {
     let Some((status, text)) = refusal else {
         return Ok(if point == Point::Finish {
@@ -41,7 +41,7 @@ fn asked_of(point: Point, refusal: Option<Refusal>) -> Result<Asked, Fail> {
     Ok(Asked::Refused { status, reason })
 }
 
-/// Counts a call, and gives this verdict, if a closure may answer so. Otherwise it allows.
+/// Counts a call, and returns this verdict, if a closure may return it. Otherwise it allows.
 fn counted(calls: &AtomicU64, verdict: Verdict) -> Verdict
     ensures { IsTrue (is_lawful result) }
 {
@@ -55,7 +55,7 @@ fn counted(calls: &AtomicU64, verdict: Verdict) -> Verdict
     }
 }
 
-/// What is asked about an upload of this length.
+/// The question about an upload of this length.
 fn ask_of(alloc: Global, point: Point, length: u64) -> Ask {
     Ask {
         point,
@@ -67,7 +67,7 @@ fn ask_of(alloc: Global, point: Point, length: u64) -> Ask {
     }
 }
 
-/// So many counts of calls.
+/// `count` counters of calls.
 fn new_counters(alloc: Global, count: usize) -> Result<Vec<Arc<AtomicU64>>, AllocError> {
     let mut counters = Vec::new(alloc);
     for _ in 0..count {
@@ -76,7 +76,7 @@ fn new_counters(alloc: Global, count: usize) -> Result<Vec<Arc<AtomicU64>>, Allo
     Ok(counters)
 }
 
-/// Holds that all closures of a point answer this together.
+/// Checks that all closures of a point together return this.
 fn hold_answer(
     rt: &impl Abort,
     alloc: Global,
@@ -89,7 +89,8 @@ fn hold_answer(
     Ok(())
 }
 
-/// Holds that closures that refuse so, or allow, are called as often as is said behind each, and that together they answer this.
+/// Checks that closures that refuse in this way, or allow, are called as often as the number after each says, and what
+/// they return together.
 fn hold(
     rt: &impl Abort,
     alloc: Global,

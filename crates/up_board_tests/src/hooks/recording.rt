@@ -1,4 +1,4 @@
-//! Post-hooks that keep what they were handed.
+//! Post-hooks that keep the events that they were handed.
 ghost use Rattle.std.specs.Prelude.{IsTrue};
 ghost use Rattle.up_hooks.specs.Told.{has_code};
 
@@ -18,7 +18,7 @@ fn event(number: u64, hook: Hook, offset: u64) -> Event {
     }
 }
 
-/// The events of these pairs, handed over one after another, with what came of each.
+/// Hands over the events of these pairs, in order, and returns them with the outcomes.
 fn hand_all<H: PostHook>(
     alloc: Global,
     hook: &mut H,

@@ -1,4 +1,4 @@
-//! What the tests of lanes are made of: items for a queue, and a post-hook that can be refused memory.
+//! The parts of the tests of lanes: items for a queue, and a post-hook that can run out of memory.
 ghost use Rattle.std.specs.Prelude.{◌≡◌, ◌<◌, ◌≤◌, ◌+◌, ◌++◌, ◌∷◌, [], IfOk, OnOk, OnErr, length, take, true};
 ghost use Rattle.up_events.specs.Log.{IsLawful};
 ghost use Rattle.up_queue.specs.Line.{IsOrderly};
@@ -13,7 +13,7 @@ use up_hooks::{Outcome, PostHook};
 use up_lanes::{How, LaneEnd};
 use up_queue::{Item, PutEnd, PutFault};
 
-/// The log of so many uploads of no bytes.
+/// The log of this number of uploads without bytes.
 fn log_of(alloc: Global, uploads: u64) -> Result<Vec<Event>, NoMemory>
     ensures { IfOk result (λ events. IsLawful events.items) }
 {
@@ -28,12 +28,13 @@ fn log_of(alloc: Global, uploads: u64) -> Result<Vec<Event>, NoMemory>
             })?;
         }
     }
+    // For the prover: a law, which does nothing when it runs.
     logs_are_lawful();
     let _legal = journal.accepted();
     journal.lane_log(alloc, 0)
 }
 
-/// The items of a lane with so many uploads of no bytes: two events of each, and the end.
+/// The items of a lane with this number of uploads without bytes: two events of each, and the end.
 pub fn items(alloc: Global, uploads: u64) -> Result<Vec<Item>, NoMemory>
     ensures { IfOk result (λ items. IsOrderly items.items) }
 {
@@ -46,7 +47,7 @@ pub fn items(alloc: Global, uploads: u64) -> Result<Vec<Item>, NoMemory>
     Ok(items)
 }
 
-/// The events of so many uploads of no bytes, as they are to be handed over.
+/// The events of this number of uploads without bytes, as they must be handed over.
 fn wanted(alloc: Global, uploads: u64) -> Result<Vec<Event>, AllocError> {
     let mut events = Vec::new(alloc);
     for upload in 0..uploads {
@@ -63,7 +64,7 @@ fn wanted(alloc: Global, uploads: u64) -> Result<Vec<Event>, AllocError> {
     Ok(events)
 }
 
-/// Holds that a lane ended so, once it was handed all events of so many uploads of no bytes.
+/// Checks how a lane ended, and that it was handed all events of this number of uploads without bytes.
 pub fn hold(
     rt: &impl Abort,
     alloc: Global,
@@ -79,7 +80,7 @@ pub fn hold(
     Ok(())
 }
 
-/// Puts the item at this place behind those before it.
+/// Puts the item at this place of the list, after those before it.
 pub fn put_at<R: Wait>(
     rt: &R,
     end: &mut PutEnd,
@@ -96,7 +97,7 @@ pub fn put_at<R: Wait>(
     end.put(rt, items[place])
 }
 
-/// Puts the items from this place on for which there is room, and tells the place behind them.
+/// Puts the items from this place on, as far as there is room, and returns the place after them.
 pub fn fill<R: Wait>(rt: &R, end: &mut PutEnd, items: &[Item], place: usize) -> usize
     requires orderly { IsOrderly items.now }
     requires place { place ≤ length items.now }
@@ -113,7 +114,7 @@ pub fn fill<R: Wait>(rt: &R, end: &mut PutEnd, items: &[Item], place: usize) -> 
     items.len()
 }
 
-/// Puts all of the items, one after another.
+/// Puts all of the items, in order.
 pub fn put_all<R: Wait>(rt: &R, mut end: PutEnd, items: &[Item]) -> PutEnd
     requires orderly { IsOrderly items.now }
     requires new { end.put ≡ [] }
@@ -130,7 +131,7 @@ pub fn put_all<R: Wait>(rt: &R, mut end: PutEnd, items: &[Item]) -> PutEnd
     end
 }
 
-/// A post-hook that lists the events. Once it has `refused_at` of them, its next `refusals` calls for memory are refused.
+/// A post-hook that lists the events. Once it has `refused_at` of them, memory runs out in its next `refusals` calls.
 #[derive(Drop)]
 pub struct Listing {
     pub events: Vec<Event>,

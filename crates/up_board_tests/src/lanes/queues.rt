@@ -1,4 +1,4 @@
-//! Queues: that they are made, that items come through, and two threads.
+//! Queues: that they are made, that items pass through, and the use of two threads.
 ghost use Rattle.std.specs.Prelude.{◌≡◌, ◌≤◌, [], length, take};
 ghost use Rattle.up_queue.specs.Line.{IsOrderly};
 
@@ -10,7 +10,7 @@ use std::test::Fail;
 use std::thread;
 use up_queue::{Item, PutFault, QueueFault, TakeEnd, compare, lane_queue};
 
-/// Holds that a queue of this capacity takes as many items as it has room for, and gives them back in order.
+/// Checks that a queue of this capacity takes as many items as it has room for, and returns them in order.
 fn assert_gives_back(rt: &(impl Wait + Abort), alloc: Global, capacity: usize) -> Result<(), Fail>
     requires { capacity ≤ 9 }
 {
@@ -27,7 +27,7 @@ fn assert_gives_back(rt: &(impl Wait + Abort), alloc: Global, capacity: usize) -
     Ok(())
 }
 
-/// Takes until the end comes, or until there is no room for what was taken.
+/// Takes items until the end is taken, or until there is no room for what was taken.
 fn take_all<R: Wait>(rt: &R, mut end: TakeEnd, mut taken: Vec<Item>) -> (TakeEnd, Vec<Item>)
     ensures queue { result.0.queue ≡ end.queue }
 {

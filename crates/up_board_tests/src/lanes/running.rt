@@ -1,4 +1,4 @@
-//! Lanes that run: what they call where their queue is empty, and one in a thread.
+//! Lanes that run: what they call if their queue is empty, and a lane in a thread.
 ghost use Rattle.std.specs.Prelude.{◌≡◌, ◌≤◌, [], length, take};
 ghost use Rattle.up_queue.specs.Line.{IsOrderly};
 
@@ -46,7 +46,7 @@ impl Supply {
         }
     }
 
-    /// Puts the next item, where there is one and the queue has room for it.
+    /// Puts the next item, if there is one and the queue has room for it.
     fn put_next<R: Wait>(&mut self, rt: &R) {
         if self.place < self.items.len()
             && put_at(rt, &mut self.put_end, &self.items, self.place).is_ok()
@@ -56,14 +56,14 @@ impl Supply {
     }
 }
 
-/// Fills the queue of lane 7, an item at each call of one kind, and counts the calls.
+/// Fills the queue of lane 7, with one item at each call of one kind, and counts the calls.
 #[derive(Drop)]
 struct Counted {
     supply: Mutex<Supply>,
     fills_by_refill: bool,
     refills: AtomicU64,
     waits: AtomicU64,
-    /// Calls for another lane, or after another number of items than were put.
+    /// Calls for another lane, and waits after another number of items than were put.
     strays: AtomicU64,
 }
 
@@ -78,7 +78,7 @@ impl Counted {
         }
     }
 
-    /// How many refills, waits and strays there were.
+    /// The numbers of refills, waits and strays.
     fn counts(&self) -> [u64; 3] {
         [
             self.refills.load(Ordering::SeqCst),

@@ -7,7 +7,7 @@ use std::test::Fail;
 use up_lanes::{How, Lane, Refill, StepEnd};
 use up_queue::{Item, lane_queue};
 
-/// A lane of which everything was put already.
+/// A lane for which everything was put already.
 struct NoMore;
 
 impl Refill for NoMore {
@@ -16,7 +16,8 @@ impl Refill for NoMore {
     fn wait<R: Wait>(&self, _rt: &R, _lane: u64, _taken: u64) {}
 }
 
-/// Holds that a lane over a queue of this capacity is handed an event at each step, and that it is handed all of them in order.
+/// Checks that a lane with a queue of this capacity is handed an event at each step, and that it is handed all of them
+/// in order.
 fn hands_over_in_order(rt: &(impl Wait + Abort), alloc: Global, capacity: u64) -> Result<(), Fail> {
     let items = items(alloc, 4)?;
     let (mut put_end, take_end) = lane_queue(alloc, capacity)?;
@@ -56,7 +57,8 @@ fn finds_nothing_until_more_is_put(rt: HostRuntime) -> Result<(), Fail> {
     Ok(())
 }
 
-/// A lane over all events of four uploads, whose post-hook is refused memory so often once it has the events of the first.
+/// A lane with all events of four uploads, whose post-hook runs out of memory `refusals` times once it has the events
+/// of the first upload.
 fn refused_lane(
     rt: &(impl Wait + Abort),
     alloc: Global,
@@ -68,7 +70,7 @@ fn refused_lane(
     Ok(Lane::new(0, take_end, Listing::new(alloc, 2, refusals)))
 }
 
-/// Holds that a lane that ended so steps no further, and ends so again.
+/// Checks that a lane that ended in this way takes no further step, and ends in the same way again.
 fn stays_so(rt: &(impl Wait + Abort), mut lane: Lane<Listing>, how: How) {
     let last = if how.is_drained() {
         StepEnd::Ended

@@ -1,4 +1,4 @@
-//! Changes that come to a board after it was closed.
+//! Changes that reach a board after it was closed.
 ghost use Rattle.std.specs.Prelude.{◌≡◌, length};
 ghost use Rattle.up_dispatch.specs.Parts.{IsNamed};
 
@@ -13,7 +13,8 @@ use up_dispatch::{BoardParts, Naming};
 use up_machine::Refusal;
 use up_store::{Store, Stored};
 
-/// What comes of changes by a store after its board was closed, and the files of its logs. The upload 1 was made before.
+/// The results of changes through a store after its board was closed, and the files of its logs. The upload 1 was
+/// created before.
 fn closed_by_store<B: Naming, R: Wait>(
     rt: &R,
     alloc: Global,

@@ -1,4 +1,4 @@
-//! Stores on disks that fail, and on disks that fail for a moment.
+//! Stores on disks that fail, for good or for one call.
 use super::running::{Job, Ran, Seen, Tally, Told, plainly, restored, run_on};
 use super::together::{jobs_of, shared_file, told_plainly};
 use crate::full_once::FullOnce;
@@ -22,7 +22,7 @@ const ROWS: [Row; 6] = [
     (What::Remove, 1, 0),
 ];
 
-/// The job of these rows alone.
+/// The job with only these rows.
 fn job_of(alloc: Global, rows: &[Row]) -> Result<Job, AllocError> {
     Ok(Job {
         rows: Vec::from_slice(alloc, rows)?,
@@ -31,7 +31,7 @@ fn job_of(alloc: Global, rows: &[Row]) -> Result<Job, AllocError> {
     })
 }
 
-/// How many were made before the first that was refused for want of memory, and how many in all.
+/// The number of results before the first `NoMemory`, and of all results without `NoMemory`.
 fn made(told: &[Told]) -> (usize, usize) {
     let mut first: usize = 0;
     let mut all: usize = 0;
@@ -49,19 +49,19 @@ fn made(told: &[Told]) -> (usize, usize) {
     (first, all)
 }
 
-/// How a plain board stands after the first so many of the rows.
+/// The state of a plain board after the first `count` rows.
 fn standing<R: Wait>(rt: &R, alloc: Global, count: usize) -> Result<Seen, Fail> {
     let job = job_of(alloc, &ROWS[..count.min(6)])?;
     Ok(plainly(rt, alloc, &job)?.1)
 }
 
-/// How a board stands that is made from logs again.
+/// The state of a board that is restored from logs.
 fn seen_again<D: Disk + Drop, R: Wait>(rt: &R, alloc: Global, disks: (D, D)) -> Result<Seen, Fail> {
     Ok(restored(rt, alloc, disks)?.0)
 }
 
-/// How many of the rows are answered as made by a store whose disk fails from some call on, once it is held that a
-/// crash leaves those and perhaps the next one. None where the log isn't opened.
+/// The number of rows that succeed in a store whose disk fails from some call on. Checks that a crash leaves these, and
+/// perhaps the next one. `None` if the logs are not opened.
 fn left<R: Threads + Wait + Abort + Sync>(
     rt: &R,
     alloc: Global,
@@ -104,7 +104,7 @@ fn a_crash_leaves_what_was_answered(rt: HostRuntime) -> Result<(), Fail> {
             *place = place.saturating_add(1);
         }
     }
-    // A change takes four calls, so that as many disks fail in each.
+    // A change takes four calls. So in each change, four of the disks fail.
     for count in 1..6usize {
         assert_eq!(rt; counts[count], 4);
     }
@@ -112,15 +112,15 @@ fn a_crash_leaves_what_was_answered(rt: HostRuntime) -> Result<(), Fail> {
     Ok(())
 }
 
-/// Whether the changes were answered as here up to the first that wasn't written, and none was made from that one on.
+/// Whether the results are the expected ones up to the first `NoMemory`, and all `NoMemory` from there on.
 fn is_cut_off(told: &[Told], want: &[Told]) -> bool {
     let (first, all) = made(told);
     let first = first.min(told.len()).min(want.len());
     first == all && told.len() == want.len() && told[..first] == want[..first]
 }
 
-/// Holds that three seats of a board whose disk fails from some call on are told the truth: what was made is left by a
-/// crash, in the same order.
+/// Checks that three seats of a board whose disk fails from some call on get true results: a crash leaves what
+/// succeeded, in the same order.
 fn hold_at_once<R: Threads + Wait + Abort + Sync>(
     rt: &R,
     alloc: Global,
@@ -163,7 +163,7 @@ fn seats_at_once_are_told_what_a_crash_leaves(rt: HostRuntime) -> Result<(), Fai
     Ok(())
 }
 
-/// Creations, each of which is accepted whatever comes of the others.
+/// Creations, each of which is accepted whatever happens to the others.
 const CREATIONS: [Row; 6] = [
     (What::Make, 1, 5),
     (What::Make, 2, 5),
@@ -173,7 +173,7 @@ const CREATIONS: [Row; 6] = [
     (What::Make, 6, 5),
 ];
 
-/// The creations that were made.
+/// The creations that succeeded.
 fn taken(alloc: Global, told: &[Told]) -> Result<Vec<Row>, AllocError> {
     let mut rows = Vec::new(alloc);
     for (row, told) in CREATIONS.iter().zip(told) {
@@ -184,7 +184,7 @@ fn taken(alloc: Global, told: &[Told]) -> Result<Vec<Row>, AllocError> {
     Ok(rows)
 }
 
-/// Holds that what was made is there after a crash, and nothing else.
+/// Checks that a crash leaves exactly what succeeded.
 fn hold_taken<R: Wait + Abort>(
     rt: &R,
     alloc: Global,
@@ -199,8 +199,8 @@ fn hold_taken<R: Wait + Abort>(
     Ok(())
 }
 
-/// How many of the creations are made by a store of whose disk one call fails, before that call and in all. None where
-/// the log isn't opened.
+/// The number of creations that succeed in a store with a disk of which one call fails: before that call, and in all.
+/// `None` if the logs are not opened.
 fn full_at<R: Threads + Wait + Abort + Sync>(
     rt: &R,
     alloc: Global,
@@ -238,8 +238,8 @@ fn a_store_goes_on_once_its_disk_works(rt: HostRuntime) -> Result<(), Fail> {
             _ => {}
         }
     }
-    // A change takes two writes and two syncs. Whichever fails, that change alone is refused, and the log is opened again if
-    // it has to be. None is made after the last.
+    // A change takes two writes and two syncs. Whichever fails, only that change is refused, and the log is opened
+    // again if necessary. No change follows the last one.
     let mut want = Vec::new(rt.alloc());
     for change in 0..5usize {
         for _ in 0..4 {
@@ -250,8 +250,8 @@ fn a_store_goes_on_once_its_disk_works(rt: HostRuntime) -> Result<(), Fail> {
     Ok(())
 }
 
-/// What is told of three seats of a board of whose disk one call fails, once it is held that a crash leaves what was
-/// made, in the same order.
+/// The reports during a run with three seats of a board with a disk of which one call fails. Checks that a crash leaves
+/// what succeeded, in the same order.
 fn told_at_once<R: Threads + Wait + Abort + Sync>(
     rt: &R,
     alloc: Global,

@@ -15,7 +15,7 @@ use up_machine::{Asked, Reason, Refusal};
 use up_replay::fits;
 use up_store::{Store, Stored};
 
-/// What comes of changes that a closure refuses, after the upload 1 of four bytes was made.
+/// The results of changes that a closure refuses, after the upload 1 of four bytes was created.
 fn refuse<K: Keeper>(
     alloc: Global,
     keeper: &mut K,
@@ -36,7 +36,7 @@ fn refuse<K: Keeper>(
     Ok(told)
 }
 
-/// What comes of them on a plain board.
+/// Their results on a plain board.
 fn refused_plainly<B: Naming, R: Wait>(
     rt: &R,
     alloc: Global,
@@ -51,7 +51,7 @@ fn refused_plainly<B: Naming, R: Wait>(
     Ok(refuse(alloc, &mut Seated::new(rt, &board, &mut seat), refused)?)
 }
 
-/// What comes of them by a store, and how many entries its log then has.
+/// Their results through a store, and the number of entries of its log after them.
 fn refused_by_store<B: Naming, R: Wait>(
     rt: &R,
     alloc: Global,
@@ -77,7 +77,8 @@ fn refused_by_store<B: Naming, R: Wait>(
     Ok((told, count))
 }
 
-/// What is to come of them: the upload is made, the closure refuses the next three, and the upload 3 isn't there.
+/// The expected results: the upload is created, the closure refuses the next three changes, and the upload 3 does not
+/// exist.
 fn wanted(alloc: Global, reason: Reason) -> Result<Vec<Told>, NoMemory> {
     let made = Accepted::Created {
         id: Id::new(1),

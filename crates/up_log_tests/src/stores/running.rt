@@ -1,4 +1,4 @@
-//! Boards whose changes are written to a store first, and boards that are made again from its logs.
+//! Boards whose changes are written to a store first, and boards that are restored from its logs.
 ghost use Rattle.std.specs.Prelude.{◌≡◌, length};
 ghost use Rattle.up_dispatch.specs.Parts.{IsNamed};
 ghost use Rattle.up_events.specs.declared.limits.TheConstants.{MOST_BYTES};
@@ -25,17 +25,17 @@ use up_replay::{Unrestored, asked_of, fits};
 use up_store::{LogFile, Logs, Store, StoreNotices, Stored, restore_on};
 use up_wire::{Output, write_response};
 
-/// How many uploads are looked at.
+/// The number of uploads that are compared.
 const UPLOADS: u64 = 400;
 
-/// What came of a change: the status and what changed, or why it was refused.
+/// The result of a change: the status and the change, or why it was refused.
 pub type Told = Result<(u16, Option<Accepted>), Refusal>;
 
-/// What a board counts, and what it answers of each upload.
+/// The counts of a board, and its responses about each upload.
 pub type Seen = (Counts, Vec<u8>);
 
-/// How often it was told that changes can't be written, that they can again, and that none is made any more; and that a
-/// log was made shorter, and that it could not be.
+/// How often the store reported that changes cannot be written, that they can be again, and that none is made any more;
+/// and that a log was made shorter, and that it could not be.
 #[derive(Drop)]
 pub struct Tally {
     fails: AtomicU64,
@@ -136,7 +136,7 @@ impl<D: Again> LogFile<D> for &Tally {
     }
 }
 
-/// Has a change made, and tells what came of it.
+/// Makes a change, and returns its result.
 pub fn told_of<K: Keeper>(
     alloc: Global,
     keeper: &mut K,
@@ -150,7 +150,7 @@ pub fn told_of<K: Keeper>(
     Ok((response.status, change))
 }
 
-/// Has the changes of these rows made.
+/// Makes the changes of these rows.
 pub fn change<K: Keeper>(
     alloc: Global,
     keeper: &mut K,
@@ -167,8 +167,7 @@ pub fn change<K: Keeper>(
     Ok(told)
 }
 
-/// Puts this byte at the end of the upload 0 so many times, wherever others leave its end, and tells how many changes
-/// it took.
+/// Appends this byte to the upload 0 `times` times, while others append too, and returns the number of attempts.
 fn append_each<K: Keeper>(
     alloc: Global,
     keeper: &mut K,
@@ -192,7 +191,7 @@ fn append_each<K: Keeper>(
     Ok(10_000)
 }
 
-/// What is asked from one seat: the changes of these rows, and then so many times this byte for the upload 0.
+/// The work from one seat: the changes of these rows, and then `times` times this byte for the upload 0.
 #[derive(Drop)]
 pub struct Job {
     pub rows: Vec<Row>,
@@ -200,7 +199,7 @@ pub struct Job {
     pub times: u64,
 }
 
-/// What was told of the rows of a job, and how many changes its bytes took.
+/// The results of the rows of a job, and the number of attempts for its bytes.
 pub type Outcome = (Vec<Told>, u64);
 
 fn work<K: Keeper>(alloc: Global, keeper: &mut K, job: &Job) -> Result<Outcome, NoMemory> {
@@ -208,7 +207,7 @@ fn work<K: Keeper>(alloc: Global, keeper: &mut K, job: &Job) -> Result<Outcome, 
     Ok((told, append_each(alloc, keeper, job.byte, job.times)?))
 }
 
-/// What the board counts, and what it answers to HEAD and GET of each upload.
+/// The counts of a board, and its responses to HEAD and GET of each upload.
 pub fn seen<B: Naming, R: Wait>(
     rt: &R,
     alloc: Global,
@@ -228,7 +227,7 @@ pub fn seen<B: Naming, R: Wait>(
     Ok((board.counts(rt), sink.into_inner()))
 }
 
-/// A new board of two lanes, which don't run, and a seat.
+/// A new board of two lanes, which do not run, and a seat.
 pub fn board_of<B: Naming, R: Wait>(
     rt: &R,
     alloc: Global,
@@ -245,7 +244,7 @@ pub fn board_of<B: Naming, R: Wait>(
     }
 }
 
-/// What a plain board of these parts tells of a job, and how it then stands.
+/// The results of a job on a plain board with these parts, and the state of the board after it.
 fn plain_of<B: Naming, R: Wait>(
     rt: &R,
     alloc: Global,
@@ -261,7 +260,7 @@ fn plain_of<B: Naming, R: Wait>(
     Ok((outcome, seen(rt, alloc, &board, &mut seat)?))
 }
 
-/// The file of a log of these batches.
+/// The file of a log with these batches.
 pub fn file_of(alloc: Global, batches: &[&[Row]]) -> Result<Memory, LogFault> {
     let (mut log, _) = read(alloc, Memory::new(alloc))?;
     for rows in batches {
@@ -270,7 +269,7 @@ pub fn file_of(alloc: Global, batches: &[&[Row]]) -> Result<Memory, LogFault> {
     Ok(log.into_device())
 }
 
-/// Begins to open a log.
+/// Starts to open a log.
 pub fn reader_of<D: Disk>(alloc: Global, device: D) -> Result<LogReader<D>, LogFault>
 where
     D: Drop,
@@ -281,7 +280,7 @@ where
     }
 }
 
-/// How many entries the log in a file has.
+/// The number of entries of the log in a file.
 pub fn count_in(alloc: Global, file: Memory) -> Result<(u64, Memory), LogFault> {
     let mut reader = reader_of(alloc, file)?;
     let mut count: u64 = 0;
@@ -313,7 +312,7 @@ where
     restore_on(rt, alloc, board, seat, changes, voids)
 }
 
-/// How a board of these parts stands that is made from the logs on these disks, and the logs.
+/// The state of a board with these parts that is restored from the logs on these disks, and the logs.
 fn made_again<B: Naming, D: Disk, R: Wait>(
     rt: &R,
     alloc: Global,
@@ -331,7 +330,7 @@ where
     Ok((seen(rt, alloc, &board, &mut seat)?, logs))
 }
 
-/// What was told of each job, how the board then stood, and the logs.
+/// The results of each job, the state of the board after them, and the logs.
 #[derive(Drop)]
 pub struct Ran<D: Disk> {
     pub outcomes: Vec<Outcome>,
@@ -339,7 +338,7 @@ pub struct Ran<D: Disk> {
     pub logs: Logs<D>,
 }
 
-/// Does each job in a thread of its own, from a seat of its own, by a store whose logs are on these disks.
+/// Does each job in a thread of its own, from a seat of its own, through a store whose logs are on these disks.
 fn work_each<B: Naming + Send + Sync, D: Again + Send + Drop, R: Threads + Wait + Sync>(
     rt: &R,
     alloc: Global,
@@ -364,8 +363,8 @@ fn work_each<B: Naming + Send + Sync, D: Again + Send + Drop, R: Threads + Wait 
     Ok(outcomes)
 }
 
-/// Does each job in a thread of its own, from a seat of its own, by a store whose logs are on these disks. None where
-/// the logs aren't opened.
+/// Does each job in a thread of its own, from a seat of its own, through a store whose logs are on these disks. `None`
+/// if the logs are not opened.
 fn run_by<B: Naming + Send + Sync, D: Again + Send + Drop, R: Threads + Wait + Sync>(
     rt: &R,
     alloc: Global,
@@ -396,13 +395,13 @@ fn run_by<B: Naming + Send + Sync, D: Again + Send + Drop, R: Threads + Wait + S
     }))
 }
 
-/// What a plain board tells of a job, and how it then stands.
+/// The results of a job on a plain board, and the state of the board after it.
 pub fn plainly<R: Wait>(rt: &R, alloc: Global, job: &Job) -> Result<(Outcome, Seen), Fail> {
     let parts = BoardParts::new(alloc, 2, 4)?;
     plain_of::<Brand, R>(rt, alloc, parts, job)
 }
 
-/// How a board stands that is made from the logs on these disks, and the logs.
+/// The state of a board that is restored from the logs on these disks, and the logs.
 pub fn restored<D: Disk, R: Wait>(
     rt: &R,
     alloc: Global,
@@ -415,7 +414,8 @@ where
     made_again::<Brand, D, R>(rt, alloc, parts, disks)
 }
 
-/// Does each job in a thread of its own, by a store whose logs are on these disks. None where the logs aren't opened.
+/// Does each job in a thread of its own, through a store whose logs are on these disks. `None` if the logs are not
+/// opened.
 pub fn run_on<D: Again + Send + Drop, R: Threads + Wait + Sync>(
     rt: &R,
     alloc: Global,

@@ -32,10 +32,10 @@ const FIRST: [Row; 9] = [
     (What::Remove, 4, 0),
 ];
 
-/// What is changed behind that.
+/// The changes after these.
 const SECOND: [Row; 3] = [(What::Make, 3, 5), (What::Put, 3, 5), (What::Remove, 2, 0)];
 
-/// After how many calls each disk fails: that of the heads, and those of a shorter log.
+/// The number of calls after which each disk fails: that of the heads, and those of a shorter log.
 #[derive(Clone, Copy)]
 struct Calls {
     heads: u64,
@@ -63,12 +63,12 @@ impl Folder<File> for Disks {
     fn remove(&self, _generation: u64) {}
 }
 
-/// What is there after a log was made shorter, or could not be.
+/// The state after a log was made shorter, or could not be.
 #[derive(Drop)]
 struct After {
-    /// What was told of the changes behind it.
+    /// The results of the changes after that.
     told: Vec<Told>,
-    /// What the board answers of each upload.
+    /// The responses of the board about each upload.
     seen: Vec<u8>,
     logs: Logs<File>,
     current: Current<File>,
@@ -95,7 +95,7 @@ fn current(alloc: Global, calls: u64) -> Result<Current<File>, LogFault> {
     Ok(Current { heads, head })
 }
 
-/// Makes changes on a new store, makes its log shorter, and makes further changes.
+/// Makes changes in a new store, makes its log shorter, and makes more changes.
 fn shorten_by<B: Naming, R: Wait>(
     rt: &R,
     alloc: Global,
@@ -153,7 +153,8 @@ fn head_left(alloc: Global, heads: Heads<File>) -> Result<Head, LogFault> {
     Ok(Heads::read(alloc, reader_of(alloc, device)?)?.1)
 }
 
-/// What a board answers of each upload that is made from these logs after a crash, and how many entries they have.
+/// The responses about each upload of a board that is restored from these logs after a crash, and the number of entries
+/// of the logs.
 fn left<R: Wait>(rt: &R, alloc: Global, logs: Logs<File>) -> Result<(Vec<u8>, u64), Fail> {
     let (mut changes, mut voids) = (logs.changes.into_device(), logs.voids.into_device());
     changes.crash();
@@ -175,7 +176,7 @@ fn a_shorter_log_takes_the_place(rt: HostRuntime) -> Result<(), Fail> {
     for told in after.told.iter() {
         assert!(rt; told.is_ok());
     }
-    // Of the entries two stayed, and three came behind them.
+    // Two of the entries stayed, and three were appended after them.
     assert_eq!(rt; after.logs.count, 5);
     let head = head_left(alloc, after.current.heads)?;
     assert_eq!(rt; (head.generation, head.entries), (1, 2));
@@ -187,8 +188,8 @@ fn a_shorter_log_takes_the_place(rt: HostRuntime) -> Result<(), Fail> {
     Ok(())
 }
 
-/// Holds that changes are made after it failed or did not, on the log that a crash leaves, or that none is made. Tells
-/// whether the log was made shorter, and whether changes are made.
+/// Checks that, whether the log was made shorter or not, changes are then made in the log that a crash leaves, or none
+/// is made. Returns whether the log was made shorter, and whether changes are made. `None` if the heads cannot be read.
 fn hold<R: Wait + Abort>(
     rt: &R,
     alloc: Global,
@@ -232,7 +233,7 @@ fn a_switch_is_made_or_not(rt: HostRuntime) -> Result<(), Fail> {
         };
         counts[place] += 1;
     }
-    // A disk that fails for good takes no second head, so that it isn't known which one holds.
+    // A disk that fails for good accepts no second head, so that it is not known which head is the current one.
     assert!(rt; counts[0] > 0 && counts[2] > 0, "{counts:?}");
     Ok(())
 }

@@ -8,13 +8,13 @@ use std::sync::Wait;
 use std::test::Fail;
 use up_log::LogFault;
 
-/// How many uploads are made from each seat.
+/// The number of uploads that are created from each seat.
 const UPLOADS: u64 = 30;
 
-/// How many bytes each seat puts at the end of the upload 0.
+/// The number of bytes that each seat appends to the upload 0.
 const BYTES: u64 = 60;
 
-/// Makes an upload, puts its bytes, puts them again, and removes each third upload, twice.
+/// Creates an upload, puts its bytes, puts them again, and removes every third upload twice.
 fn rows_of(alloc: Global, first: u64) -> Result<Vec<Row>, AllocError> {
     let mut rows = Vec::new(alloc);
     for number in 0..UPLOADS {
@@ -30,7 +30,7 @@ fn rows_of(alloc: Global, first: u64) -> Result<Vec<Row>, AllocError> {
     Ok(rows)
 }
 
-/// What is asked from the seat of this number.
+/// The work from the seat with this number.
 fn job_of(alloc: Global, number: u8, times: u64) -> Result<Job, AllocError> {
     Ok(Job {
         rows: rows_of(alloc, u64::from(number).saturating_mul(100))?,
@@ -48,7 +48,7 @@ pub fn jobs_of(alloc: Global) -> Result<Vec<Job>, AllocError> {
     Ok(jobs)
 }
 
-/// What a plain board tells of the rows of these jobs.
+/// The results of the rows of these jobs on a plain board.
 pub fn told_plainly<R: Wait>(rt: &R, alloc: Global) -> Result<Vec<Outcome>, Fail> {
     let mut outcomes = Vec::new(alloc);
     for number in 1..4u8 {
@@ -58,12 +58,12 @@ pub fn told_plainly<R: Wait>(rt: &R, alloc: Global) -> Result<Vec<Outcome>, Fail
     Ok(outcomes)
 }
 
-/// The file of a log in which the upload 0 was made, for the bytes of three seats.
+/// The file of a log in which the upload 0 was created, for the bytes of three seats.
 pub fn shared_file(alloc: Global) -> Result<Memory, LogFault> {
     file_of(alloc, &[&[(What::Make, 0, 3 * BYTES)]])
 }
 
-/// Holds that so much was told of the rows as a plain board tells, and gives how many changes there were.
+/// Checks that the rows have the same results as on a plain board, and returns the number of attempted changes.
 fn count_of<R: Wait + Abort>(rt: &R, alloc: Global, outcomes: &[Outcome]) -> Result<u64, Fail> {
     let mut count: u64 = 0;
     let plain = told_plainly(rt, alloc)?;
@@ -93,7 +93,7 @@ fn changes_made_at_once_come_back(rt: HostRuntime) -> Result<(), Fail> {
     else {
         return Err("an open log".into());
     };
-    // Before these, the upload 0 was made. Of the rows a third is refused, and half of the removals.
+    // The upload 0 was created before these. A third of the rows is refused, and half of the removals.
     let count = count_of(&rt, alloc, &outcomes)?.saturating_add(1);
     assert_eq!(rt; seen.0.changes, 1 + 3 * (30 + 30 + 10 + 60));
     assert_eq!(rt; (seen.0.uploads, seen.0.bytes), (61, 300));

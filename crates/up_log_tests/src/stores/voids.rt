@@ -10,7 +10,7 @@ use up_events::Id;
 use up_headers::Request;
 use up_log::{Consent, Entry, LogFault, Spelled};
 
-/// The file of a log that says of each of these places that it is void.
+/// The file of a log that says that each of these places is void.
 fn void_file(alloc: Global, places: &[u128]) -> Result<Memory, LogFault> {
     let (mut log, _) = read(alloc, Memory::new(alloc))?;
     for place in places {
@@ -31,7 +31,7 @@ const FIRST: [Row; 2] = [(What::Make, 5, 4), (What::Put, 5, 3)];
 
 const SECOND: [Row; 2] = [(What::Put, 5, 2), (What::Make, 6, 1)];
 
-/// Holds that with these places void the board has these changes alone; and that one more place may be void then.
+/// Checks that the board has only these changes if these places are void, and that one more place can then become void.
 fn hold<R: Wait + Abort>(
     rt: &R,
     alloc: Global,
@@ -57,7 +57,7 @@ fn hold<R: Wait + Abort>(
     Ok(())
 }
 
-/// How a plain board stands after these changes.
+/// The state of a plain board after these changes.
 fn standing<R: Wait>(rt: &R, alloc: Global, rows: &[Row]) -> Result<Seen, Fail> {
     let job = Job {
         rows: Vec::from_slice(alloc, rows)?,
@@ -72,7 +72,7 @@ fn void_entries_are_passed_over(rt: HostRuntime) -> Result<(), Fail> {
     let alloc = rt.alloc();
     let [make, three] = FIRST;
     let [two, other] = SECOND;
-    // Two bytes at the beginning are refused of an upload that has three already.
+    // Two bytes at the start are refused for an upload that already has three.
     hold(
         &rt,
         alloc,

@@ -1,4 +1,4 @@
-//! Requests out of words.
+//! Requests from words.
 ghost use Rattle.std.specs.Prelude.{◌≤◌, IfOk};
 ghost use Rattle.up_headers.specs.Creations.{IsWithin};
 ghost use Rattle.up_headers.specs.Table.{FitsWithin};
@@ -11,7 +11,7 @@ use up_headers::{NewUpload, NotDigits, Patch, Request, pairs_of};
 use up_machine::{Asked, Reason};
 use up_message::{Piece, Sequence};
 
-/// A text as bytes. One that is empty is none.
+/// A text as bytes. An empty text is none.
 fn text_of(alloc: Global, text: &str) -> Result<Option<Sequence<u8>>, RowFault> {
     if text.is_empty() {
         return Ok(None);
@@ -19,7 +19,7 @@ fn text_of(alloc: Global, text: &str) -> Result<Option<Sequence<u8>>, RowFault> 
     Ok(Some(Sequence::from_slice(alloc, text.as_bytes())?))
 }
 
-/// The ids that have these numbers, in the same order.
+/// The ids with these numbers, in the same order.
 fn ids_of(alloc: Global, numbers: &str) -> Result<Sequence<Id>, RowFault> {
     let mut ids = Sequence::new(alloc);
     for number in numbers.split(',') {
@@ -41,7 +41,7 @@ pub fn size_of(word: &str) -> Result<u64, RowFault>
     Ok(size)
 }
 
-/// The new upload of this kind that the words tell of.
+/// The new upload of this kind that the words describe.
 fn upload_of(alloc: Global, kind: Kind, words: &str) -> Result<NewUpload, RowFault>
     ensures { IfOk result (λ new. IsWithin MOST_BYTES new.length) }
 {
@@ -66,7 +66,7 @@ fn upload_of(alloc: Global, kind: Kind, words: &str) -> Result<NewUpload, RowFau
     })
 }
 
-/// The PATCH that the words tell of.
+/// The PATCH that the words describe.
 fn patch_of(alloc: Global, id: Id, media: bool, words: &str) -> Result<Patch, RowFault> {
     let (offset, rest) = cut(words);
     let (bytes, length) = cut(rest);
@@ -85,7 +85,7 @@ fn patch_of(alloc: Global, id: Id, media: bool, words: &str) -> Result<Patch, Ro
     })
 }
 
-/// The request that the words tell of.
+/// The request that the words describe.
 pub fn request_of(alloc: Global, id: Id, words: &str) -> Result<Request, RowFault>
     ensures { IfOk result (FitsWithin MOST_BYTES) }
 {
@@ -104,7 +104,7 @@ pub fn request_of(alloc: Global, id: Id, words: &str) -> Result<Request, RowFaul
     })
 }
 
-/// What is said before a request is committed.
+/// What the closures say before a request is committed.
 pub fn asked_of(words: &str) -> Result<Asked, RowFault> {
     let (word, rest) = cut(words);
     Ok(match word {

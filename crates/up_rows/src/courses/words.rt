@@ -1,4 +1,4 @@
-//! What a book answers and shows, in words.
+//! The results and the state of a book, as text.
 use crate::gathered::{gathered, put_pieces, put_runs};
 use crate::row_fault::RowFault;
 use std::alloc::{AllocError, Global};
@@ -7,10 +7,10 @@ use up_events::{Accepted, Id};
 use up_machine::{Ask, Book, Done, Plan, Refusal, View, response_of};
 use up_message::{Response, Sequence};
 
-/// The ids of these rows are the numbers below this one.
+/// The ids in these rows are the numbers below this one.
 const ID_COUNT: u64 = 10;
 
-/// Pairs as "name: value; " each.
+/// Pairs, each as "name: value; ".
 fn of_pairs(alloc: Global, pairs: &[(Sequence<u8>, Sequence<u8>)]) -> Result<String, RowFault> {
     let mut words = String::new(alloc);
     for (name, value) in pairs {
@@ -30,12 +30,13 @@ pub fn of_response(alloc: Global, response: &Response) -> Result<String, RowFaul
     Ok(format!(in alloc; "{status} {fields}[{body}]")?)
 }
 
-/// What is answered where a request is refused.
+/// The response to a request that is refused.
 pub fn of_refusal(alloc: Global, refusal: &Refusal) -> Result<String, RowFault> {
     of_response(alloc, &response_of(alloc, refusal)?)
 }
 
-/// What closures are asked, as "Create None Plain 0/Some(5) [name: ab; ]": point, target, kind, offset and length, and pairs.
+/// The question for closures as "Create None Plain 0/Some(5) [name: ab; ]": point, target, kind, offset and length, and
+/// pairs.
 fn of_ask(alloc: Global, ask: &Ask) -> Result<String, RowFault> {
     let (point, target, kind, offset, length) = (
         ask.point, ask.target, ask.kind, ask.offset, ask.length,
@@ -44,13 +45,13 @@ fn of_ask(alloc: Global, ask: &Ask) -> Result<String, RowFault> {
     Ok(format!(in alloc; "{point:?} {target:?} {kind:?} {offset}/{length:?} [{pairs}]")?)
 }
 
-/// What two closures are asked.
+/// The questions for two closures.
 fn of_both(alloc: Global, first: &Ask, second: &Ask) -> Result<String, RowFault> {
     let (first, second) = (of_ask(alloc, first)?, of_ask(alloc, second)?);
     Ok(format!(in alloc; "{first}, {second}")?)
 }
 
-/// What is said at planning.
+/// The plan of a request.
 pub fn of_plan(alloc: Global, planned: &Result<Plan, Refusal>) -> Result<String, RowFault> {
     match planned {
         Ok(Plan::Answer(response)) => of_response(alloc, response),
@@ -61,7 +62,7 @@ pub fn of_plan(alloc: Global, planned: &Result<Plan, Refusal>) -> Result<String,
     }
 }
 
-/// What is answered to a request.
+/// The response to a request.
 pub fn of_done(alloc: Global, decided: &Result<Done, Refusal>) -> Result<String, RowFault> {
     match decided {
         Ok(done) => of_response(alloc, &done.response),
@@ -69,7 +70,7 @@ pub fn of_done(alloc: Global, decided: &Result<Done, Refusal>) -> Result<String,
     }
 }
 
-/// What a request changed.
+/// The change of a request, if any.
 pub fn change_of(decided: &Result<Done, Refusal>) -> Option<Accepted> {
     match decided {
         Ok(done) => done.change,
@@ -77,7 +78,7 @@ pub fn change_of(decided: &Result<Done, Refusal>) -> Option<Accepted> {
     }
 }
 
-/// The bytes that are shown of an upload.
+/// The bytes in the view of an upload.
 fn bytes_of(alloc: Global, view: View) -> Result<Vec<u8>, AllocError> {
     let mut bytes = Vec::new(alloc);
     put_runs(&mut bytes, view.runs)?;
@@ -86,8 +87,8 @@ fn bytes_of(alloc: Global, view: View) -> Result<Vec<u8>, AllocError> {
     Ok(bytes)
 }
 
-/// The uploads that are there, as "1 Plain 3/Some(5) [abc] [name YWI=] [-]; " each: number, kind, offset and length, bytes, metadata and
-/// concat. Of those that are gone the numbers.
+/// The uploads that exist, each as "1 Plain 3/Some(5) [abc] [name YWI=] [-]; ": number, kind, offset and length, bytes,
+/// metadata and concat; for removed uploads only the numbers.
 pub fn of_uploads(alloc: Global, book: &Book) -> Result<String, RowFault> {
     let mut words = String::new(alloc);
     for number in 0..ID_COUNT {
@@ -129,7 +130,7 @@ pub fn of_events(alloc: Global, book: &Book, lane: u64) -> Result<String, RowFau
     Ok(words)
 }
 
-/// All that a book shows.
+/// The whole state of a book.
 pub fn state(alloc: Global, book: &Book) -> Result<String, RowFault> {
     let uploads = of_uploads(alloc, book)?;
     let changes = of_changes(alloc, book)?;

@@ -1,4 +1,4 @@
-//! Many requests to a book, which `bench/replay` times to see how its time and its memory grow with their number.
+//! Many requests to a book. `bench/replay` times them to see how time and memory grow with their number.
 ghost use Rattle.up_headers.specs.Table.{FitsWithin};
 
 use crate::row_fault::RowFault;
@@ -54,7 +54,7 @@ fn remove(alloc: Global, book: &mut Book, id: Id) -> Result<(), Refusal> {
     commit(alloc, book, Request::Delete(id), id, Asked::Allowed)
 }
 
-/// Makes so many uploads, puts eight bytes into each, and asks for each.
+/// Creates `count` uploads, appends eight bytes to each, and asks for each.
 fn fill(alloc: Global, book: &mut Book, count: u64) -> Result<(), Refusal> {
     for n in 0..count {
         create(alloc, book, Id::new(u128::from(n)))?;
@@ -68,7 +68,7 @@ fn fill(alloc: Global, book: &mut Book, count: u64) -> Result<(), Refusal> {
     Ok(())
 }
 
-/// Makes so many uploads, and removes each before the next.
+/// Creates `count` uploads, and removes each before the next.
 fn replace(alloc: Global, book: &mut Book, count: u64) -> Result<(), Refusal> {
     for n in 0..count {
         let id = Id::new(u128::from(n));
@@ -78,20 +78,20 @@ fn replace(alloc: Global, book: &mut Book, count: u64) -> Result<(), Refusal> {
     Ok(())
 }
 
-/// How many changes a book accepted, in words.
+/// The number of changes that a book accepted, as text.
 fn count_of(alloc: Global, book: &Book) -> Result<String, RowFault> {
     let accepted = book.journal().accepted().len();
     Ok(format!(in alloc; "{accepted}")?)
 }
 
-/// How many changes are accepted where so many uploads are made and filled.
+/// The number of accepted changes if `count` uploads are created and filled.
 pub fn filled(alloc: Global, count: u64) -> Result<String, RowFault> {
     let mut book = new_book(alloc)?;
     fill(alloc, &mut book, count)?;
     count_of(alloc, &book)
 }
 
-/// How many changes are accepted where so many uploads are made, and each is removed before the next.
+/// The number of accepted changes if `count` uploads are created, and each is removed before the next.
 pub fn removed(alloc: Global, count: u64) -> Result<String, RowFault> {
     let mut book = new_book(alloc)?;
     replace(alloc, &mut book, count)?;

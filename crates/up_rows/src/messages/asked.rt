@@ -1,4 +1,4 @@
-//! What messages ask for, in words.
+//! What messages ask for, as text.
 use crate::row_fault::RowFault;
 use http::Method;
 use std::alloc::{AllocError, Global};
@@ -10,7 +10,7 @@ use up_headers::{
 use up_message::{Field, Message, Sequence};
 use up_wire::WireFault;
 
-/// The most bytes of an upload in these rows.
+/// The maximum number of bytes of an upload in these rows.
 const MAX_SIZE: u64 = 10;
 
 /// The field of a line, "Name: value".
@@ -29,7 +29,7 @@ fn fields_of(alloc: Global, lines: &str) -> Option<Sequence<Field>> {
     Some(fields)
 }
 
-/// A message of a line with method and target, and a line for each field. Its body is "abc".
+/// A message from a line with method and target, and a line for each field. Its body is "abc".
 fn message_of(alloc: Global, text: &str) -> Option<Message> {
     let (first, lines) = text.split_once('\n').unwrap_or((text, ""));
     let (method, target) = first.split_once(' ')?;
@@ -43,7 +43,7 @@ fn message_of(alloc: Global, text: &str) -> Option<Message> {
     })
 }
 
-/// A text that was kept, or a dash.
+/// A text of a creation, or a dash if there is none.
 fn push_kept(words: &mut String, kept: &Option<Sequence<u8>>) -> Result<(), AllocError> {
     match kept {
         Some(text) => write!(words, " [{}]", text.as_slice().escape_ascii()),
@@ -51,8 +51,8 @@ fn push_kept(words: &mut String, kept: &Option<Sequence<u8>>) -> Result<(), Allo
     }
 }
 
-/// "create Final Some(0) Id(1) Id(2) name=ab; [name YWI=] [final;..]": kind, length, parts, pairs, and the texts of the metadata and
-/// of the concatenation.
+/// A creation as "create Final Some(0) Id(1) Id(2) name=ab; [name YWI=] [final;..]": kind, length, parts, pairs, and
+/// the texts of the metadata and of the concatenation.
 fn push_upload(words: &mut String, new: &NewUpload) -> Result<(), AllocError> {
     write!(words, "create {:?} {:?}", new.kind, new.length)?;
     for id in new.parts.as_slice() {
@@ -63,7 +63,8 @@ fn push_upload(words: &mut String, new: &NewUpload) -> Result<(), AllocError> {
     push_kept(words, &new.concat)
 }
 
-/// "patch Id(1) media Some(7) None [abc]": id, whether the media type is right, offset, declared length and bytes.
+/// A PATCH as "patch Id(1) media Some(7) None [abc]": id, whether the media type is right, offset, declared length and
+/// bytes.
 fn push_patch(words: &mut String, patch: &Patch) -> Result<(), AllocError> {
     let media = if patch.media { "media" } else { "other" };
     let bytes = patch.bytes.as_slice().escape_ascii();
@@ -123,7 +124,7 @@ pub fn asked(alloc: Global, text: &[u8]) -> Result<String, RowFault> {
     Ok(words)
 }
 
-/// What a metadata text reads as.
+/// The pairs of a metadata text, or its fault.
 pub fn metadata(alloc: Global, text: &[u8]) -> Result<String, RowFault> {
     let mut words = String::new(alloc);
     match pairs_of(alloc, text) {

@@ -1,14 +1,14 @@
-//! How much stands in many messages, and a plain pass over them, which `bench/heads` times.
+//! Counting the content of many messages, and a plain pass over them, which `bench/heads` times.
 use crate::row_fault::RowFault;
 use std::alloc::Global;
 use up_headers::pairs_of;
 use up_message::{Message, Values, find_value};
 use up_wire::{Input, Limits, Output, ReadSome, Sink, Source, Taken, read_message};
 
-/// How many bytes a pass takes at once.
+/// The number of bytes that a pass takes at once.
 const ROOM: usize = 8192;
 
-/// What was read.
+/// The counts of what was read.
 #[derive(Clone, Copy)]
 struct Tally {
     messages: u64,
@@ -24,7 +24,7 @@ impl Tally {
     }
 }
 
-/// How many pairs of metadata a message has; none where they are malformed.
+/// The number of metadata pairs of a message; 0 if they are malformed.
 fn count_pairs(alloc: Global, message: &Message) -> u64 {
     let Values::One(text) = find_value(message.fields.as_slice(), b"upload-metadata") else {
         return 0;
@@ -35,7 +35,7 @@ fn count_pairs(alloc: Global, message: &Message) -> u64 {
     }
 }
 
-/// Reads messages up to the end of the source, or to the first that can't be read.
+/// Reads messages up to the end of the source, or to the first that cannot be read.
 fn read<R: Source, W: Sink>(alloc: Global, source: &mut R, sink: &mut W) -> Tally {
     let limits = Limits { max_body: 1 << 40 };
     let mut tally = Tally {
@@ -52,7 +52,7 @@ fn read<R: Source, W: Sink>(alloc: Global, source: &mut R, sink: &mut W) -> Tall
     tally
 }
 
-/// How many messages an input has, bytes of their bodies, and pairs of their metadata.
+/// The number of messages in an input, of bytes in their bodies, and of pairs in their metadata.
 pub fn counted(alloc: Global, mut input: &[u8]) -> Result<String, RowFault> {
     let mut sink = Output::new(Vec::new(alloc));
     let tally = read(alloc, &mut Input::new(&mut input), &mut sink);

@@ -1,4 +1,4 @@
-//! Devices in memory, which are interrupted and fail as they are told to.
+//! Devices in memory, with interruptions and failures on request.
 ghost use Rattle.up_wire.specs.Device.{device_of};
 ghost use Rattle.std.specs.Prelude.{None};
 
@@ -7,7 +7,7 @@ use std::cell::Cell;
 use std::io::{self, Read};
 use up_wire::{NextByte, Sink, Source, WriteSome};
 
-/// How often a device is interrupted before its first byte, and before each byte behind that.
+/// How often a device is interrupted before its first byte, and before each byte after it.
 #[derive(Clone, Copy, PartialEq, Eq)]
 pub struct Waits {
     pub before: u64,
@@ -18,13 +18,13 @@ impl Waits {
     pub const NONE: Waits = Waits { before: 0, each: 0 };
 }
 
-/// Gives its bytes one at a time, and then ends or fails.
+/// A source that returns its bytes one at a time, and then ends or fails.
 #[derive(Drop)]
 pub struct WaitingSource<'a> {
     pub bytes: &'a [u8],
     fails: bool,
     waits: Waits,
-    /// How often it was asked for a byte, but for interruptions.
+    /// How often it was asked for a byte, without interruptions.
     asks: &'a Cell<u64>,
     interruptions: u64,
     has_failed: bool,
@@ -74,7 +74,7 @@ impl<'a> Source for WaitingSource<'a> {
     }
 }
 
-/// A reader that gives its bytes one at each call.
+/// A reader that returns one byte per call.
 #[derive(Drop)]
 pub struct Drops<'a> {
     pub bytes: &'a [u8],
@@ -91,14 +91,14 @@ impl<'a> Read for Drops<'a> {
     }
 }
 
-/// Takes so many bytes, one at a time, and then fails.
+/// A sink that takes a number of bytes, one at a time, and then fails.
 #[derive(Drop)]
 pub struct WaitingSink<'a> {
     pub taken: Vec<u8>,
     room: usize,
     waits: Waits,
     asks: &'a Cell<u64>,
-    /// How often the source had been asked when all was sent on, where it was.
+    /// How often the source had been asked when everything was sent, if it was.
     pub sent: Option<u64>,
     interruptions: u64,
     has_failed: bool,

@@ -1,5 +1,5 @@
-//! What messages are, in words: "POST / Host: a; [body] close asked rest [GET]", where `100 Continue` was sent on and bytes stay
-//! unread, "cut POST / [bo]", "3 BadFraming bare", or "end".
+//! The results of reading messages, as text: "POST / Host: a; [body] close asked rest [GET]", if `100 Continue` was
+//! sent and bytes are left unread; "cut POST / [bo]"; "3 BadFraming bare"; or "end".
 use crate::messages::Messages;
 use crate::messages::devices::{Drops, WaitingSink, WaitingSource};
 use crate::row_fault::RowFault;
@@ -10,10 +10,10 @@ use std::io::BufReader;
 use up_message::Message;
 use up_wire::{Input, Limits, Source, Taken, read_message};
 
-/// The most bytes of a body in these rows.
+/// The maximum number of bytes of a body in these rows.
 const LIMIT: u64 = 20;
 
-/// What is written where the client waits for it.
+/// What is written if the client waits for it.
 const CONTINUE: &[u8] = b"HTTP/1.1 100 Continue\r\n\r\n";
 
 fn push_if(words: &mut String, word: &str, stands: bool) -> Result<(), AllocError> {
@@ -39,7 +39,7 @@ fn push_message(words: &mut String, message: &Message) -> Result<(), AllocError>
     push_if(words, " close", message.close)
 }
 
-/// What was written meanwhile. With `at`, also how often the source had been asked when it was sent on.
+/// What was written meanwhile. With `at`, also how often the source had been asked when it was sent.
 fn push_written(words: &mut String, sink: &WaitingSink, at: bool) -> Result<(), AllocError> {
     if sink.taken.is_empty() {
         return Ok(());
@@ -78,7 +78,7 @@ fn push_taken(words: &mut String, taken: &Taken) -> Result<(), AllocError> {
     }
 }
 
-/// Puts what was read and what was written meanwhile, and answers whether that is a whole message.
+/// Adds what was read and what was written meanwhile, and returns whether a whole message was read.
 fn push_read(
     words: &mut String,
     taken: &Taken,
@@ -90,7 +90,7 @@ fn push_read(
     Ok(matches!(taken, Taken::Message(_)))
 }
 
-/// Puts what a call of `read_message` gives, and answers whether it is a whole message.
+/// Adds the result of a call of `read_message`, and returns whether it is a whole message.
 fn read_one<R: Source>(
     alloc: Global,
     rows: &Messages,
@@ -105,7 +105,7 @@ fn read_one<R: Source>(
     push_read(words, &taken, &sink, at)
 }
 
-/// Puts what so many calls of `read_message` give, and answers whether the last is a whole message.
+/// Adds the results of `calls` calls of `read_message`, and returns whether the last is a whole message.
 fn read_all<R: Source>(
     alloc: Global,
     rows: &Messages,
@@ -123,7 +123,8 @@ fn read_all<R: Source>(
     Ok(is_whole)
 }
 
-/// What is read byte by byte. With `all`, what a fault leaves unread is told too, and when `100 Continue` was sent on.
+/// The result of reading byte by byte. With `all`, it includes what a fault leaves unread, and when `100 Continue` was
+/// sent.
 pub fn by_bytes(
     alloc: Global,
     rows: &Messages,
@@ -142,7 +143,7 @@ pub fn by_bytes(
     Ok(words)
 }
 
-/// What is read of a slice.
+/// The result of reading a slice.
 fn by_slice(
     alloc: Global,
     rows: &Messages,
@@ -159,7 +160,7 @@ fn by_slice(
     Ok(words)
 }
 
-/// What is read of a reader that gives one byte at a time.
+/// The result of reading from a reader that returns one byte at a time.
 fn by_drops(
     alloc: Global,
     rows: &Messages,
@@ -178,7 +179,7 @@ fn by_drops(
     Ok(words)
 }
 
-/// The words of two ways, once where they are the same.
+/// The texts of two ways of reading, or only one if they are the same.
 fn joined(mut one: String, other: &str) -> Result<String, RowFault> {
     if one.as_str() != other {
         one.push_str(" or else ")?;
@@ -187,7 +188,7 @@ fn joined(mut one: String, other: &str) -> Result<String, RowFault> {
     Ok(one)
 }
 
-/// What is read byte by byte, of a slice, and of a reader.
+/// The result of reading byte by byte, from a slice, and from a reader.
 pub fn either_way(
     alloc: Global,
     rows: &Messages,
@@ -201,7 +202,7 @@ pub fn either_way(
     joined(both, by_drops.as_str())
 }
 
-/// What is read where the input ends, and where a read fails.
+/// The result of reading if the input ends, and if a read fails.
 pub fn at_both_ends(
     alloc: Global,
     rows: &Messages,

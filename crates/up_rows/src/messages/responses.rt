@@ -1,4 +1,4 @@
-//! What is written.
+//! What is written of responses.
 use crate::gathered::gathered;
 use crate::line::cut;
 use crate::messages::Messages;
@@ -19,7 +19,7 @@ struct Reply {
     closes: bool,
 }
 
-/// The bytes of a text.
+/// The bytes that a text encodes.
 fn body_of(alloc: Global, text: &str) -> Result<Piece, RowFault> {
     let mut bytes = Vec::new(alloc);
     put_bytes(&mut bytes, text)?;
@@ -47,7 +47,7 @@ fn reply_of(alloc: Global, text: &str) -> Result<Reply, RowFault> {
     })
 }
 
-/// What was written, whether that failed, and the mark behind it.
+/// What was written, whether writing failed, and the mark after it.
 fn words_of(
     alloc: Global,
     ended: Result<(), WriteFailed>,
@@ -58,7 +58,7 @@ fn words_of(
     Ok(format!(in alloc; "{failed}[{}]{mark}", bytes.escape_ascii())?)
 }
 
-/// What a sink has that takes one byte at a time.
+/// What a sink that takes one byte at a time has received.
 fn told(alloc: Global, rows: &Messages, reply: &Reply) -> Result<String, RowFault> {
     let asks = Cell::new(0);
     let mut sink = WaitingSink::new(alloc, rows.room, rows.writes, &asks);
@@ -71,7 +71,7 @@ pub fn written(alloc: Global, rows: &Messages, text: &str) -> Result<String, Row
     told(alloc, rows, &reply_of(alloc, text)?)
 }
 
-/// A writer that holds back what it is given until it is flushed.
+/// A writer that holds back everything until it is flushed.
 fn holding(alloc: Global) -> Result<Output<BufWriter<Vec<u8>>>, RowFault> {
     match BufWriter::new(alloc, Vec::new(alloc)) {
         Ok(writer) => Ok(Output::new(writer)),
@@ -79,7 +79,7 @@ fn holding(alloc: Global) -> Result<Output<BufWriter<Vec<u8>>>, RowFault> {
     }
 }
 
-/// What such a writer has sent on of a reply.
+/// What such a writer has sent of a reply.
 fn sent_on(alloc: Global, reply: &Reply) -> Result<String, RowFault> {
     let mut sink = holding(alloc)?;
     let ended = write_response(&mut sink, &reply.response, reply.bare, reply.closes);
@@ -90,7 +90,7 @@ pub fn sent(alloc: Global, text: &str) -> Result<String, RowFault> {
     sent_on(alloc, &reply_of(alloc, text)?)
 }
 
-/// What such a writer has sent on of three pieces.
+/// What such a writer has sent of three pieces.
 pub fn pieces_sent(alloc: Global, flushes: bool) -> Result<String, RowFault> {
     let mut sink = holding(alloc)?;
     let mut ended = write_pieces(&mut sink, &[b"ab", b"", b"c"]);
@@ -100,7 +100,7 @@ pub fn pieces_sent(alloc: Global, flushes: bool) -> Result<String, RowFault> {
     words_of(alloc, ended, sink.into_inner().get_ref(), "")
 }
 
-/// A body, and whether another owner has it still when the response that shares it is gone.
+/// A body, and whether another owner still has it when the response that shares it is gone.
 pub fn shared(alloc: Global, text: &[u8]) -> Result<String, RowFault> {
     let body = Piece::copied(alloc, text)?;
     let shared = Segments::from_piece(alloc, body.share()?);

@@ -6,14 +6,15 @@ use std::io::{self, BufReader, ErrorKind, Read, Write};
 use up_escape::put_bytes;
 use up_wire::{Input, Output, ReadSome, Sink, Source};
 
-/// At each call gives or takes so many bytes, is interrupted or fails, as the next letter says, and nothing behind the last.
+/// At each call, returns or takes a number of bytes, is interrupted, or fails, according to the next letter, and does
+/// nothing after the last letter.
 #[derive(Drop)]
 struct Turns<'a> {
     turns: &'a [u8],
 }
 
 impl<'a> Turns<'a> {
-    /// How many bytes this call gives or takes.
+    /// The number of bytes that this call returns or takes.
     fn turn(&mut self) -> io::Result<usize> {
         let Some((turn, rest)) = self.turns.split_first() else {
             return Ok(0);
@@ -45,7 +46,7 @@ impl<'a> Write for Turns<'a> {
     }
 }
 
-/// What a source answers to a step that asks for three bytes at most.
+/// Adds what a source returns if it is asked for at most three bytes.
 fn push_run<R: Source>(
     alloc: Global,
     source: &mut R,
@@ -67,7 +68,7 @@ fn push_run<R: Source>(
     write!(words, "{run:?} [{}] ", into[..moved].escape_ascii())
 }
 
-/// Puts what a source answers to these steps.
+/// Adds what a source returns for these steps.
 fn push_steps<R: Source>(
     alloc: Global,
     source: &mut R,
@@ -85,7 +86,7 @@ fn push_steps<R: Source>(
     Ok(())
 }
 
-/// Puts what a slice as a source answers to these steps, and what is left of it.
+/// Adds what a slice as a source returns for these steps, and what is left of the slice.
 fn push_slice(
     alloc: Global,
     mut reader: &[u8],
@@ -96,7 +97,7 @@ fn push_slice(
     write!(words, "rest [{}]", reader.escape_ascii())
 }
 
-/// What a slice as a source answers, and what is left of it.
+/// What a slice as a source returns, and what is left of the slice.
 pub fn of_slice(alloc: Global, text: &str) -> Result<String, RowFault> {
     let (steps, text) = text.split_once(" : ").unwrap_or(("", text));
     let mut bytes = Vec::new(alloc);
@@ -106,7 +107,7 @@ pub fn of_slice(alloc: Global, text: &str) -> Result<String, RowFault> {
     Ok(words)
 }
 
-/// What a reader as a source answers.
+/// What a reader as a source returns.
 pub fn of_reader(alloc: Global, text: &str) -> Result<String, RowFault> {
     let (steps, turns) = text.split_once(" : ").unwrap_or(("", text));
     let turns = Turns {
@@ -121,7 +122,7 @@ pub fn of_reader(alloc: Global, text: &str) -> Result<String, RowFault> {
     Ok(words)
 }
 
-/// What a writer as a sink answers to five writes of two bytes and one of none.
+/// What a writer as a sink returns for five writes of two bytes and one of none.
 pub fn of_writer(alloc: Global, turns: &str) -> Result<String, RowFault> {
     let mut sink = Output::new(Turns {
         turns: turns.as_bytes(),

@@ -1,4 +1,4 @@
-//! Connections over sockets of this machine.
+//! Connections through sockets of this machine.
 ghost use Rattle.std.specs.Prelude.{◌≡◌, length};
 ghost use Rattle.up_dispatch.specs.Parts.{IsNamed};
 
@@ -18,7 +18,7 @@ use up_hooks::PreHooks;
 const ASKED: &[u8] = b"POST /files/ HTTP/1.1\r\nHost: a\r\nTus-Resumable: 1.0.0\r\n\
     Upload-Length: 5\r\nConnection: close\r\n\r\n";
 
-/// How it stood with letting connections in when it was last told.
+/// The state of letting connections in, as it was last reported.
 #[derive(Drop)]
 struct Last(Cell<Option<Entrance>>);
 
@@ -29,7 +29,7 @@ impl Notices for Last {
     }
 }
 
-/// Serves so many connections on a new board, and tells of each seat how many changes were made from it.
+/// Serves connections with a new board, and returns for each seat the number of changes that were made from it.
 fn counts<B: Naming + Send + Sync, N: Notices, T: Threads + Wait + Sync>(
     rt: &T,
     alloc: Global,

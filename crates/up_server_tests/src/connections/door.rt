@@ -1,4 +1,4 @@
-//! How many are open, told from threads.
+//! How many connections are open, as threads report it.
 use std::test::Fail;
 use std::thread;
 use std::time::{Duration, Instant};
@@ -40,7 +40,7 @@ fn waits_in_want_until_another_has_left(rt: HostRuntime) -> Result<(), Fail> {
     Ok(())
 }
 
-/// Two stay while a third is in want.
+/// Two connections stay while a third lacks a resource.
 #[test]
 fn waits_in_want_for_a_while(rt: HostRuntime) -> Result<(), Fail> {
     let door = Door::new();

@@ -1,4 +1,4 @@
-//! Ids that are drawn.
+//! Random ids.
 use std::test::Fail;
 use up_connections::Drawn;
 use up_dispatch::Ids;

@@ -1,4 +1,4 @@
-//! When a line is said on letting connections in. Times are milliseconds.
+//! When a line about letting connections in is written. Times are in milliseconds.
 use std::process::Abort;
 use std::test::Fail;
 use up_connections::{Due, Entrance, Said, Want};
@@ -13,7 +13,7 @@ const THREADS: Entrance = Entrance::Wanting(Want::Threads);
 
 const GONE: Entrance = Entrance::Gone(22);
 
-/// Tells how it stands at each of these times, and holds what is then to be done.
+/// Reports the state at each of these times, and checks what must then be done.
 fn hold(rt: &impl Abort, course: &[(u64, Entrance, Due)]) {
     let mut said = Said::new();
     for (now, entrance, due) in course {

@@ -13,13 +13,13 @@ use up_dispatch::{Board, BoardParts, Naming, Seat};
 use up_events::Id;
 use up_machine::Asked;
 
-/// Makes an upload from the seat.
+/// Creates an upload from the seat.
 fn make<B: Naming, R: Wait>(rt: &R, alloc: Global, board: &Board<B>, seat: &mut Seat<B>) {
     let request = creation(alloc, Some(1));
     let _ = board.commit(rt, alloc, seat, request, Id::new(7), &Asked::Allowed);
 }
 
-/// Puts a seat back from which an upload was made, and takes it before a new one.
+/// Puts back a seat from which an upload was created, and takes it again before a new one.
 fn taken_again<B: Naming, R: Wait + Abort>(
     rt: &R,
     alloc: Global,

@@ -1,4 +1,4 @@
-//! A closure that is asked about one connection's request and waits until another connection was answered.
+//! A closure that is asked about the request of one connection, and waits until another connection got its response.
 ghost use Rattle.std.specs.Prelude.{IsTrue};
 ghost use Rattle.up_hooks.specs.Verdicts.{is_lawful};
 
@@ -18,11 +18,11 @@ use up_hooks::{Outcome, PreHook, PreHooks};
 use up_machine::{Ask, Point, Verdict};
 use up_words::Settings;
 
-/// What is reported of the one upload.
+/// The report about the one upload.
 const REPORT: &str = "\naccepted 1\nlane 0 drained 0\nlane 1 drained 1\n\
     00000000000000000000000000000001 1 post-create 0/1 done\n";
 
-/// Asks once the closure was called, and tells of the answer.
+/// Sends a request once the closure was called, and returns the response.
 fn asks_meanwhile(alloc: Global, mut stream: TcpStream, gate: &Gate) -> Result<Vec<u8>, Fail> {
     if !gate.is_called_in_time() {
         return Err("the closure was not called".into());

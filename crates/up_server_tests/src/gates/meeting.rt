@@ -1,4 +1,4 @@
-//! Post-hooks of two lanes that wait for each other: the one is handed its event while the other has not answered to its own.
+//! Post-hooks of two lanes that wait for each other: one is handed its event before the other has returned.
 ghost use Rattle.std.specs.Prelude.{IsTrue};
 ghost use Rattle.up_hooks.specs.Told.{has_code};
 
@@ -21,18 +21,18 @@ const ASKED: &[u8] = b"POST /files/ HTTP/1.1\r\nHost: a\r\nTus-Resumable: 1.0.0\
     Upload-Length: 1\r\n\r\n\
     POST /files/ HTTP/1.1\r\nHost: a\r\nTus-Resumable: 1.0.0\r\nUpload-Length: 1\r\n\r\n";
 
-/// What is answered to them.
+/// The responses to them.
 const ANSWERS: &str = "HTTP/1.1 201 Created\r\nTus-Resumable: 1.0.0\r\nCache-Control: no-store\r\n\
     Location: /files/00000000000000000000000000000001\r\nContent-Length: 0\r\n\r\n\
     HTTP/1.1 201 Created\r\nTus-Resumable: 1.0.0\r\nCache-Control: no-store\r\n\
     Location: /files/00000000000000000000000000000002\r\nContent-Length: 0\r\n\r\n";
 
-/// What is then reported.
+/// The report after them.
 const REPORT: &str = "\naccepted 2\nlane 0 drained 1\n\
     00000000000000000000000000000002 1 post-create 0/1 done\nlane 1 drained 1\n\
     00000000000000000000000000000001 1 post-create 0/1 done\n";
 
-/// Tells the other lane that this one's post-hook was called, and waits until the other's was.
+/// Notifies the other lane that this one's post-hook was called, and waits until the other's was.
 fn meet(own: &AtomicBool, other: &AtomicBool) -> Outcome
     ensures { IsTrue (has_code result) }
 {
@@ -44,7 +44,7 @@ fn meet(own: &AtomicBool, other: &AtomicBool) -> Outcome
     }
 }
 
-/// Of which of two lanes the post-hook was called.
+/// Which of the two lanes' post-hooks were called.
 #[derive(Drop)]
 struct Meeting {
     zero: AtomicBool,
@@ -59,7 +59,7 @@ impl Meeting {
         }
     }
 
-    /// The answer of a lane's post-hook: it is done where the other lane's is called in time.
+    /// The outcome of a lane's post-hook: `Done` if the other lane's is called in time.
     fn answer(&self, event: &Event) -> Outcome
         ensures { IsTrue (has_code result) }
     {

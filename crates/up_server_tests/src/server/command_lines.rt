@@ -3,7 +3,7 @@ use std::alloc::{AllocError, Global};
 use std::test::Fail;
 use up_words::{Settings, Words, WordsFault, words};
 
-/// The words as the server is given them.
+/// The words in the form that the server takes.
 fn list_of(alloc: Global, given: &[&str]) -> Result<Vec<String>, AllocError> {
     let mut list = Vec::new(alloc);
     for word in given {
@@ -17,7 +17,7 @@ fn read(alloc: Global, given: &[&str]) -> Result<Words, WordsFault> {
     words(alloc, list_of(alloc, given)?)
 }
 
-/// The key, the most length and whether uploads are kept.
+/// The key, the maximum length, and whether uploads are kept.
 fn rules(words: &Words) -> (Option<&str>, Option<u64>, bool) {
     let key = match &words.require_key {
         Some(key) => Some(key.as_str()),
@@ -67,7 +67,7 @@ fn reads_settings_at_their_limits(rt: HostRuntime) -> Result<(), Fail> {
     Ok(())
 }
 
-/// Words, and the key, the most length and whether uploads are kept that they ask for.
+/// Words, and the key, the maximum length, and whether uploads are kept, as they ask for.
 const RULES: [(&[&str], (Option<&str>, Option<u64>, bool)); 10] = [
     (&["replay"], (None, None, false)),
     (
@@ -117,7 +117,8 @@ fn reads_rules(rt: HostRuntime) -> Result<(), Fail> {
     Ok(())
 }
 
-/// The address, the connections, the open ones and whether events are written, where connections are served.
+/// The address, the number of connections, how many may be open, and whether events are written, if connections are
+/// served.
 fn connections(words: &Words) -> Option<(&str, Option<u64>, u64, bool)> {
     match &words.serve {
         Some(serving) => Some((
@@ -130,7 +131,8 @@ fn connections(words: &Words) -> Option<(&str, Option<u64>, u64, bool)> {
     }
 }
 
-/// Words, and the address, the connections and the open ones that they ask for, and whether events are written.
+/// Words, and the address, the number of connections, how many may be open, and whether events are written, as they ask
+/// for.
 const CONNECTIONS: [(&[&str], Option<(&str, Option<u64>, u64, bool)>); 6] = [
     (&["serve"], Some(("127.0.0.1:1080", None, 1024, false))),
     (
@@ -166,7 +168,7 @@ fn reads_which_connections_are_served(rt: HostRuntime) -> Result<(), Fail> {
     Ok(())
 }
 
-/// Words, and for how many seconds a connection may be silent and how many bytes a second are the least.
+/// Words, and for how many seconds a connection may be silent, and the minimum rate in bytes per second.
 const PATIENCE: [(&[&str], Option<(Option<u64>, Option<u64>)>); 4] = [
     (&["serve"], Some((None, None))),
     (&["serve", "--patience", "1"], Some((Some(1), None))),
@@ -190,7 +192,7 @@ fn reads_how_long_it_waits_for_clients(rt: HostRuntime) -> Result<(), Fail> {
     Ok(())
 }
 
-/// Words, and the byte that ids are to begin with.
+/// Words, and the first byte of ids.
 const SHARDS: [(&[&str], Option<u8>); 4] = [
     (&["serve"], None),
     (&["serve", "--shard", "0"], Some(0)),

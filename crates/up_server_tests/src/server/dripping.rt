@@ -1,4 +1,4 @@
-//! A message that comes in the smallest pieces.
+//! A message that arrives in the smallest pieces.
 use super::*;
 use crate::replaying::replayed;
 use up_wire::Tape;

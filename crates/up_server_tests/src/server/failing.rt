@@ -3,7 +3,7 @@ use super::*;
 use crate::replaying::replayed;
 use up_wire::{Slip, Tape};
 
-/// Adds a POST of 75 bytes, and a PATCH whose head ends behind 249 bytes and whose body ends behind 260, with two replies
+/// Adds a POST of 75 bytes, and a PATCH whose head ends after 249 bytes and whose body ends after 260, with two replies
 /// and a report.
 fn add_small_talk(talk: &mut Talk) -> Result<(), AllocError> {
     talk.ask_post("11")?;
@@ -18,7 +18,7 @@ fn add_small_talk(talk: &mut Talk) -> Result<(), AllocError> {
     )
 }
 
-/// The report where the POST was served, and so many bytes of the body came.
+/// The report if the POST was served, and `count` bytes of the body arrived.
 fn report_of_part(alloc: Global, count: usize) -> Result<String, AllocError> {
     if count == 0 {
         return String::from_str(
@@ -33,7 +33,7 @@ fn report_of_part(alloc: Global, count: usize) -> Result<String, AllocError> {
     )
 }
 
-/// What is written where the reader fails behind so many bytes, fewer than 260.
+/// What is written if the reader fails after `count` bytes, fewer than 260.
 fn written_after(alloc: Global, count: usize) -> Result<String, AllocError> {
     let mut talk = Talk::new(alloc);
     if count < 75 {
@@ -46,7 +46,7 @@ fn written_after(alloc: Global, count: usize) -> Result<String, AllocError> {
     Ok(talk.wanted)
 }
 
-/// Serves this part of the talk, behind which a read fails, and compares.
+/// Serves this part of the talk, after which a read fails, and checks the output.
 fn hold_part(
     rt: &(impl Threads + Wait + Abort + Sync),
     alloc: Global,

@@ -1,7 +1,7 @@
 //! A writer that fails in mid-stream.
 use std::io::{self, ErrorKind, Write};
 
-/// Takes so many bytes, a few at a call, then fails, and would take more.
+/// Takes `room` bytes, a few per call, then fails once, and would take more.
 #[derive(Drop)]
 pub struct FullWriter<'a> {
     pub taken: &'a mut Vec<u8>,

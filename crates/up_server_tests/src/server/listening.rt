@@ -1,4 +1,4 @@
-//! Connections over sockets of this machine, and what is reported of them.
+//! Connections through sockets of this machine, and the report about them.
 use crate::clients::{ask_each, hold_answer};
 use crate::serving::reported;
 use std::net::TcpListener;
@@ -9,7 +9,7 @@ use up_events::Event;
 use up_hooks::{Outcome, PreHooks};
 use up_words::Settings;
 
-/// A creation, an append and what is no upload, each of which closes its connection.
+/// A creation, an append, and a request that is not for an upload. Each closes its connection.
 const ASKED: [&[u8]; 3] = [
     b"POST /files/ HTTP/1.1\r\nHost: a\r\nTus-Resumable: 1.0.0\r\n\
         Upload-Length: 3\r\nConnection: close\r\n\r\n",
@@ -19,7 +19,7 @@ const ASKED: [&[u8]; 3] = [
     b"GET / HTTP/1.0\r\nTus-Resumable: 1.0.0\r\n\r\n",
 ];
 
-/// What is then reported.
+/// The report after them.
 const REPORT: &str = "\naccepted 2\nlane 0 drained 0\nlane 1 drained 3\n\
     00000000000000000000000000000001 1 post-create 0/3 done\n\
     00000000000000000000000000000001 2 post-receive 3/3 done\n\

@@ -1,4 +1,4 @@
-//! Closures that refuse, and post-hooks that fail, as the replies and the report show them.
+//! Closures that refuse and post-hooks that fail, as seen in the replies and the report.
 ghost use Rattle.std.specs.Prelude.{IsTrue};
 ghost use Rattle.up_hooks.specs.Told.{has_code};
 ghost use Rattle.up_hooks.specs.Verdicts.{is_lawful};
@@ -24,8 +24,8 @@ const STATUSES: [&str; 6] = [
 const EIGHTY: &str =
     "The quota of this account is used up until the end of the month (see the rules).";
 
-/// Refuses an upload of n bytes, for n up to 6, with the status at that place and a reason of one byte; a longer one with 429
-/// and one of 80.
+/// Refuses an upload of n bytes, for n from 1 to 6, with the n-th status and a reason of one byte, and any other with
+/// 429 and a reason of 80 bytes.
 fn by_length(ask: &Ask) -> Verdict
     ensures { IsTrue (is_lawful result) }
 {
@@ -44,7 +44,7 @@ fn by_length(ask: &Ask) -> Verdict
     }
 }
 
-/// Adds uploads of one byte to seven, each of which is refused, and the report.
+/// Adds uploads of one to seven bytes, each of which is refused, and the report.
 fn add_refused_by_length(talk: &mut Talk) -> Result<(), AllocError> {
     let lines = ["1", "2", "3", "4", "5", "6"];
     for (line, status) in lines.iter().zip(STATUSES.iter()) {
@@ -76,7 +76,8 @@ fn counted(calls: &AtomicU64) -> Verdict
     Verdict::Allow
 }
 
-/// Adds what is refused before any closure is asked, and then an upload that is made, filled, shown and removed, and the report.
+/// Adds requests that are refused before any closure is asked, then an upload that is created, filled, shown and
+/// removed, and the report.
 fn add_refused_and_removed(talk: &mut Talk) -> Result<(), AllocError> {
     talk.ask_post("1048577")?;
     talk.want_refused("413 Payload Too Large", "11", "15 TooLong")?;
@@ -129,7 +130,8 @@ fn asks_only_where_nothing_else_refuses(rt: HostRuntime) -> Result<(), Fail> {
     Ok(())
 }
 
-/// Adds two uploads that become complete, and a report in which the post-hook fails at each event but the first of each.
+/// Adds two uploads that become complete, and a report in which the post-hook fails at each event but the first of each
+/// upload.
 fn add_two_that_fail(talk: &mut Talk) -> Result<(), AllocError> {
     talk.ask_post("3")?;
     talk.want_created(U1)?;

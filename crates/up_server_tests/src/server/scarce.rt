@@ -1,4 +1,4 @@
-//! Post-hooks that are refused memory while connections are served.
+//! Post-hooks that run out of memory while connections are served.
 ghost use Rattle.std.specs.Prelude.{◌≡◌, ◌++◌, ◌∷◌, [], OnOk, true};
 
 use crate::clients::{ask_each, hold_answer};
@@ -29,10 +29,10 @@ const ASKED: [&[u8]; 2] = [
         Content-Length: 3\r\n\r\nabc",
 ];
 
-/// Their events: each hook with its offset.
+/// The events of these requests: each hook with its offset.
 const EVENTS: [(Hook, u64); 3] = [(Hook::Create, 0), (Hook::Receive, 3), (Hook::Finish, 3)];
 
-/// A post-hook that lists its events, and tells how many there are in all. Its first calls for memory are refused, so many.
+/// A post-hook that lists its events, and reports their number. Memory runs out in its first `refusals` calls.
 #[derive(Drop)]
 struct Scarce<'a> {
     events: Vec<Event>,
@@ -88,7 +88,7 @@ impl<'a> Scarce<'a> {
     }
 }
 
-/// Serves so many connections over one lane with this post-hook.
+/// Serves connections with one lane that has this post-hook.
 fn served<'a, T: Threads + Wait + Eprint + Sync>(
     rt: &T,
     alloc: Global,
@@ -121,7 +121,7 @@ fn served<'a, T: Threads + Wait + Eprint + Sync>(
     )
 }
 
-/// Waits until so many events were told, a minute at most.
+/// Waits until `count` events were reported, for at most a minute.
 fn wait_for(rt: &impl Wait, told: &AtomicU64, count: u64) {
     for _ in 0..600u32 {
         let before = told.load(Ordering::SeqCst);
@@ -136,7 +136,7 @@ fn wait_for(rt: &impl Wait, told: &AtomicU64, count: u64) {
     }
 }
 
-/// Holds that the lane ended so, once it was handed so many of its events, each once and in order.
+/// Checks how the lane ended, and that it was handed `count` of its events, each once and in order.
 fn hold(
     rt: &impl Abort,
     report: &Report<Scarce<'_>>,
