@@ -1,5 +1,5 @@
 //! Calls those functions of the crates whose contracts say what holds if memory runs out, according to the rows of
-//! standard input, and prints the state before and after each call. `tests/memory` makes the program's requests for
+//! standard input, and prints the state before and after each call. `tests/memory.py` makes the program's requests for
 //! memory fail.
 //!
 //! A line that is empty or begins with `#` is ignored. A row is:

@@ -1,4 +1,4 @@
-//! Many requests to a book. `bench/replay` times them to see how time and memory grow with their number.
+//! Many requests to a book. `bench/replay.py` times them to see how time and memory grow with their number.
 ghost use Rattle.up_headers.specs.Table.{FitsWithin};
 
 use crate::row_fault::RowFault;

@@ -1,4 +1,4 @@
-//! Counting the content of many messages, and a plain pass over them, which `bench/heads` times.
+//! Counting the content of many messages, and a plain pass over them, which `bench/heads.py` times.
 use crate::row_fault::RowFault;
 use std::alloc::Global;
 use up_headers::pairs_of;
