@@ -1,4 +1,4 @@
-"""What `bench/serve`, `bench/lock` and `bench/soak` share: the programs that they measure by turns, and nginx; their clients
+"""What `bench/serve.py`, `bench/lock.py` and `bench/soak.py` share: the programs that they measure by turns, and nginx; their clients
 in C; what a server takes of the processors; and tables.
 """
 import argparse

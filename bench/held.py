@@ -1,4 +1,4 @@
-"""What `bench/serve` measures of the memory of `up`: the bytes that it holds, as they come in bodies of several sizes, in
+"""What `bench/serve.py` measures of the memory of `up`: the bytes that it holds, as they come in bodies of several sizes, in
 chunked coding and in a final upload, and connections that are idle.
 """
 import contextlib

@@ -1,4 +1,4 @@
-/* The client of bench/serve and bench/shards: does one kind of work on the server at a port of the loopback, and says what
+/* The client of bench/serve.py and bench/shards.py: does one kind of work on the server at a port of the loopback, and says what
  * it took.
  *
  *     client PORT tus|put append CONNECTIONS REQUESTS BYTES   seconds, and the name of what came first

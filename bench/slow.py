@@ -1,4 +1,4 @@
-"""The figure `slow_hook` of `bench/serve`: small requests for uploads of one lane, while the post-hook of the other takes 50
+"""The figure `slow_hook` of `bench/serve.py`: small requests for uploads of one lane, while the post-hook of the other takes 50
 ms for each event.
 """
 import os

@@ -1,4 +1,4 @@
-/* The client of bench/soak: changes uploads over many connections, and holds their events to what was acknowledged.
+/* The client of bench/soak.py: changes uploads over many connections, and holds their events to what was acknowledged.
  *
  *     soak PORT EVENTS CONNECTIONS UPLOADS
  *

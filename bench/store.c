@@ -1,4 +1,4 @@
-/* What bench/store times a stored server beside: the writes of its log alone, and the reading of a file.
+/* What bench/store.py times a stored server beside: the writes of its log alone, and the reading of a file.
  *
  *     store write FILE BATCHES BYTES    seconds; writes so many batches of so many bytes
  *     store read FILE                   seconds; the bytes are dropped

@@ -1,4 +1,4 @@
-/* What bench/soak hears of uploads: the lines of `serve --events`, read from a pipe as they come, and a table of what
+/* What bench/soak.py hears of uploads: the lines of `serve --events`, read from a pipe as they come, and a table of what
  * they told of each upload. It stands behind talk.h.
  *
  * An event follows those of its upload where it has the next number. The first, and no other, is `post-create`, at

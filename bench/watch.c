@@ -1,4 +1,4 @@
-/* The watcher of bench/lock: asks for the state of an upload over and over, and says how long the answers took.
+/* The watcher of bench/lock.py: asks for the state of an upload over and over, and says how long the answers took.
  *
  *     watch PORT PATH [PORT PATH]..
  *

@@ -1,4 +1,4 @@
-"""What `tests/crash` holds a stored server to: a plain count of uploads, clients that change them and go on after a
+"""What `tests/crash.py` holds a stored server to: a plain count of uploads, clients that change them and go on after a
 crash where they were, and the lines of `--events` of all runs. """
 import base64
 import contextlib

@@ -1,4 +1,4 @@
-"""What `tests/clients` has curl do, and reads of what it says."""
+"""What `tests/clients.py` has curl do, and reads of what it says."""
 import re
 import subprocess
 

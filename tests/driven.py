@@ -1,4 +1,4 @@
-"""A Chromium for the time of a `with`, which `tests/browser` drives by WebDriver: JSON over HTTP to Debian's
+"""A Chromium for the time of a `with`, which `tests/browser.py` drives by WebDriver: JSON over HTTP to Debian's
 `chromium-driver`. Neither reaches anything but the loopback.
 """
 import base64

@@ -1,5 +1,5 @@
 """Servers that can be told to end in order, by the script that runs them or by their standard input: what
-`tests/ending` and `tests/crash` share. """
+`tests/ending.py` and `tests/crash.py` share. """
 import contextlib
 import fcntl
 import os

@@ -1,4 +1,4 @@
-"""What `tests/clients` tries with nginx in front of the server, and that nginx, which `tests/browser` has too. Its lines are
+"""What `tests/clients.py` tries with nginx in front of the server, and that nginx, which `tests/browser.py` has too. Its lines are
 those of examples/browser/nginx.conf, with other ports and paths, so what people copy is what is tried.
 """
 import contextlib

@@ -1,5 +1,5 @@
 /*
- * Refuses a program memory, as a system does that has none left. tests/memory builds it and has it loaded before the C
+ * Refuses a program memory, as a system does that has none left. tests/memory.py builds it and has it loaded before the C
  * library (LD_PRELOAD).
  *
  * Every request is counted from 1: malloc, calloc, realloc, aligned_alloc, memalign, posix_memalign, and

@@ -1,4 +1,4 @@
-"""A plain model of the server, to which `bench/drawn` and `tests/memory` hold it: the uploads stand in a list that is
+"""A plain model of the server, to which `tests/draw_talks.py` and `tests/memory.py` hold it: the uploads stand in a list that is
 scanned, and the events in a list for each lane. It knows nothing of the server's code.
 """
 from messages import (

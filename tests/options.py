@@ -1,4 +1,4 @@
-"""What `tests/clients` tries of the table of clients' options in docs/PROTOCOL.md: each answer of the server that it names."""
+"""What `tests/clients.py` tries of the table of clients' options in docs/PROTOCOL.md: each answer of the server that it names."""
 import base64
 import contextlib
 import os

@@ -1,4 +1,4 @@
-"""What `tests/clients` tries of other clients, each of which also meets a refusal, and must tell of it: tuspy with many uploads
+"""What `tests/clients.py` tries of other clients, each of which also meets a refusal, and must tell of it: tuspy with many uploads
 at once and curl with 1 GiB, Go's net/http (tests/sender.go) and Node's fetch (tests/sender.mjs) with streams.
 """
 import contextlib

@@ -1,4 +1,4 @@
-"""What the scripts of `tests/`, `bench/memory`, `bench/serve`, `bench/lock` and `bench/soak` share: the program `up`, a
+"""What the scripts of `tests/`, `bench/memory.py`, `bench/serve.py`, `bench/lock.py` and `bench/soak.py` share: the program `up`, a
 server of it and an nginx for the time of a `with`, connections that speak HTTP/1.1 byte for byte, work in many threads at
 once, and the count of cases. It needs nothing but Python 3, and nginx where that is used, and prints nothing by itself.
 """

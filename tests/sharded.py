@@ -1,6 +1,6 @@
-"""What `tests/shards` and `bench/shards` share: servers that are shards, and the proxies of examples/shards in front of them.
+"""What `tests/shards.py` and `bench/shards.py` share: servers that are shards, and the proxies of examples/shards in front of them.
 The proxies have the lines that stand there, with other ports, so what people copy is what is tried. And the clients of
-`tests/shards`, which keep a count.
+`tests/shards.py`, which keep a count.
 """
 import contextlib
 import os

@@ -1,4 +1,4 @@
-"""Servers with a store for `tests/crash`: how they are started, killed, limited and refused, and what is in the files
+"""Servers with a store for `tests/crash.py`: how they are started, killed, limited and refused, and what is in the files
 of a store. """
 import contextlib
 import os

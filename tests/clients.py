@@ -2,9 +2,9 @@
 """Tries real clients against `up serve`: tuspy, curl, Go's net/http and Node's fetch; nginx in front of it, as
 examples/browser has it; and the answers that docs/PROTOCOL.md names for the options of clients.
 
-    tests/clients [--program PATH] [NAME..]
+    tests/clients.py [--program PATH] [NAME..]
 
-It needs Debian's `python3-tuspy`, or pip's `tuspy` for the Python that runs it (then: `python3 tests/clients`), `curl`,
+It needs Debian's `python3-tuspy`, or pip's `tuspy` for the Python that runs it (then: `python3 tests/clients.py`), `curl`,
 `golang-go`, `nodejs` 18 or later, and `nginx-light` with `openssl`; what isn't there is said, and its cases are passed over.
 Each upload is fetched back by GET and compared byte for byte. It takes a minute, 1.1 GiB of memory, and 2 GiB of TMPDIR.
 

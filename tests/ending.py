@@ -2,7 +2,7 @@
 """Ends `up serve` in order, by signals to the script that runs it and by its standard input, and holds what is told of
 uploads to what was acknowledged.
 
-    tests/ending [--program PATH] [--rounds N] [NAME..]
+    tests/ending.py [--program PATH] [--rounds N] [NAME..]
 
 It needs nothing but Python 3 and Linux, and takes half a minute with three rounds, which is the default. What isn't there
 or isn't permitted (`unshare`, `systemd-analyze`) is passed over.

@@ -2,7 +2,7 @@
 """Times 1, 2 and 4 shards, processes of `up serve --shard K`, side by side: asked by themselves, and through each of the
 proxies of examples/shards. And has many uploads under way at once.
 
-    bench/shards [--program NAME=PATH[@GLIBC_TUNABLES]] [--rounds N] [--uploads N] [NAME..]
+    bench/shards.py [--program NAME=PATH[@GLIBC_TUNABLES]] [--rounds N] [--uploads N] [NAME..]
 
 It needs a C compiler, for its client (bench/serve.c), and Debian's `nginx-light` and `haproxy`; what isn't there is passed
 over. All is on the loopback of one machine, so the shards, the proxy and the client share its processors: the rates say what

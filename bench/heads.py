@@ -1,7 +1,7 @@
 #!/usr/bin/env python3
 """Times how messages are read: heads and trailers of many fields, metadata of many keys, and long chunk lines.
 
-    bench/heads [--runs N]
+    bench/heads.py [--runs N]
 
 Each figure is the time of one piece, the best of N runs (by default 5) over many copies of it, and how many times that of a
 plain pass over the same bytes it is, which adds them up. What it takes to copy them is timed too, and taken off. Some have

@@ -1,7 +1,7 @@
 #!/usr/bin/env python3
 """Times `up serve --store DIR` beside the same writes alone, and beside `up` without a store, on one disk in one run.
 
-    bench/store [--program PATH] [--rounds N] [--folder FOLDER] [--mebibytes N] [NAME..]
+    bench/store.py [--program PATH] [--rounds N] [--folder FOLDER] [--mebibytes N] [NAME..]
 
 It needs a C compiler, for its clients (bench/serve.c and bench/store.c), and Linux. FOLDER is where stores are made,
 each in a folder of its own that is removed behind the run; it has to be on a real disk, and is a temporary folder

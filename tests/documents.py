@@ -3,7 +3,7 @@
 definitions, of docs/ARCHITECTURE.md; the words and their limits of docs/RUNNING.md; the refusals of docs/PROTOCOL.md;
 and links and the length of lines in all of them.
 
-    tests/documents [NAME..]
+    tests/documents.py [NAME..]
 
 It needs nothing but Python 3, and takes less than a second. The gate, `.ci/run`, runs it.
 

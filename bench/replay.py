@@ -1,7 +1,7 @@
 #!/usr/bin/env python3
 """Times the server on made-up conversations: how many MB and messages a second it serves, and how much memory it takes.
 
-    bench/replay [--mib N] [--messages N]
+    bench/replay.py [--mib N] [--messages N]
 
 The first conversation makes one upload, appends N MiB (by default 1024) to it, 1 MiB at a time, and gets it back; the second
 is of N small messages (by default 10,000); the third makes 64 parts of 1 MiB, joins them, and gets the final upload back. All

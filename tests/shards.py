@@ -2,7 +2,7 @@
 """Runs four shards, processes of `up serve --shard K`, behind each of the proxies of examples/shards, and holds what clients
 are answered and what the shards tell by `--events` to what docs/RUNNING.md says of shards.
 
-    tests/shards [--program PATH] [NAME..]
+    tests/shards.py [--program PATH] [NAME..]
 
 It needs Python 3, Linux, and Debian's `nginx-light` and `haproxy`; what isn't there is passed over, with its cases. All is on
 the loopback, where each client has an address of its own, and takes a minute.

@@ -1,7 +1,7 @@
 #!/usr/bin/env python3
 """Measures how long a request of one client makes another one wait.
 
-    bench/lock [--program NAME=PATH[@GLIBC_TUNABLES]].. [--rounds N] [--small] [NAME..]
+    bench/lock.py [--program NAME=PATH[@GLIBC_TUNABLES]].. [--rounds N] [--small] [NAME..]
 
 It needs a C compiler, for its watcher (bench/watch.c), and nothing else. Two servers of a program run beside each other. One is
 worked from one client with the largest of everything: bodies, finals, removals, lanes that fill. The other has nothing to do,

@@ -1,7 +1,7 @@
 #!/usr/bin/env python3
 """Draws conversations with the server, and says what must come of each, to the byte.
 
-    bench/drawn [--seed N] [--talks N] [--messages N] [--count]
+    tests/draw_talks.py [--seed N] [--talks N] [--messages N] [--count]
 
 The conversations are printed as the program of crates/up_talks reads them. What is wanted comes from a plain model of the
 server (tests/model.py), which knows nothing of its code. With --count it tells on standard error how often each kind of
@@ -10,15 +10,12 @@ answer was drawn, and ends with 1 if one never was.
 import argparse
 import base64
 import collections
-import os
 import random
 import re
 import sys
 
-ROOT = os.path.dirname(os.path.dirname(os.path.abspath(__file__)))
-sys.path.insert(0, os.path.join(ROOT, "tests"))
-from messages import CRLF, HEAD_END, MAX_CHUNK_LINE, MAX_FIELDS, MEDIA_TYPE, REFUSALS, VERSION, id_text  # noqa: E402
-from model import KEPT, KEY_MISSING, TOO_LONG_HERE, TOO_LONG_TO_FINISH, Rules, Server  # noqa: E402
+from messages import CRLF, HEAD_END, MAX_CHUNK_LINE, MAX_FIELDS, MEDIA_TYPE, REFUSALS, VERSION, id_text
+from model import KEPT, KEY_MISSING, TOO_LONG_HERE, TOO_LONG_TO_FINISH, Rules, Server
 
 # Every kind of answer and of end, by the name under which it is counted.
 KINDS = [f"{number} {name}" for number, (name, _) in REFUSALS.items()]
@@ -549,6 +546,7 @@ def main():
     given = words.parse_args()
     rng = random.Random(given.seed)
     kinds = collections.Counter()
+    # The stored file has this name of the script in its first line.
     print(f"# Conversations that bench/drawn drew: --seed {given.seed} --talks {given.talks} --messages {given.messages}")
     for place in range(given.talks):
         print(f"\ntalk drawn {given.seed}.{place + 1}")
@@ -558,7 +556,7 @@ def main():
         for kind in KINDS:
             print(f"{kinds[kind]:8} {kind}", file=sys.stderr)
         if not all(kinds[kind] for kind in KINDS):
-            sys.exit("drawn: some kind of answer was never drawn")
+            sys.exit("draw_talks: some kind of answer was never drawn")
 
 
 main()

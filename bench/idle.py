@@ -1,7 +1,7 @@
 #!/usr/bin/env python3
 """Times a server that has nothing to do, and how soon an event reaches its hook.
 
-    bench/idle [--seconds N]
+    bench/idle.py [--seconds N]
 
 A conversation with `up replay` makes an upload, and then its input waits N seconds (by default 10) for the next byte: the
 processor time of the whole run is to be less than a tenth of a second, so the lanes sleep. Then a conversation with

@@ -1,7 +1,7 @@
 #!/usr/bin/env python3
 """Has many clients at once talk to `up serve`, and holds what they are told, and the report, to a plain count.
 
-    tests/together [--program PATH] [NAME..]
+    tests/together.py [--program PATH] [NAME..]
 
 It needs nothing but Python 3 and Linux, and takes less than ten seconds. The gate, `.ci/run`, runs it with the program that it
 has built.

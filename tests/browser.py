@@ -1,7 +1,7 @@
 #!/usr/bin/env python3
 """Has a browser upload through nginx, as examples/browser has it, from a page of the same origin and of another.
 
-    tests/browser [--program PATH] [NAME..]
+    tests/browser.py [--program PATH] [NAME..]
 
 It needs Debian's `chromium`, `chromium-driver`, `nginx-light` and `openssl`. What isn't there is said, and everything is
 passed over. It takes a minute, and reaches nothing but the loopback. Pictures of an upload that runs, of one that was resumed

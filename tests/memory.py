@@ -1,7 +1,7 @@
 #!/usr/bin/env python3
 """Refuses `up` the memory it asks for, one request after another, and holds what it does then to a plain model of it.
 
-    tests/memory [--program PATH] [--refusals PATH] [NAME..]
+    tests/memory.py [--program PATH] [--refusals PATH] [NAME..]
 
 It needs Python 3 and a C compiler, for tests/memory.c, which is loaded with the program, counts its requests for
 memory and refuses those it is told to; where there is no compiler it says so, and all is passed over. It takes less

@@ -2,7 +2,7 @@
 """Gives `up` words that it can't do as they say, and holds its exit status and what it then says to docs/RUNNING.md; and
 an empty input.
 
-    tests/words [--program PATH] [NAME..]
+    tests/words.py [--program PATH] [NAME..]
 
 It needs nothing but Python 3 and Linux, and takes less than a second. The gate, `.ci/run`, runs it with the program
 that it has built.

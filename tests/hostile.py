@@ -1,7 +1,7 @@
 #!/usr/bin/env python3
 """Tries slow, rude and vanishing clients against `up serve`: what they do is to harm no other client.
 
-    tests/hostile [--program PATH] [NAME..]
+    tests/hostile.py [--program PATH] [NAME..]
 
 It needs nothing but Python 3 and Linux, and takes less than a minute. A line for each case says whether it passed; the
 last line is `N passed, M failed`, and the exit status is 1 where one failed.

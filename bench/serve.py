@@ -1,7 +1,7 @@
 #!/usr/bin/env python3
 """Times `up serve` beside nginx, by turns, and measures what it holds in memory.
 
-    bench/serve [--program NAME=PATH[@GLIBC_TUNABLES]].. [--rounds N] [--touch MIB] [--slow PATH] [NAME..]
+    bench/serve.py [--program NAME=PATH[@GLIBC_TUNABLES]].. [--rounds N] [--touch MIB] [--slow PATH] [NAME..]
 
 It needs a C compiler, for its client (bench/serve.c), and Debian's `nginx-light`; where nginx isn't there it says so, and
 measures `up` alone. All servers are on the loopback. nginx takes the same bytes by PUT (WebDAV) into files in memory, with two

@@ -1,8 +1,8 @@
 #!/usr/bin/env python3
 """Draws messages that break off anywhere, have a byte changed or are put together at random, and says what must come of each.
 
-    bench/messages [--seed N] [--drawn N]
-    bench/messages --hold FILE
+    tests/draw_rows.py [--seed N] [--drawn N]
+    tests/draw_rows.py --hold FILE
 
 The rows are printed as the program of crates/up_rows reads them. What is wanted comes from a plain reader in this file, which
 takes a whole input at once, line by line, and knows nothing of the server's code. With --hold the rows of a file that read
@@ -376,6 +376,7 @@ def main():
     given = words.parse_args()
     if given.hold:
         sys.exit(0 if hold(given.hold) else 1)
+    # The stored file has this name of the script in its first line.
     print(f"# What bench/messages drew: --seed {given.seed} --drawn {given.drawn}")
     print_fronts()
     print_changes()

@@ -1,7 +1,7 @@
 #!/usr/bin/env python3
 """Measures what clients can make `up serve` hold in memory.
 
-    bench/memory [--program PATH] [NAME..]
+    bench/memory.py [--program PATH] [NAME..]
 
 It needs nothing but Python 3. Each figure has a server of its own, with `--max-size 1073741824`. Many connections do the
 same, and what the memory of the process (`VmRSS`) grew by is divided among them: what a connection costs that is idle, or

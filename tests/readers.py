@@ -1,7 +1,7 @@
 #!/usr/bin/env python3
 """Runs examples/scanner and examples/archive on `up serve --events`, and holds them to what is left where.
 
-    tests/readers [--program PATH] [NAME..]
+    tests/readers.py [--program PATH] [NAME..]
 
 It needs `curl`, and Debian's `rclone` for a store that isn't a folder. What isn't there is said, and its cases are passed
 over. It takes some seconds. ClamAV isn't run: a script of three lines stands for it.

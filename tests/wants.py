@@ -2,7 +2,7 @@
 """Takes from `up serve` what it needs to let connections in, and gives it back: descriptors, addresses for the stacks of
 threads, and the listener.
 
-    tests/wants [--program PATH] [NAME..]
+    tests/wants.py [--program PATH] [NAME..]
 
 It needs nothing but Python 3.9 and Linux, and takes less than a minute. Where the system doesn't lend the listener of
 another process (`pidfd_getfd`), the cases that shut it down are passed over.

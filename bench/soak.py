@@ -1,7 +1,7 @@
 #!/usr/bin/env python3
 """Has 64 connections change the uploads of a server for long, and measures what it keeps of that.
 
-    bench/soak [--program NAME=PATH[@GLIBC_TUNABLES]].. [--changes N] [--limit KIB] [NAME..]
+    bench/soak.py [--program NAME=PATH[@GLIBC_TUNABLES]].. [--changes N] [--limit KIB] [NAME..]
 
 It needs a C compiler, for its client (bench/soak.c), and Linux. A server has no end and runs with `--events`, whose
 lines the client reads meanwhile. In `cycles` each connection makes uploads of a byte, 16 at a time, appends that byte,
@@ -16,7 +16,7 @@ events of all that was acknowledged have been read, and the server has nothing t
 each step: the changes so far; the memory of the server (`VmRSS`), and without the 20 bytes that it keeps of each id
 ever given; by how many bytes a change it grew in this step, and without those of ids; how long a connection waited at
 most for its next reply; how many events waited at most for their line to be read; and the changes a second. The times
-are those of a machine that the client takes half of, so they have no goal: `bench/lock` measures waits.
+are those of a machine that the client takes half of, so they have no goal: `bench/lock.py` measures waits.
 
 The second table has the goals. No request is refused. Without the ids the memory behind the last step is at most 1.2
 times that behind the first; the line behind says what all that it grew by comes to for each id, which has no goal. The

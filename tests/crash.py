@@ -2,7 +2,7 @@
 """Kills, ends and restarts `up serve --store DIR`, cuts its log, and fills its disk, and holds what is there after
 that, and the events of all runs, to what was acknowledged.
 
-    tests/crash [--program PATH] [--rounds N] [NAME..]
+    tests/crash.py [--program PATH] [--rounds N] [NAME..]
 
 It needs nothing but Python 3 and Linux, and takes two minutes with twenty rounds, which is the default. What isn't
 there or isn't permitted (a mount, Debian's strace) is passed over.
