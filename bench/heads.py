@@ -13,9 +13,8 @@ import subprocess
 import sys
 import time
 
-ROOT = os.path.dirname(os.path.dirname(os.path.abspath(__file__)))
-FOLDER = os.path.join(ROOT, "crates", "up_rows")
-PROGRAM = os.path.join(FOLDER, "out", "up_rows")
+sys.path.insert(0, os.path.join(os.path.dirname(os.path.dirname(os.path.abspath(__file__))), "tests"))
+from serving import build  # noqa: E402
 
 # The bytes that all copies have, about.
 SIZE = 8 << 20
@@ -67,25 +66,18 @@ ROWS = [
 ]
 
 
-def build():
-    """The program is built anew, where its crates changed."""
-    done = subprocess.run(["rt", "run"], cwd=FOLDER, capture_output=True, text=True)
-    if done.returncode != 0:
-        sys.exit(f"bench: the program was not built\n{done.stdout}{done.stderr}")
-
-
 def escaped(message):
     """The bytes as a row has them."""
     return message.decode().replace("\\", "\\\\").replace("\r", "\\r").replace("\n", "\\n")
 
 
-def best_of(runs, text, row, count):
-    """The best seconds of so many runs over a text that each of so many rows has anew."""
+def best_of(program, runs, text, row, count):
+    """The best seconds of so many runs of the program over a text that each of so many rows has anew."""
     given = f"start {text}\n" + f"{row}\n" * count
     best = None
     for _ in range(runs):
         start = time.monotonic()
-        done = subprocess.run([PROGRAM], input=given, capture_output=True, text=True, check=True)
+        done = subprocess.run([program], input=given, capture_output=True, text=True, check=True)
         seconds = time.monotonic() - start
         if done.stdout != f"{count} rows, of which 0 differ\n":
             sys.exit(f"bench: {row}: {done.stdout!r}")
@@ -93,24 +85,23 @@ def best_of(runs, text, row, count):
     return best
 
 
-def seconds_of(runs, text, row):
+def seconds_of(program, runs, text, row):
     """The seconds of a row over this text, by what eight rows more take."""
-    return (best_of(runs, text, row, 9) - best_of(runs, text, row, 1)) / 8
+    return (best_of(program, runs, text, row, 9) - best_of(program, runs, text, row, 1)) / 8
 
 
 def main():
     words = argparse.ArgumentParser()
     words.add_argument("--runs", type=int, default=5, help="how many runs, 1 or more")
     runs = words.parse_args().runs
-    build()
-    missed = []
+    program, missed = build("up_rows"), []
     for name, message, pieces, (bytes_told, pairs), goal in ROWS:
         copies = max(1, SIZE // len(message))
         text = escaped(message) * copies
-        idle = seconds_of(runs, text, "pieces held => []")
+        idle = seconds_of(program, runs, text, "pieces held => []")
         counted = f"{copies} {copies * bytes_told} {copies * pairs}"
-        seconds = seconds_of(runs, text, f"count => {counted}") - idle
-        plain = seconds_of(runs, text, f"pass => {sum(message) * copies}") - idle
+        seconds = seconds_of(program, runs, text, f"count => {counted}") - idle
+        plain = seconds_of(program, runs, text, f"pass => {sum(message) * copies}") - idle
         each = seconds / (copies * pieces) * 1e6
         wanted = "" if goal is None else f" (goal: under {goal:,} us)"
         print(f"{name}: {each:.2f} us, {seconds / max(plain, 1e-6):.1f} times a pass{wanted}", flush=True)

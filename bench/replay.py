@@ -17,9 +17,14 @@ import sys
 import tempfile
 import time
 
+sys.path.insert(0, os.path.join(os.path.dirname(os.path.dirname(os.path.abspath(__file__))), "tests"))
+from serving import ROOT, build  # noqa: E402
+
 MIB = 1 << 20
-ROOT = os.path.dirname(os.path.dirname(os.path.abspath(__file__)))
 PARTS = 64
+
+# The script that runs the server with the settings of the C library that users have.
+SCRIPT = os.path.join(ROOT, "packaging", "up")
 
 
 def path_of(number):
@@ -72,13 +77,13 @@ def joined_talk(file):
     file.write(get(PARTS + 1))
 
 
-def run(path):
+def run(program, path):
     """A file of the replies, the seconds that the server took, and its peak memory in bytes."""
-    replies = tempfile.TemporaryFile()
+    replies, environment = tempfile.TemporaryFile(), {**os.environ, "UP_PROGRAM": program}
     with open(path, "rb") as given:
         start = time.monotonic()
         server = subprocess.Popen(
-            [os.path.join(ROOT, "up"), "replay", "--max-size", str(1 << 30)], stdin=given, stdout=replies
+            [SCRIPT, "replay", "--max-size", str(1 << 30)], stdin=given, stdout=replies, env=environment
         )
         _, status, usage = os.wait4(server.pid, 0)
         seconds = time.monotonic() - start
@@ -87,12 +92,8 @@ def run(path):
     return replies, seconds, usage.ru_maxrss * 1024
 
 
-def work_once(row, changes):
+def work_once(program, row, changes):
     """The seconds that a book takes for this row, which makes so many changes, and the peak memory in bytes."""
-    folder = os.path.join(ROOT, "crates", "up_rows")
-    program = os.path.join(folder, "out", "up_rows")
-    if not os.path.exists(program):
-        subprocess.run(["rt", "run"], cwd=folder, stdout=subprocess.DEVNULL, stderr=subprocess.DEVNULL)
     with tempfile.TemporaryFile() as given, tempfile.TemporaryFile() as told:
         given.write(f"{row} => {changes}\n".encode())
         given.seek(0)
@@ -106,16 +107,16 @@ def work_once(row, changes):
     return seconds, usage.ru_maxrss * 1024
 
 
-def work(uploads):
+def work(program, uploads):
     """The microseconds of a request on a book of so many uploads, the best of three runs."""
-    best = min(work_once(f"fill {uploads}", 2 * uploads)[0] for _ in range(3))
+    best = min(work_once(program, f"fill {uploads}", 2 * uploads)[0] for _ in range(3))
     return best / (3 * uploads) * 1e6
 
 
-def removals(uploads):
+def removals(program, uploads):
     """The microseconds of a request that makes or removes an upload, and the bytes that are kept of one that was removed."""
-    _, few = work_once("removals 1000", 2000)
-    seconds, peak = work_once(f"removals {uploads}", 2 * uploads)
+    _, few = work_once(program, "removals 1000", 2000)
+    seconds, peak = work_once(program, f"removals {uploads}", 2 * uploads)
     return seconds / (2 * uploads) * 1e6, (peak - few) / (uploads - 1000), peak
 
 
@@ -134,12 +135,12 @@ def main():
     words.add_argument("--mib", type=int, default=1024, help="how much is appended, 1 to 1024")
     words.add_argument("--messages", type=int, default=10_000, help="how many small messages, 1 to 10000")
     given = words.parse_args()
-    subprocess.run([os.path.join(ROOT, "up"), "--help"], stdin=subprocess.DEVNULL, stderr=subprocess.DEVNULL)
+    program, rows = build(), build("up_rows")
     with tempfile.TemporaryDirectory() as folder:
         path = os.path.join(folder, "talk")
         with open(path, "wb") as file:
             long_talk(file, given.mib)
-        replies, seconds, peak = run(path)
+        replies, seconds, peak = run(program, path)
         stored = given.mib * MIB
         if check(replies, given.mib + 1) < stored:
             sys.exit("bench: the upload did not come back")
@@ -149,7 +150,7 @@ def main():
         )
         with open(path, "wb") as file:
             small_talk(file, given.messages)
-        replies, seconds, peak = run(path)
+        replies, seconds, peak = run(program, path)
         check(replies, given.messages)
         print(
             f"{given.messages} small messages: {seconds:.3f} s, {given.messages / seconds:.0f} messages/s, "
@@ -157,7 +158,7 @@ def main():
         )
         with open(path, "wb") as file:
             joined_talk(file)
-        replies, seconds, peak = run(path)
+        replies, seconds, peak = run(program, path)
         stored = 2 * PARTS * MIB
         if check(replies, 2 * PARTS + 1) < PARTS * MIB:
             sys.exit("bench: the final upload did not come back")
@@ -166,8 +167,8 @@ def main():
             f"{(peak - MIB) / stored:.2f} times the bytes stored, and one body"
         )
     for uploads in (1_000, 10_000, 100_000):
-        print(f"{uploads} uploads: {work(uploads):.2f} us a request")
-    each, kept, peak = removals(100_000)
+        print(f"{uploads} uploads: {work(rows, uploads):.2f} us a request")
+    each, kept, peak = removals(rows, 100_000)
     print(f"100000 uploads made and removed: {each:.2f} us a request, peak {peak / MIB:.0f} MiB, {kept:.0f} bytes for each")
 
 

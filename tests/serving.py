@@ -3,6 +3,7 @@ server of it and an nginx for the time of a `with`, connections that speak HTTP/
 once, and the count of cases. It needs nothing but Python 3, and nginx where that is used, and prints nothing by itself.
 """
 import argparse
+import contextlib
 import os
 import re
 import resource
@@ -20,7 +21,7 @@ ROOT = os.path.dirname(os.path.dirname(os.path.abspath(__file__)))
 # The most seconds that a server may take to listen, and that a reply is waited for.
 MOST_WAIT = 20
 
-# What `rt run` has a program run with, where it doesn't run without words.
+# The words with which `rt run` runs a program that needs some.
 FIRST_WORDS = {"up": ["--", "replay"]}
 
 # No client here goes through a proxy.
@@ -31,14 +32,18 @@ MAX_SIZE = 1 << 30
 
 
 def build(name="up", root=ROOT):
-    """The path of a program of the crates, which is built anew where they changed; that takes some minutes."""
+    """Builds a program of the crates, which takes minutes, and returns its path. The old program is removed first, so
+    that it is never tried in place of one that can't be built."""
     folder = os.path.join(root, "crates", name)
+    program = os.path.join(folder, "out", name)
+    with contextlib.suppress(FileNotFoundError):
+        os.remove(program)
     words = ["rt", "run", *FIRST_WORDS.get(name, [])]
     with open(os.path.join(folder, "stdin"), "rb") as given:
         ran = subprocess.run(words, cwd=folder, stdin=given, stdout=subprocess.DEVNULL, stderr=subprocess.DEVNULL)
-    if ran.returncode != 0:
+    if ran.returncode != 0 or not os.path.exists(program):
         sys.exit(f"{name} was not built, or failed: `{' '.join(words)} < stdin` in {folder} says why")
-    return os.path.join(folder, "out", name)
+    return program
 
 
 def status_of(process, name):
