@@ -14,6 +14,7 @@ import sys
 import time
 
 sys.path.insert(0, os.path.join(os.path.dirname(os.path.dirname(os.path.abspath(__file__))), "tests"))
+from messages import escaped  # noqa: E402
 from serving import build  # noqa: E402
 
 # The bytes that all copies have, about.
@@ -66,11 +67,6 @@ ROWS = [
 ]
 
 
-def escaped(message):
-    """The bytes as a row has them."""
-    return message.decode().replace("\\", "\\\\").replace("\r", "\\r").replace("\n", "\\n")
-
-
 def best_of(program, runs, text, row, count):
     """The best seconds of so many runs of the program over a text that each of so many rows has anew."""
     given = f"start {text}\n" + f"{row}\n" * count
@@ -97,7 +93,7 @@ def main():
     program, missed = build("up_rows"), []
     for name, message, pieces, (bytes_told, pairs), goal in ROWS:
         copies = max(1, SIZE // len(message))
-        text = escaped(message) * copies
+        text = escaped(message, quotes=False) * copies
         idle = seconds_of(program, runs, text, "pieces held => []")
         counted = f"{copies} {copies * bytes_told} {copies * pairs}"
         seconds = seconds_of(program, runs, text, f"count => {counted}") - idle

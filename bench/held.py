@@ -7,7 +7,7 @@ import sys
 import time
 
 from contenders import MIB, Client, hear, processor_seconds
-from serving import Connection, Maker, head, patch, same, settled
+from serving import Connection, Maker, head, patch, patch_in_chunks, same, settled
 
 # The most memory for the bytes held, and for those of a final upload, whose parts are held already; both in these bytes.
 MOST_HELD = 1.1
@@ -109,8 +109,7 @@ def chunked(contender, path):
         before = warm(Client(path, contender.kind, server))
         with Connection(server) as connection:
             path = connection.make(64 * MIB)
-            fields = {"Upload-Offset": 0, "Content-Type": "application/offset+octet-stream", "Transfer-Encoding": "chunked"}
-            connection.send(head("PATCH", path, fields))
+            connection.send(patch_in_chunks(path))
             for _ in range(64 * MIB // CHUNK):
                 connection.send(f"{CHUNK:x}\r\n".encode() + bytes(CHUNK) + b"\r\n")
             connection.send(b"0\r\n\r\n")

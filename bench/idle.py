@@ -16,9 +16,7 @@ import sys
 import time
 
 sys.path.insert(0, os.path.join(os.path.dirname(os.path.dirname(os.path.abspath(__file__))), "tests"))
-from serving import build  # noqa: E402
-
-PATH = f"/files/{1:032x}"
+from serving import build, head, patch, path_of  # noqa: E402
 
 # The most processor time of an idle run, and the most time in which an event is waited for, in seconds.
 MOST_WORK = 0.1
@@ -26,18 +24,7 @@ MOST_WAIT = 10
 
 
 def post(length):
-    return (
-        "POST /files/ HTTP/1.1\r\nHost: a\r\nTus-Resumable: 1.0.0\r\n"
-        f"Upload-Metadata: filename d29ybGQucGRm\r\nUpload-Length: {length}\r\n\r\n"
-    ).encode()
-
-
-def patch(body):
-    return (
-        f"PATCH {PATH} HTTP/1.1\r\nHost: a\r\nTus-Resumable: 1.0.0\r\n"
-        "Content-Type: application/offset+octet-stream\r\n"
-        f"Upload-Offset: 0\r\nContent-Length: {len(body)}\r\n\r\n"
-    ).encode() + body
+    return head("POST", "/files/", {"Upload-Metadata": "filename d29ybGQucGRm", "Upload-Length": length})
 
 
 def start(words):
@@ -88,7 +75,7 @@ def reach(program):
     ask(server, post(3))
     read_until(server.stdout, b"\r\n\r\n")
     begin = time.monotonic()
-    ask(server, patch(b"abc"))
+    ask(server, patch(path_of(1), 0, 3) + b"abc")
     read_until(server.stderr, b"scanned\n")
     taken = time.monotonic() - begin
     finish(server)

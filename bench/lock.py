@@ -144,11 +144,8 @@ def pieces(course):
 def fetch(connection, path, size):
     """A GET, whose bytes are dropped."""
     connection.send(head("GET", path, {}))
-    while b"\r\n\r\n" not in connection.read and connection.more():
-        pass
-    front, _, body = connection.read.partition(b"\r\n\r\n")
-    same(front.split()[1:2], [b"200"], "the status of a GET")
-    into, came = bytearray(MIB), len(body)
+    same(connection.reply_head().status, 200, "the status of a GET")
+    into, came = bytearray(MIB), len(connection.read)
     while came < size:
         more = connection.socket.recv_into(into)
         if more == 0:

@@ -15,14 +15,13 @@ import sys
 
 ROOT = os.path.dirname(os.path.dirname(os.path.abspath(__file__)))
 sys.path.insert(0, os.path.join(ROOT, "tests"))
-from serving import Connection, Maker, Server, build, head, patch, settled  # noqa: E402
+from serving import NOWHERE, Connection, Maker, Server, build, head, patch, settled  # noqa: E402
 
 MIB = 1 << 20
 FIRST_ROOM = 8192
 
 # What the allocator adds to a block, and what pages add to the average of many.
 OWN = 256
-GONE = "/files/" + 32 * "0"
 
 # How many connections stay at a time, and how many uploads or changes are made.
 STAYING = 500
@@ -68,12 +67,12 @@ def idle(server):
 
 def in_a_head(server):
     """a connection that has sent a head of 200 bytes but for the last one"""
-    return staying(server, padded(announced(GONE), 200)[:-1])
+    return staying(server, padded(announced(NOWHERE), 200)[:-1])
 
 
 def in_a_long_head(server):
     """a connection that has sent a head of 16,384 bytes but for the last one"""
-    return staying(server, padded(announced(GONE), 16_384)[:-1])
+    return staying(server, padded(announced(NOWHERE), 16_384)[:-1])
 
 
 def body_announced(server):

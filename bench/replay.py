@@ -11,14 +11,13 @@ uploads are made on one, each removed before the next: what is kept of them is t
 """
 import argparse
 import os
-import resource
 import subprocess
 import sys
 import tempfile
 import time
 
 sys.path.insert(0, os.path.join(os.path.dirname(os.path.dirname(os.path.abspath(__file__))), "tests"))
-from serving import ROOT, build  # noqa: E402
+from serving import ROOT, build, head, patch, path_of  # noqa: E402
 
 MIB = 1 << 20
 PARTS = 64
@@ -27,34 +26,20 @@ PARTS = 64
 SCRIPT = os.path.join(ROOT, "packaging", "up")
 
 
-def path_of(number):
-    return f"/files/{number:032x}"
-
-
 def get(number=1):
-    return f"GET {path_of(number)} HTTP/1.1\r\nHost: a\r\n\r\n".encode()
+    return head("GET", path_of(number), {})
 
 
-def post(length, fields=""):
-    return (
-        "POST /files/ HTTP/1.1\r\nHost: a\r\nTus-Resumable: 1.0.0\r\n"
-        f"Upload-Length: {length}\r\n{fields}\r\n"
-    ).encode()
-
-
-def patch(offset, count, number=1):
-    return (
-        f"PATCH {path_of(number)} HTTP/1.1\r\nHost: a\r\nTus-Resumable: 1.0.0\r\n"
-        "Content-Type: application/offset+octet-stream\r\n"
-        f"Upload-Offset: {offset}\r\nContent-Length: {count}\r\n\r\n"
-    ).encode()
+def post(length, **fields):
+    named = {name.replace("_", "-"): value for name, value in fields.items()}
+    return head("POST", "/files/", {"Upload-Length": length, **named})
 
 
 def long_talk(file, mib):
     file.write(post(mib * MIB))
     body = bytes(range(256)) * (MIB // 256)
     for part in range(mib):
-        file.write(patch(part * MIB, MIB))
+        file.write(patch(path_of(1), part * MIB, MIB))
         file.write(body)
     file.write(get())
 
@@ -62,18 +47,18 @@ def long_talk(file, mib):
 def small_talk(file, messages):
     file.write(post(messages))
     for offset in range(messages - 1):
-        file.write(patch(offset, 1))
+        file.write(patch(path_of(1), offset, 1))
         file.write(b"x")
 
 
 def joined_talk(file):
     body = bytes(range(256)) * (MIB // 256)
     for part in range(1, PARTS + 1):
-        file.write(post(MIB, "Upload-Concat: partial\r\n"))
-        file.write(patch(0, MIB, part))
+        file.write(post(MIB, Upload_Concat="partial"))
+        file.write(patch(path_of(part), 0, MIB))
         file.write(body)
     urls = " ".join(path_of(part) for part in range(1, PARTS + 1))
-    file.write(post(0, f"Upload-Concat: final;{urls}\r\n"))
+    file.write(post(0, Upload_Concat=f"final;{urls}"))
     file.write(get(PARTS + 1))
 
 

@@ -22,7 +22,7 @@ import time
 
 from driven import Browser
 from fronted import EXAMPLE, Front, Secure, asking, doorman, replaced
-from serving import ROOT, Connection, Server, below, events_of, free_port, same, soon, try_all, words_of
+from serving import ROOT, Connection, Server, below, events_of, free_port, numbered, same, soon, try_all, words_of
 
 NEEDED = {"chromium": "chromium", "chromedriver": "chromium-driver", "nginx": "nginx-light", "openssl": "openssl"}
 PICTURES = os.path.join(ROOT, "tests", "out")
@@ -135,10 +135,6 @@ def says(words):
 def reaches(share):
     """Waits until the bar has gone so far."""
     soon(lambda: browser.run("return document.querySelector('.bar').value") > share, f"the bar is beyond {share}")
-
-
-def numbered(events):
-    return [f"{number} {event} done" for number, event in enumerate(events, 1)]
 
 
 def received(lines):

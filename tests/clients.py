@@ -24,7 +24,7 @@ from curled import MEDIA, VERSION, curl, replies, reply
 from fronted import Fronted
 from options import Options
 from senders import Go, Large, Node, Tuspy
-from serving import MAX_SIZE, Server, below, same, soon, try_all, words_of
+from serving import MAX_SIZE, NOWHERE, Server, below, same, soon, try_all, words_of
 
 try:
     from tusclient.client import TusClient
@@ -154,7 +154,7 @@ def tuspy_checksum():
 def tuspy_unknown():
     """The offset of an upload that isn't there is an error of tuspy's, with the status."""
     try:
-        tus().uploader(file_stream=io.BytesIO(b"abc"), url=f"{server.url}/files/{0:032x}")
+        tus().uploader(file_stream=io.BytesIO(b"abc"), url=server.url + NOWHERE)
     except TusCommunicationError as error:
         same(error.status_code, 404, "the status of the error")
         return

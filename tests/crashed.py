@@ -5,7 +5,7 @@ import contextlib
 import random
 import re
 
-from serving import Connection, head, same
+from serving import Connection, head, patch, same
 
 LANES = 3
 
@@ -159,10 +159,7 @@ class Client:
     def append(self, path, piece, length=None):
         """Appends a piece, and declares the length if one is given."""
         upload = self.uploads[path]
-        fields = {"Content-Type": "application/offset+octet-stream", "Upload-Offset": len(upload.body)}
-        if length is not None:
-            fields["Upload-Length"] = length
-        message = head("PATCH", path, {**fields, "Content-Length": len(piece)}) + piece
+        message = patch(path, len(upload.body), len(piece), length) + piece
         known = upload.length if length is None else length
         return self.change(message, path, upload.appended(piece, known))
 

@@ -2,7 +2,9 @@
 import re
 import subprocess
 
-MEDIA = "Content-Type: application/offset+octet-stream"
+from serving import MEDIA_TYPE
+
+MEDIA = f"Content-Type: {MEDIA_TYPE}"
 VERSION = "Tus-Resumable: 1.0.0"
 
 

@@ -1,11 +1,12 @@
 #!/usr/bin/env python3
-"""Draws conversations with the server, and says what must come of each, to the byte.
+"""Draws conversations with the server, each with the expected result, to the byte.
 
     tests/draw_talks.py [--seed N] [--talks N] [--messages N] [--count]
 
-The conversations are printed as the program of crates/up_talks reads them. What is wanted comes from a plain model of the
-server (tests/model.py), which knows nothing of its code. With --count it tells on standard error how often each kind of
-answer was drawn, and ends with 1 if one never was.
+The conversations are printed in the form that the program of crates/up_talks reads. Without options they are
+crates/up_talks/data/drawn. The expected results come from a plain model of the server (tests/model.py), which knows
+nothing of the server's code. With --count the script reports on standard error how often each kind of answer was drawn,
+and exits with status 1 if a kind was never drawn.
 """
 import argparse
 import base64
@@ -14,7 +15,9 @@ import random
 import re
 import sys
 
-from messages import CRLF, HEAD_END, MAX_CHUNK_LINE, MAX_FIELDS, MEDIA_TYPE, REFUSALS, VERSION, id_text
+from messages import (
+    CRLF, HEAD_END, MAX_CHUNK_LINE, MAX_FIELDS, MEDIA_TYPE, REFUSALS, VERSION, escaped_line, id_text,
+)
 from model import KEPT, KEY_MISSING, TOO_LONG_HERE, TOO_LONG_TO_FINISH, Rules, Server
 
 # Every kind of answer and of end, by the name under which it is counted.
@@ -463,10 +466,8 @@ class Draw:
 
 
 def escaped(data):
-    """A text that stands for these bytes."""
-    named = {9: "\\t", 10: "\\n", 13: "\\r", 92: "\\\\"}
-    text = "".join(named.get(byte) or (chr(byte) if 32 <= byte < 127 else f"\\x{byte:02x}") for byte in data)
-    return text[:-1] + "\\x20" if text.endswith(" ") else text
+    """A text that stands for these bytes, at the end of a line."""
+    return escaped_line(data, quotes=False)
 
 
 def marked(mark, data):

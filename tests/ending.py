@@ -34,7 +34,9 @@ import time
 
 import endings
 from endings import MOST_BUSY, MOST_IDLE, SCRIPT, child_of, ended
-from serving import ROOT, Connection, Server, at_once, below, build, events_of, head, patch, same, soon, try_all
+from serving import (
+    NOWHERE, ROOT, Connection, Server, at_once, below, build, events_of, head, numbered, patch, same, soon, try_all,
+)
 
 UNIT = os.path.join(ROOT, "packaging", "up.service")
 
@@ -124,7 +126,7 @@ class Client(Connection):
 
     def fetch(self):
         """Gets the last upload that came to its end, or sees that there is none."""
-        reply = self.hear(head("GET", self.whole or "/files/" + 32 * "0", {}))
+        reply = self.hear(head("GET", self.whole or NOWHERE, {}))
         wanted = (200, WHOLE) if self.whole else (404, b"21 NotFound\n")
         same((reply.status, reply.body), wanted, "the reply to a GET")
 
@@ -136,11 +138,6 @@ class Client(Connection):
             while True:
                 self.fetch()
                 time.sleep(0.01)
-
-
-def numbered(events):
-    """The events of an upload as lines tell of them."""
-    return [f"{number} {event} done" for number, event in enumerate(events, 1)]
 
 
 def hold_events(events, clients):

@@ -10,7 +10,7 @@ import threading
 import time
 import types
 
-from serving import ROOT, Connection, NginxServer, Server, free_port, head, patch, same, soon
+from serving import NOWHERE, ROOT, Connection, NginxServer, Server, free_port, head, patch, same, soon
 
 EXAMPLE = os.path.join(ROOT, "examples", "browser")
 
@@ -229,7 +229,7 @@ class Fronted:
             path = made.fields["location"]
             connection.send(f"DELETE {path} HTTP/1.1\r\nHost: a\r\n\r\n".encode())
             replies = [preflight, made, connection.reply(), connection.append(path, 1, b"a")]
-            replies.append(connection.ask("HEAD", f"/files/{0:032x}"))
+            replies.append(connection.ask("HEAD", NOWHERE))
             connection.send(patch(path, 0, MOST + 1))
             replies.append(connection.reply())
         same([reply.status for reply in replies], [204, 201, 412, 409, 404, 413], "the statuses")

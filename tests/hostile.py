@@ -18,7 +18,8 @@ import termios
 import time
 
 from serving import (
-    MOST_WAIT, Connection, Server, at_once, below, events_of, head, patch, same, soon, try_all, words_of,
+    MOST_WAIT, UNHEARD, Connection, Server, at_once, below, events_of, head, patch, patch_in_chunks, path_of, same,
+    soon, try_all, words_of,
 )
 
 MIB = 1 << 20
@@ -269,7 +270,7 @@ def send_front(connection, count):
 def stands_behind(connection, path, count):
     """The upload is there where the POST was whole, and has just the bytes of the body that were sent."""
     if path is None:
-        return same(connection.ask("HEAD", f"/files/{count:032x}").status, 404, f"the status behind {count} bytes")
+        return same(connection.ask("HEAD", path_of(count)).status, 404, f"the status behind {count} bytes")
     same(connection.offset(path), max(0, count - HEAD_END), f"the offset behind {count} bytes")
 
 
@@ -343,9 +344,7 @@ def vanish_in_chunks():
     for sent, offset in ((b"5\r\nabcde\r\n", 5), (b"5\r\nabcde\r\n5\r\nfg", 7), (b"5\r\nab", 2)):
         with connect() as connection:
             path = connection.make(10)
-            media = "application/offset+octet-stream"
-            fields = {"Content-Type": media, "Upload-Offset": 0, "Transfer-Encoding": "chunked"}
-            connection.send(head("PATCH", path, fields) + sent)
+            connection.send(patch_in_chunks(path) + sent)
             connection.socket.shutdown(socket.SHUT_WR)
             same(connection.is_closed(), True, "whether the server closes without an answer")
         with connect() as connection:
@@ -454,9 +453,8 @@ def larger(path, chunked):
     """A PATCH of 8 MiB."""
     if not chunked:
         return patch(path, 0, 8 * MIB) + bytes(8 * MIB)
-    fields = {"Content-Type": "application/offset+octet-stream", "Upload-Offset": 0, "Transfer-Encoding": "chunked"}
     chunk = b"10000\r\n" + bytes(0x10000) + b"\r\n"
-    return head("PATCH", path, fields) + 128 * chunk + b"0\r\n\r\n"
+    return patch_in_chunks(path) + 128 * chunk + b"0\r\n\r\n"
 
 
 def larger_than_taken():
@@ -569,8 +567,7 @@ def events_unheard():
                 body = b"%04d" % number
                 holds(connection, filled(connection, body), body)
         other.process.kill()
-        said = b"up_server: events can't be written: whoever reads them is gone\n"
-        same(other.process.stderr.read(), said, "what it says on standard error")
+        same(other.process.stderr.read(), UNHEARD, "what it says on standard error")
 
 
 CASES = [

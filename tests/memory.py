@@ -45,10 +45,13 @@ import tempfile
 import termios
 import time
 
-from messages import id_text, write_response
+from messages import write_response
 from model import Rules
 from model import Server as Model
-from serving import MAX_SIZE, ROOT, Connection, Server, below, head, patch, same, soon, try_all, words_of
+from serving import (
+    AGAIN, MAX_SIZE, NO_THREAD, NOWHERE, ROOT, Connection, Server, below, head, patch, patch_in_chunks, path_of, same, soon,
+    try_all, words_of,
+)
 
 MIB = 1 << 20
 
@@ -83,19 +86,14 @@ PAUSE_AFTER_FIVE = 1.6
 # What a server may say beside its lanes and its fault: that no thread can be started, and that it can; and that a change
 # can't be written to the log, and that one was.
 MAY_BE_SAID = [
-    "up_server: no connection can be let in: no thread can be started\n",
-    "up_server: connections are let in again\n",
+    NO_THREAD,
+    AGAIN,
     "up_server: changes can't be stored, and are refused: out of memory\n",
     "up_server: changes are stored again\n",
 ]
 
-# The path of an upload that there never is.
-NOWHERE = "/files/" + 32 * "0"
-
 OUT_OF_MEMORY = "up_server: out of memory\n"
 LANE_STOPPED = "up_server: a lane stopped\n"
-NO_THREAD = "up_server: no connection can be let in: no thread can be started\n"
-AGAIN = "up_server: connections are let in again\n"
 
 HERE = os.path.dirname(os.path.abspath(__file__))
 
@@ -254,10 +252,6 @@ def told(tally):
 # Messages: functions of a list of paths, in which those of the uploads stand from place 1 on.
 
 
-def path_of(upload):
-    return f"/files/{id_text(upload).decode()}"
-
-
 def create(length=None, **fields):
     """Makes an upload; `upload_concat="partial"` is the field `Upload-Concat: partial`."""
     named = {} if length is None else {"Upload-Length": length}
@@ -276,8 +270,7 @@ def append(upload, offset, body):
 
 def declare(upload, offset, length, body):
     """A PATCH that says the upload's length."""
-    fields = {"Content-Type": "application/offset+octet-stream", "Upload-Offset": offset, "Upload-Length": length}
-    return lambda paths: head("PATCH", paths[upload], {**fields, "Content-Length": len(body)}) + body
+    return lambda paths: patch(paths[upload], offset, len(body), length) + body
 
 
 def ask(method, upload):
@@ -483,8 +476,7 @@ def withhold(rules, talk, number, tally, answers):
 def withheld():
     """A message of which a byte is still to come: where memory is wanting, it is answered by a 503 that closes."""
     chunks = b"%x\r\n" % LONG + bytes(LONG) + b"\r\n0\r\n\r\n"
-    fields = {"Content-Type": "application/offset+octet-stream", "Upload-Offset": 0, "Transfer-Encoding": "chunked"}
-    talk = [(create(LONG)([]), 201), (head("PATCH", path_of(1), fields) + chunks, 204)]
+    talk = [(create(LONG)([]), 201), (patch_in_chunks(path_of(1)) + chunks, 204)]
     answers, tally, rules = [], collections.Counter(), Rules(2, 16, MIB)
     most = withhold(rules, talk, 0, tally, answers)
     for number in range(1, most + 1):
@@ -745,7 +737,7 @@ def serve_stored(number, tally):
         asked = memory.asked
         check_stored(visits, status, said, tally)
         memory.refuse(0, 0)
-        paths = ["/files/" + id_text(upload.number).decode() for upload in model.uploads]
+        paths = [path_of(upload.number) for upload in model.uploads]
         look = [lambda _, what=what, path=path: head(what, path, {}) for path in paths for what in ("HEAD", "GET")]
         visits, status, said, second = run_stored(store, model, look + first_half(body) + second_half(body))
     same((status, said), (0, ""), "how the second run ends")

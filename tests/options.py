@@ -9,9 +9,7 @@ import urllib.parse
 
 from curled import VERSION, patch_words, reply
 from fronted import Front
-from serving import Connection, Server, free_port, head, patch, same, soon
-
-MEDIA = "application/offset+octet-stream"
+from serving import MEDIA_TYPE, Connection, Server, free_port, head, patch, same, soon
 
 # The largest upload here, and a sum that no bytes here have.
 MOST, WRONG_SUM = 1 << 20, f"sha1 {base64.b64encode(bytes(20)).decode()}"
@@ -64,7 +62,7 @@ class Options:
     def option_bytes_at_creation(self):
         """The bytes that come with a creation are dropped: the reply has no offset, and HEAD tells 0."""
         with self.open() as connection:
-            reply = sent(connection, "POST", "/files/", b"hello", upload_length=5, content_type=MEDIA)
+            reply = sent(connection, "POST", "/files/", b"hello", upload_length=5, content_type=MEDIA_TYPE)
             same((reply.status, "upload-offset" in reply.fields), (201, False), "the status, and whether it has an offset")
             path = reply.fields["location"]
             same(connection.offset(path), 0, "the offset")
@@ -75,9 +73,9 @@ class Options:
         """A checksum isn't looked at, in a field or behind the body: the bytes are stored, though it is wrong."""
         with self.open() as connection:
             path = connection.make(10)
-            fields = {"upload_offset": 0, "content_type": MEDIA, "upload_checksum": WRONG_SUM}
+            fields = {"upload_offset": 0, "content_type": MEDIA_TYPE, "upload_checksum": WRONG_SUM}
             same(sent(connection, "PATCH", path, b"hello", **fields).status, 204, "the status with a field")
-            chunked = {"Transfer-Encoding": "chunked", "Trailer": "Upload-Checksum", "Content-Type": MEDIA, "Upload-Offset": 5}
+            chunked = {"Transfer-Encoding": "chunked", "Trailer": "Upload-Checksum", "Content-Type": MEDIA_TYPE, "Upload-Offset": 5}
             body = f"5\r\nworld\r\n0\r\nUpload-Checksum: {WRONG_SUM}\r\n\r\n"
             connection.send(head("PATCH", path, chunked) + body.encode())
             same(connection.reply().status, 204, "the status with a trailer")
@@ -115,7 +113,7 @@ class Options:
             same(connection.append(path, 0, b"hello ").status, 204, "the status of a PATCH")
             fields = connection.ask("HEAD", path).fields
             same((fields["upload-defer-length"], "upload-length" in fields), ("1", False), "what HEAD tells of the length")
-            last = {"upload_offset": 6, "content_type": MEDIA, "upload_length": 11}
+            last = {"upload_offset": 6, "content_type": MEDIA_TYPE, "upload_length": 11}
             same(sent(connection, "PATCH", path, b"world", **last).status, 204, "the status of the last PATCH")
             same(connection.ask("HEAD", path).fields["upload-length"], "11", "the length that HEAD tells")
             holds(connection, path, b"hello world")
@@ -129,7 +127,7 @@ class Options:
         """A POST with X-HTTP-Method-Override: PATCH is a PATCH."""
         with self.open() as connection:
             path = connection.make(5)
-            fields = {"x_http_method_override": "PATCH", "upload_offset": 0, "content_type": MEDIA}
+            fields = {"x_http_method_override": "PATCH", "upload_offset": 0, "content_type": MEDIA_TYPE}
             reply = sent(connection, "POST", path, b"hello", **fields)
             same((reply.status, reply.fields["upload-offset"]), (204, "5"), "the reply")
             holds(connection, path, b"hello")

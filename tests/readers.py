@@ -19,7 +19,7 @@ import sys
 import tempfile
 import time
 
-from serving import ROOT, Connection, Server, below, same, soon, try_all, words_of
+from serving import ROOT, UNHEARD, Connection, Server, below, numbered, same, soon, try_all, words_of
 
 EXAMPLES = os.path.join(ROOT, "examples")
 
@@ -51,9 +51,6 @@ exec {shutil.which("curl")} "$@"
 FAILING_CURL = """#!/bin/sh
 exit 7
 """
-
-# What the server says once a reader has ended.
-UNHEARD = b"up_server: events can't be written: whoever reads them is gone\n"
 
 
 class Readers:
@@ -188,7 +185,7 @@ def lines_of(upload, body, *more):
     """The lines of an upload whose bytes came at once."""
     size = len(body)
     events = [f"post-create 0/{size}", *[f"post-receive {size}/{size}"] * bool(body), f"post-finish {size}/{size}", *more]
-    return [f"{upload} {number} {event} done" for number, event in enumerate(events, 1)]
+    return [f"{upload} {line}" for line in numbered(events)]
 
 
 def passed_on(lines, upload):

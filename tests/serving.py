@@ -30,6 +30,16 @@ os.environ["no_proxy"] = "127.0.0.1"
 # The largest upload that a server takes here, in bytes, unless it is told another size.
 MAX_SIZE = 1 << 30
 
+# The media type of the body of a PATCH.
+MEDIA_TYPE = "application/offset+octet-stream"
+
+# What a server says if it can't start a thread for a connection, and once it lets connections in again.
+NO_THREAD = "up_server: no connection can be let in: no thread can be started\n"
+AGAIN = "up_server: connections are let in again\n"
+
+# What a server says once the reader of its events has gone.
+UNHEARD = b"up_server: events can't be written: whoever reads them is gone\n"
+
 
 def build(name="up", root=ROOT):
     """Builds a program of the crates, which takes minutes, and returns its path. The old program is removed first, so
@@ -210,6 +220,15 @@ class Reply:
         self.status, self.fields, self.body, self.whole = status, fields, body, whole
 
 
+def path_of(number):
+    """The path of the upload whose id is this number."""
+    return f"/files/{number:032x}"
+
+
+# The path of an upload that there never is.
+NOWHERE = path_of(0)
+
+
 def head(method, target, fields):
     """The bytes of a head. A POST, PATCH or DELETE says the version."""
     lines = [f"{method} {target} HTTP/1.1", "Host: a"]
@@ -219,10 +238,17 @@ def head(method, target, fields):
     return "".join(line + "\r\n" for line in lines + [""]).encode()
 
 
-def patch(path, offset, length):
-    """The head of a PATCH that brings so many bytes."""
-    media = "application/offset+octet-stream"
-    return head("PATCH", path, {"Content-Type": media, "Upload-Offset": offset, "Content-Length": length})
+def patch(path, offset, length, declared=None):
+    """The head of a PATCH that brings so many bytes, and may declare the length of the upload."""
+    fields = {"Content-Type": MEDIA_TYPE, "Upload-Offset": offset}
+    if declared is not None:
+        fields["Upload-Length"] = declared
+    return head("PATCH", path, {**fields, "Content-Length": length})
+
+
+def patch_in_chunks(path):
+    """The head of a PATCH at offset 0 whose body comes in chunks."""
+    return head("PATCH", path, {"Content-Type": MEDIA_TYPE, "Upload-Offset": 0, "Transfer-Encoding": "chunked"})
 
 
 class Connection:
@@ -260,14 +286,21 @@ class Connection:
 
     def reply(self, bare=False):
         """The next reply; a bare one has no body, whatever its fields say."""
+        reply = self.reply_head()
+        if not bare:
+            reply.body = self.take(int(reply.fields.get("content-length", 0)))
+            reply.whole += reply.body
+        return reply
+
+    def reply_head(self):
+        """The next reply without its body, which is still to be read."""
         while b"\r\n\r\n" not in self.read:
             if not self.more():
                 raise AssertionError(f"no reply but {self.read!r}")
         lines, end, self.read = self.read.partition(b"\r\n\r\n")
         first, *rest = lines.decode().split("\r\n")
         fields = {name.lower(): value.strip() for name, _, value in (line.partition(":") for line in rest)}
-        body = b"" if bare else self.take(int(fields.get("content-length", 0)))
-        return Reply(int(first.split()[1]), fields, body, lines + end + body)
+        return Reply(int(first.split()[1]), fields, b"", lines + end)
 
     def ask(self, method, target, **fields):
         """The reply to a message without a body; `upload_length=3` is the field `Upload-Length: 3`."""
@@ -337,6 +370,11 @@ def at_once(work, count, meeting=None):
         thread.join()
     if faults:
         raise faults[0]
+
+
+def numbered(events):
+    """The events of an upload as lines tell of them."""
+    return [f"{number} {event} done" for number, event in enumerate(events, 1)]
 
 
 def events_of(text):

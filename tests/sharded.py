@@ -11,7 +11,7 @@ import subprocess
 import tempfile
 
 from fronted import replaced
-from serving import ROOT, Connection, NginxServer, Server, events_of, free_port, head, patch, same, soon
+from serving import ROOT, Connection, NginxServer, Server, events_of, free_port, head, numbered, patch, same, soon
 
 EXAMPLE = os.path.join(ROOT, "examples", "shards")
 
@@ -275,11 +275,6 @@ class Client:
         """Sees that a GET brings these bytes."""
         reply = self.hear("GET", path)
         same((reply.status, reply.body == body), (200, True), f"the status of a GET of {path}, and whether the bytes came")
-
-
-def numbered(events):
-    """The events of an upload as lines tell of them."""
-    return [f"{number} {event} done" for number, event in enumerate(events, 1)]
 
 
 def hold(events, clients, killed=()):

@@ -25,17 +25,14 @@ import threading
 import time
 
 from serving import (
-    MAX_SIZE, MOST_WAIT, Connection, Server, at_once, below, events_of, head, patch, same, soon, try_all, words_of,
+    MAX_SIZE, MEDIA_TYPE, MOST_WAIT, NOWHERE, Connection, Server, at_once, below, events_of, head, patch,
+    patch_in_chunks, same, soon, try_all, words_of,
 )
 
 MIB = 1 << 20
 
 # How many lanes hand events over.
 LANES = 3
-
-# The path of an upload that there never is.
-NOWHERE = "/files/" + 32 * "0"
-
 
 # What clients must be answered.
 
@@ -420,9 +417,7 @@ FAR_MORE = 8 * MIB
 
 def in_chunks(path, body):
     """A PATCH whose body comes in one chunk."""
-    media = "application/offset+octet-stream"
-    fields = {"Content-Type": media, "Upload-Offset": 0, "Transfer-Encoding": "chunked"}
-    return head("PATCH", path, fields) + b"%x\r\n" % len(body) + body + b"\r\n0\r\n\r\n"
+    return patch_in_chunks(path) + b"%x\r\n" % len(body) + body + b"\r\n0\r\n\r\n"
 
 
 def fill(client, size):
@@ -436,7 +431,7 @@ def fill(client, size):
     path = client.create(None)
     client.put(path, 0, body)
     client.hear(patch(path, size, 1) + b"x", TOO_MUCH)
-    named = {"Content-Type": "application/offset+octet-stream", "Upload-Offset": size, "Upload-Length": size + 1}
+    named = {"Content-Type": MEDIA_TYPE, "Upload-Offset": size, "Upload-Length": size + 1}
     client.hear(head("PATCH", path, named), DECLARED_TOO_LONG)
 
 

@@ -18,12 +18,12 @@ import socket
 import sys
 import time
 
-from serving import MOST_WAIT, Connection, Server, below, events_of, head, same, soon, try_all, words_of
+from serving import (
+    AGAIN, MOST_WAIT, NO_THREAD, Connection, Server, below, events_of, head, same, soon, try_all, words_of,
+)
 
 # What stands on standard error.
 NO_FILES = "up_server: no connection can be let in: Too many open files (os error 24)\n"
-NO_THREAD = "up_server: no connection can be let in: no thread can be started\n"
-AGAIN = "up_server: connections are let in again\n"
 GONE = "up_server: the listener is gone, and the run ends: Invalid argument (os error 22)\n"
 
 # The seconds in which a server in want is watched, and the most processor time that it may take.
