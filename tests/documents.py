@@ -1,17 +1,21 @@
 #!/usr/bin/env python3
-"""Holds what the documents say to the sources that they say it of: the tables of crates and modules, and the list of
-definitions, of docs/ARCHITECTURE.md; the words and their limits of docs/RUNNING.md; the refusals of docs/PROTOCOL.md;
-and links and the length of lines in all of them.
+"""Compares the documents with the sources: the tables of crates and modules and the list of definitions in
+docs/ARCHITECTURE.md, the words and their limits in docs/RUNNING.md, and the refusals in docs/PROTOCOL.md. It checks the
+links and the length of lines in all documents. It also compares the drawn data of the crates with what the generators
+draw.
 
     tests/documents.py [NAME..]
 
-It needs nothing but Python 3, and takes less than a second. The gate, `.ci/run`, runs it.
+It needs only Python 3, and takes a second or two. The gate, `.ci/run`, runs it.
 
-A line for each case says whether it passed; the last line is `N passed, M failed`, and the exit status is 1 where one
-failed.
+For each case, one line says whether it passed. The last line is `N passed, M failed`, and the exit status is 1 if a
+case failed.
 """
+import argparse
+import itertools
 import pathlib
 import re
+import subprocess
 import sys
 
 from serving import ROOT, same, try_all
@@ -27,6 +31,9 @@ HIDDEN = {"Kept", "Fits", "Stored", "Padded", "Inside", "Steps", "Shapes", "Stat
 
 # Words of the command line whose numbers no table bounds.
 ENDLESS = {"max-length", "max-finish"}
+
+# The files of drawn data, each with the script that draws it.
+DRAWN = {"crates/up_talks/data/drawn": "tests/draw_talks.py", "crates/up_rows/data/drawn": "tests/draw_rows.py"}
 
 
 def text_of(name):
@@ -140,6 +147,20 @@ def each_line():
             same(len(line) <= 120 or line.startswith(("|", "  |", "    ")), True, f"whether {path.name} has no long line: {line}")
 
 
+def each_drawn():
+    """Each file of drawn data is what its generator draws."""
+    for name, script in DRAWN.items():
+        drawn = subprocess.run([sys.executable, TOP / script], stdout=subprocess.PIPE, check=True).stdout
+        stored = (TOP / name).read_bytes()
+        if drawn == stored:
+            continue
+        pairs = itertools.zip_longest(drawn.splitlines(keepends=True), stored.splitlines(keepends=True))
+        number, (new, old) = next((at, pair) for at, pair in enumerate(pairs, 1) if pair[0] != pair[1])
+        same(new, old, f"line {number} that {script} draws, and of {name}")
+
+
 if __name__ == "__main__":
-    CASES = [each_crate, each_module, each_definition, each_word, each_refusal, each_link, each_line]
-    sys.exit(try_all(CASES, sys.argv[1:]))
+    CASES = [each_crate, each_module, each_definition, each_word, each_refusal, each_link, each_line, each_drawn]
+    given = argparse.ArgumentParser(description=__doc__, formatter_class=argparse.RawDescriptionHelpFormatter)
+    given.add_argument("names", nargs="*", metavar="NAME", help="the cases to be tried, instead of all")
+    sys.exit(try_all(CASES, given.parse_args().names))
