@@ -3,9 +3,9 @@
 
     bench/heads.py [--runs N]
 
-Each figure is the time of one piece, the best of N runs (by default 5) over many copies of it, and how many times that of a
-plain pass over the same bytes it is, which adds them up. What it takes to copy them is timed too, and taken off. Some have
-a goal: where one is missed, the script ends with 1.
+Each figure is the time of one piece, the best of N runs (by default 5) over many copies of it, and how many times as
+long that is as a plain pass over the same bytes, which adds them up. The time to copy the pieces is measured too, and
+subtracted. Some figures have a goal; if one is missed, the script exits with status 1.
 """
 import argparse
 import os
@@ -17,15 +17,15 @@ sys.path.insert(0, os.path.join(os.path.dirname(os.path.dirname(os.path.abspath(
 from messages import escaped  # noqa: E402
 from serving import build  # noqa: E402
 
-# The bytes that all copies have, about.
+# About how many bytes all copies have together.
 SIZE = 8 << 20
 
-# What a key may be made of.
+# The letters that a key may have.
 LETTERS = "abcdefghijklmnopqrstuvwxyzABCDEFGHIJKLMNOPQRSTUVWXYZ0123456789!#$%&'*+-.^_`|~"
 
 
 def fields(count, length=30):
-    """So many lines of fields, each with so many bytes."""
+    """This many lines of fields, each of this many bytes."""
     lines = []
     for number in range(count):
         name = f"X-Field-{number:02}: "
@@ -38,13 +38,13 @@ def head(lines):
 
 
 def metadata(count):
-    """So many keys, none twice, each of as few letters as there must be."""
+    """This many different keys, each as short as possible."""
     keys = [*LETTERS, *(a + b for a in LETTERS for b in LETTERS)][:count]
     return head(f"Upload-Metadata: {','.join(keys)}\r\n")
 
 
 def chunks(count):
-    """A message of so many chunks of one byte, each behind a line of 245 bytes."""
+    """A message of this many chunks of one byte, each after a line of 245 bytes."""
     line = "1;note=" + "n" * (245 - len("1;note=") - 2) + "\r\n"
     return head("Transfer-Encoding: chunked\r\n") + f"{line}x\r\n".encode() * count + b"0\r\n\r\n"
 
@@ -53,7 +53,8 @@ def trailers():
     return head("Transfer-Encoding: chunked\r\n") + f"0\r\n{fields(63, 258)}\r\n".encode()
 
 
-# What is timed: the message, how many pieces it has, what is told of a message, and the goal of a piece in microseconds.
+# What is timed: the message, its number of pieces, what is counted in a message, and the goal of a piece in
+# microseconds.
 CHUNKS = 100_000
 ROWS = [
     ("head of 6 fields", head(fields(6)), 1, (0, 0), None),
@@ -68,7 +69,7 @@ ROWS = [
 
 
 def best_of(program, runs, text, row, count):
-    """The best seconds of so many runs of the program over a text that each of so many rows has anew."""
+    """The best seconds of this many runs of the program, over a text that each of `count` rows has for itself."""
     given = f"start {text}\n" + f"{row}\n" * count
     best = None
     for _ in range(runs):
@@ -82,7 +83,7 @@ def best_of(program, runs, text, row, count):
 
 
 def seconds_of(program, runs, text, row):
-    """The seconds of a row over this text, by what eight rows more take."""
+    """The seconds of a row over this text, from the difference that eight more rows make."""
     return (best_of(program, runs, text, row, 9) - best_of(program, runs, text, row, 1)) / 8
 
 

@@ -3,11 +3,11 @@
 
     bench/replay.py [--mib N] [--messages N]
 
-The first conversation makes one upload, appends N MiB (by default 1024) to it, 1 MiB at a time, and gets it back; the second
-is of N small messages (by default 10,000); the third makes 64 parts of 1 MiB, joins them, and gets the final upload back. All
-come from a file, and the replies are checked. Then a book alone is given uploads, 1,000 to 100,000 of them: each is made,
-appended to and asked for, and the time of a request is to grow by no more than the logarithm of their number. At last 100,000
-uploads are made on one, each removed before the next: what is kept of them is their history alone.
+The first conversation makes one upload, appends N MiB (by default 1024) to it, 1 MiB at a time, and fetches it. The
+second one has N small messages (by default 10,000). The third one makes 64 parts of 1 MiB, joins them, and fetches the
+final upload. All come from a file, and the replies are checked. Then a book alone gets 1,000 to 100,000 uploads: each
+is made, appended to and asked for, and the time of a request must not grow faster than the logarithm of their number.
+At last 100,000 uploads are made on one book, each removed before the next, so that only their history is kept.
 """
 import argparse
 import os
@@ -63,7 +63,7 @@ def joined_talk(file):
 
 
 def run(program, path):
-    """A file of the replies, the seconds that the server took, and its peak memory in bytes."""
+    """A file with the replies, the seconds that the server took, and its peak memory in bytes."""
     replies, environment = tempfile.TemporaryFile(), {**os.environ, "UP_PROGRAM": program}
     with open(path, "rb") as given:
         start = time.monotonic()
@@ -78,7 +78,7 @@ def run(program, path):
 
 
 def work_once(program, row, changes):
-    """The seconds that a book takes for this row, which makes so many changes, and the peak memory in bytes."""
+    """The seconds that a book takes for this row, which makes this many changes, and the peak memory in bytes."""
     with tempfile.TemporaryFile() as given, tempfile.TemporaryFile() as told:
         given.write(f"{row} => {changes}\n".encode())
         given.seek(0)
@@ -93,20 +93,21 @@ def work_once(program, row, changes):
 
 
 def work(program, uploads):
-    """The microseconds of a request on a book of so many uploads, the best of three runs."""
+    """The microseconds of a request to a book of this many uploads, the best of three runs."""
     best = min(work_once(program, f"fill {uploads}", 2 * uploads)[0] for _ in range(3))
     return best / (3 * uploads) * 1e6
 
 
 def removals(program, uploads):
-    """The microseconds of a request that makes or removes an upload, and the bytes that are kept of one that was removed."""
+    """The microseconds of a request that makes or removes an upload, the bytes that are kept of a removed one, and the
+    peak memory."""
     _, few = work_once(program, "removals 1000", 2000)
     seconds, peak = work_once(program, f"removals {uploads}", 2 * uploads)
     return seconds / (2 * uploads) * 1e6, (peak - few) / (uploads - 1000), peak
 
 
 def check(replies, accepted):
-    """The end of the replies has the report, behind as many bytes as there must be."""
+    """Checks that the replies end with the report, and returns their size."""
     replies.seek(0, os.SEEK_END)
     size = replies.tell()
     replies.seek(max(0, size - (1 << 22)))

@@ -26,10 +26,10 @@ CRATES = TOP / "crates"
 # Crates that have no table of modules: programs that try others, tests, and the texts for these.
 UNLISTED = {"up_escape", "up_example", "up_refusals", "up_rows", "up_talks"}
 
-# Files of definitions that docs/ARCHITECTURE.md names together, since no public contract shows what is in them.
+# Files of definitions that docs/ARCHITECTURE.md names together, since no public contract shows their content.
 HIDDEN = {"Kept", "Fits", "Stored", "Padded", "Inside", "Steps", "Shapes", "StateCode", "StandingCode", "TiedCode", "LawfulOnce"}
 
-# Words of the command line whose numbers no table bounds.
+# Words of the command line whose numbers no table limits.
 ENDLESS = {"max-length", "max-finish"}
 
 # The files of drawn data, each with the script that draws it.
@@ -41,18 +41,18 @@ def text_of(name):
 
 
 def crates():
-    """The crates of crates.txt but for those of tests."""
+    """The crates of crates.txt, without those of tests."""
     found = re.findall(r"^(up\w*)(?: [^:\n]*)?:", text_of("crates.txt"), re.MULTILINE)
     return [name for name in found if not name.endswith("_tests")]
 
 
 def first_cells(lines):
-    """What stands in the first column of the rows of a table."""
+    """The first column of the rows of a table."""
     return [line.split("|")[1].strip() for line in lines if line.startswith("|") and not line.startswith("|---")]
 
 
 def named(text):
-    """What stands between backquotes."""
+    """The texts between backquotes."""
     return re.findall(r"`([^`]+)`", text)
 
 
@@ -66,7 +66,7 @@ def each_crate():
 
 
 def each_module():
-    """ARCHITECTURE's tables of modules have those that there are."""
+    """ARCHITECTURE's tables have exactly the modules of each library."""
     page = text_of("docs/ARCHITECTURE.md")
     tables = {}
     for head in re.finditer(r"^\| module of `(\w+)`.*\n\|---.*\n((?:\|.*\n)+)", page, re.MULTILINE):
@@ -111,7 +111,7 @@ def each_word():
 
 
 def statuses(path, function):
-    """The cases of a definition that gives a status for each fault."""
+    """The cases of a definition that maps each fault to a status."""
     found = re.findall(rf"^{function} \(?(?:\w+\.)?(\w+)[^=\n]*= (?:Some |refused_with )?(\d+)", text_of(path), re.MULTILINE)
     return {name: int(status) for name, status in found}
 
@@ -133,14 +133,14 @@ def documents():
 
 
 def each_link():
-    """What a document links to is there."""
+    """The targets of all links in the documents exist."""
     for path in documents():
         for target in re.findall(r"\]\(([^)#:]+)(?:#[^)]*)?\)", path.read_text(encoding="utf-8")):
             same((path.parent / target).exists(), True, f"whether {path.name} links to what is there: {target}")
 
 
 def each_line():
-    """No line of a document is over 120 columns, but for rows of tables, code and drawings."""
+    """No line of a document is over 120 columns, except for rows of tables, code and drawings."""
     for path in documents():
         plain = re.sub(r"^```.*?^```$", "", path.read_text(encoding="utf-8"), flags=re.MULTILINE | re.DOTALL)
         for line in plain.splitlines():

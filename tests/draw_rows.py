@@ -22,13 +22,13 @@ LIMIT = 20
 
 CONTINUE = b"HTTP/1.1 100 Continue\r\n\r\n"
 
-# What only a failing source or sink brings.
+# Faults that only a failing source or sink causes.
 READ_FAILED = "6 ReadFailed"
 WRITE_FAILED = "8 WriteFailed"
 
 
 def words_of(message):
-    """What a message that was read says, in words."""
+    """A message that was read, in words."""
     words = "cut " if message.cut else ""
     words += f"{escaped(message.method)} {escaped(message.target)}"
     words += "".join(f" {escaped(name)}: {escaped(value)};" for name, value in message.fields)
@@ -41,7 +41,7 @@ def marks_of(message, closes=""):
 
 def read(data, fails):
     """The next message of an input, in words, and the bytes after it, or None if nothing more can be read. If `fails`
-    the input fails at its end."""
+    is set, the input fails at its end."""
     try:
         message, rest = read_message(data, LIMIT)
     except BrokenOff as broken:
@@ -56,7 +56,7 @@ def read(data, fails):
 
 
 def answer(data, fails=False, calls=1):
-    """What so many calls give."""
+    """The results of this many calls."""
     words, rest = [], data
     for _ in range(calls):
         if rest is None:
@@ -72,7 +72,7 @@ def row(mark, data, wanted):
     print(f"{mark} {text} => {wanted}" if text else f"{mark} => {wanted}")
 
 
-# What is drawn.
+# The drawn rows.
 
 SIZED = b"HEAD / HTTP/1.1\r\nContent-Length: 3\r\nExpect: 100-continue\r\n\r\nabcGET"
 CHUNKED = b"POST / HTTP/1.1\r\nTransfer-Encoding: chunked\r\n\r\n4\r\nabcd\r\n0\r\nX: 1\r\n\r\nGET"
@@ -88,8 +88,7 @@ REPLY = (
 )
 UPLOAD = "/files/0123456789abcdef0123456789abcdef"
 
-# What can be wrong with a POST, in the order in which it is looked for. A target that is unknown is no upload's, so these
-# two never meet.
+# The faults of a POST, in the order of the checks. An unknown target is no upload's, so these two never meet.
 WRONGS = [
     ("13 Repeated", "lines", ["X-HTTP-Method-Override: POST", "X-HTTP-Method-Override: POST"]),
     ("10 Version", "version", "0.2.2"),
@@ -138,7 +137,7 @@ def print_writes():
 
 
 def print_request(*wrongs):
-    """A POST with these things wrong; the lines of the first stand before those of the second."""
+    """A POST with these faults. The lines of the first come before those of the second."""
     parts = {"target": "/files", "version": "1.0.0", "length": "10"}
     parts.update({name: value for _, name, value in wrongs if name != "lines"})
     front, back = [[], [], *(value for _, name, value in wrongs if name == "lines")][-2:]
@@ -160,7 +159,7 @@ def print_wrongs():
 
 
 def draw(rng):
-    """A message of pieces that mostly fit."""
+    """A message made of pieces that mostly fit."""
     pick = rng.choice
     end = lambda: b"\n" if rng.randrange(8) == 0 else CRLF
     fields = rng.choices(
@@ -197,7 +196,7 @@ def print_drawn(rng, count):
 
 
 def hold(path):
-    """Prints the rows of a file that this reader reads in another way, and answers whether there are none."""
+    """Prints the rows of a file that this reader reads in another way, and returns whether there are none."""
     start, text, is_odd, held, well = b"", b"", False, 0, True
     for line in open(path, encoding="ascii").read().splitlines():
         line, _, wanted = line.partition(" => ")
@@ -232,7 +231,7 @@ def main():
     given = words.parse_args()
     if given.hold:
         sys.exit(0 if hold(given.hold) else 1)
-    # The stored file has this name of the script in its first line.
+    # The stored file names the script like this in its first line.
     print(f"# What bench/messages drew: --seed {given.seed} --drawn {given.drawn}")
     print_fronts()
     print_changes()

@@ -65,7 +65,7 @@ REFUSALS = {
 
 
 class Refused(Exception):
-    """A message is refused, with one of the numbers or with what a closure said."""
+    """A message is refused, with one of the numbers above or with the words of a closure."""
 
     def __init__(self, number, said=None, fields=()):
         super().__init__(number)
@@ -75,7 +75,7 @@ class Refused(Exception):
 
 
 class BrokenOff(Refused):
-    """The input ends within a head, of which the bytes that came are a prefix."""
+    """The input ends within a head, and the bytes that came are a prefix of one."""
 
 
 # Bytes of a conversation: messages in, responses out.
@@ -138,8 +138,8 @@ def is_digits(text):
 
 
 def read_fields(data, place, fields, is_judged=True):
-    """Appends the fields of these lines to a list, up to an empty line, and returns the place after it. Returns None if
-    the data ends before that. A line that breaks off is then refused if it is judged and can't become a field."""
+    """Appends the fields of these lines to a list, up to an empty line, and returns the place after that line, or None
+    if the data ends before it. An incomplete last line is refused if `is_judged` is set and it can't become a field."""
     count = 0
     while not (empty := EMPTY.match(data, place)):
         if b"\n" not in data[place:]:
@@ -225,7 +225,7 @@ def read_chunks(message, data, limit):
 
 
 def skip_trailers(message, data):
-    """The bytes after the trailers of a body in chunks. A trailer that breaks off is not judged."""
+    """The bytes after the trailers of a body in chunks. A trailer that breaks off is not checked."""
     try:
         end = read_fields(data[:MAX_HEAD], 0, [], is_judged=False)
     except Refused:
@@ -237,7 +237,7 @@ def skip_trailers(message, data):
 
 
 def read_message(data, limit):
-    """A message with a body of at most `limit` bytes, and the bytes after it. A fault of the body is raised with the
+    """A message with a body of at most `limit` bytes, and the bytes after it. A fault in the body is raised with the
     message."""
     message, data = read_head(data)
     try:
@@ -270,19 +270,19 @@ ESCAPES = {b"\t": b"\\t", b"\n": b"\\n", b"\r": b"\\r", b"\\": b"\\\\", b'"': b'
 
 
 def escaped(data, quotes=True):
-    """Bytes as Rust escapes them, in ASCII; without `quotes` the quotes stay as they are."""
+    """Bytes as Rust escapes them, in ASCII. Without `quotes`, quotes are not escaped."""
     odd = rb"""[^ -~]|[\\"']""" if quotes else rb"[^ -~]|\\"
     return re.sub(odd, lambda found: ESCAPES.get(found[0]) or b"\\x%02x" % ord(found[0]), data).decode("ascii")
 
 
 def escaped_line(data, quotes=True):
-    """The same for the end of a line, where a blank is escaped too."""
+    """Escapes bytes at the end of a line, where a trailing blank is escaped too."""
     text = escaped(data, quotes)
     return text[:-1] + "\\x20" if text.endswith(" ") else text
 
 
 def unescaped(text):
-    """The bytes that such a text stands for."""
+    """The bytes that an escaped text stands for."""
     return re.sub(rb"\\(x..|.)", lambda found: bytes([int(found[1][1:], 16)]) if found[1][0] == 120 else
                   {b"r": b"\r", b"n": b"\n", b"t": b"\t"}.get(found[1], found[1]), text.encode())
 
@@ -291,7 +291,7 @@ def unescaped(text):
 
 
 class Request:
-    """What a message asks for: its name, and what it has besides."""
+    """What a message asks for: a name, and the parts of this kind of request."""
 
     def __init__(self, name, **parts):
         self.name = name
@@ -325,7 +325,7 @@ def check_repeated(message, names):
 
 
 def check_version(message, method):
-    """Refuses a message of another version, where the version counts."""
+    """Refuses a message of another version, for methods that require one."""
     if method not in (b"POST", b"PATCH", b"DELETE", b"HEAD"):
         return
     check_repeated(message, [b"Tus-Resumable"])
@@ -335,7 +335,7 @@ def check_version(message, method):
 
 
 def check_method(method, place):
-    """Refuses a method that isn't there at this place."""
+    """Refuses a method that doesn't exist at this place."""
     if method in ((b"POST",) if place is None else UPLOAD_METHODS):
         return
     allowed = b"OPTIONS, POST" if place is None else b"OPTIONS, HEAD, GET, PATCH, DELETE"
@@ -343,7 +343,7 @@ def check_method(method, place):
 
 
 def request_of(message, max_size):
-    """What a message asks for; the first check that fails is raised."""
+    """What a message asks for. The first check that fails is raised."""
     check_repeated(message, [b"X-HTTP-Method-Override"])
     method = message.value(b"X-HTTP-Method-Override")
     method = message.method if method is None else method
@@ -373,7 +373,7 @@ def creation_of(message, max_size):
 
 
 def length_of(length, deferred, max_size):
-    """The length of a new upload, None where it comes later."""
+    """The length of a new upload, or None if the length comes later."""
     if deferred is not None:
         if length is not None or deferred != b"1":
             raise Refused(14)
@@ -416,14 +416,14 @@ def pairs_of(metadata):
 
 
 def is_base64(text):
-    """Whether a text is just what its bytes are written as."""
+    """Whether a text is exactly the Base64 of its bytes."""
     if re.fullmatch(rb"([A-Za-z0-9+/]{4})*([A-Za-z0-9+/]{2}==|[A-Za-z0-9+/]{3}=)?", text) is None:
         return False
     return base64.b64encode(base64.b64decode(text)) == text
 
 
 def patch_of(message, place):
-    """The bytes that a PATCH brings, and what it says of them."""
+    """The bytes of a PATCH, and what its fields say about them."""
     check_repeated(message, [b"Content-Type", b"Upload-Offset", b"Upload-Length"])
     media = (message.value(b"Content-Type") or b"").partition(b";")[0].rstrip(b" \t").lower() == MEDIA_TYPE
     offset = message.value(b"Upload-Offset")
