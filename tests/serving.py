@@ -439,15 +439,16 @@ def try_all(cases, names, passed_over=()):
     for case in cases:
         if names and case.__name__ not in names:
             continue
+        title = f"{case.__name__}: {' '.join(case.__doc__.split())}"
         start = time.monotonic()
         try:
             told = case()
             passed += 1
             front = f"{told}, " if told else ""
-            print(f"passed: {case.__name__}: {case.__doc__} ({front}{time.monotonic() - start:.1f} s)", flush=True)
+            print(f"passed: {title} ({front}{time.monotonic() - start:.1f} s)", flush=True)
         except Exception as fault:
             failed += 1
-            print(f"failed: {case.__name__}: {case.__doc__} {type(fault).__name__}: {fault}", flush=True)
+            print(f"failed: {title} {type(fault).__name__}: {fault}", flush=True)
     for what in passed_over:
         print(f"passed over: {what}")
     print(f"{passed} passed, {failed} failed")

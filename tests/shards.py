@@ -216,8 +216,7 @@ class Behind:
                 time.sleep(0.1)
 
     def asks(self):
-        """haproxy's health checks show that a shard is ending: soon creations go elsewhere, even if none is sent
-        again."""
+        """haproxy's health checks show that a shard is ending: soon creations go elsewhere, even without retries."""
         with self.ending(("retry-on conn-failure empty-response response-timeout 503", "retry-on none")) as one:
             soon(lambda: one.change("POST", None, "post-create 0/3", upload_length=3) == 201, "a creation is taken")
             for _ in range(30):
