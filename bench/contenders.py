@@ -1,5 +1,5 @@
-"""What `bench/serve`, `bench/lock` and `bench/soak` share: the programs that they measure by turns, and nginx; their clients
-in C; what a server takes of the processors; and tables.
+"""Shared by `bench/serve.py`, `bench/lock.py`, `bench/shards.py`, `bench/soak.py` and `bench/store.py`: the programs
+that they measure in turn, and nginx; their clients in C; the processor time of servers; and tables.
 """
 import argparse
 import os
@@ -16,7 +16,7 @@ from serving import NginxServer, Server, build, same  # noqa: E402
 
 MIB = 1 << 20
 
-# How many seconds a server is given to do what is left to do behind its last answer.
+# The seconds that a server is given to finish its work after its last answer.
 QUIET = 0.1
 
 NGINX = """
@@ -36,7 +36,7 @@ def nginx_lines(port, folder):
 
 
 class Nginx:
-    """nginx as a contender, which keeps its files in memory, and what it speaks."""
+    """nginx as a contender, which keeps its files in memory, and the protocol of its client."""
 
     name, kind = "nginx", "put"
 
@@ -45,8 +45,8 @@ class Nginx:
 
 
 class Up:
-    """`up` as a contender: its name, its path, and the settings of the C library that it runs with, where they are its own. It
-    lets as many connections in as it can."""
+    """`up` as a contender: its name, its path, and the settings of the C library with which it runs, if it has its own.
+    It lets as many connections in as it can."""
 
     kind = "tus"
 
@@ -59,7 +59,7 @@ class Up:
 
 
 def named_program(text):
-    """The contender of a word `NAME=PATH[@GLIBC_TUNABLES]`."""
+    """The contender of an option `NAME=PATH[@GLIBC_TUNABLES]`."""
     name, _, rest = text.partition("=")
     path, at, tunables = rest.partition("@")
     if not name or not os.access(path, os.X_OK) or os.path.isdir(path):
@@ -92,24 +92,25 @@ def as_started(path):
 
 
 def by_turns(contenders, number):
-    """The contenders as they stand in the round of this number: in each another is the first."""
+    """The contenders in the order of this round: a different one is first in each round."""
     first = number % len(contenders)
     return contenders[first:] + contenders[:first]
 
 
 def processor_seconds(server):
-    """What all processes of a server took of the processors so far: their clocks of Linux, which count ended threads too."""
+    """The processor time that all processes of a server have taken so far, by Linux's clocks, which include ended
+    threads."""
     return sum(time.clock_gettime((~process << 3) | 2) for process in server.processes())
 
 
 def touch(mebibytes):
-    """Writes to so much memory, in a process that then ends."""
+    """Writes to this much memory, in a process that then ends."""
     if mebibytes:
         subprocess.run([sys.executable, "-c", f"bytearray(b'x') * {mebibytes * MIB}"], check=True)
 
 
 def compiled(name, folder):
-    """The path of a client, which is compiled into the folder."""
+    """Compiles a client into the folder, and returns its path."""
     if not shutil.which("cc"):
         sys.exit("bench: there is no C compiler, cc")
     path = os.path.join(folder, name)
@@ -118,7 +119,7 @@ def compiled(name, folder):
 
 
 class Client:
-    """A client of a server, `bench/serve.c`, and the seconds that both took of the processors while they were timed."""
+    """A client of a server, `bench/serve.c`, and the processor seconds of both while they were timed."""
 
     def __init__(self, path, kind, server):
         self.path, self.kind, self.server = path, kind, server
@@ -128,11 +129,11 @@ class Client:
         return [self.path, str(self.server.port), self.kind, *map(str, words)]
 
     def do(self, *words):
-        """The words that the client says."""
+        """The words that the client prints."""
         return subprocess.run(self.words(*words), stdout=subprocess.PIPE, check=True, text=True).stdout.split()
 
     def timed(self, *words):
-        """The first number that the client says."""
+        """The first number that the client prints."""
         before, of_server = self.so_far(), processor_seconds(self.server)
         said = self.do(*words)
         time.sleep(QUIET)
@@ -147,7 +148,7 @@ class Client:
 
 
 def hear(connection, count, status):
-    """Reads so many replies to requests that were sent together. They have no bodies, and all have this status."""
+    """Reads `count` replies to requests that were sent together. They have no bodies, and must all have this status."""
     while connection.read.count(b"\r\n\r\n") < count and connection.more():
         pass
     same(connection.read.count(f"HTTP/1.1 {status} ".encode()), count, f"how many replies are {status}")
@@ -159,8 +160,8 @@ def say_machine():
 
 
 def say_table(rows, texts):
-    """Prints rows of words, of which the first has the titles. Of columns of texts, which are the first ones and the last,
-    the words begin at one place; of others they end there."""
+    """Prints rows of cells, the first of which has the titles. Columns of texts, which are the first ones and the last,
+    are aligned left, and all others right."""
     widths = [max(map(len, column)) for column in zip(*rows)]
     print()
     for row in rows:

@@ -1,5 +1,5 @@
-"""What `bench/serve` measures of the memory of `up`: the bytes that it holds, as they come in bodies of several sizes, in
-chunked coding and in a final upload, and connections that are idle.
+"""What `bench/serve.py` measures of the memory of `up`: the bytes that it holds, if they come in bodies of several
+sizes, in chunked coding and in a final upload, and idle connections.
 """
 import contextlib
 import subprocess
@@ -7,29 +7,30 @@ import sys
 import time
 
 from contenders import MIB, Client, hear, processor_seconds
-from serving import Connection, Maker, head, patch, same, settled
+from serving import Connection, Maker, head, patch, patch_in_chunks, same, settled
 
-# The most memory for the bytes held, and for those of a final upload, whose parts are held already; both in these bytes.
+# The most memory for the bytes held, and for those of a final upload, whose parts are held already; both in multiples
+# of these bytes.
 MOST_HELD = 1.1
 MOST_FINAL = 0.001
 
-# The sizes of the bodies, and how many bytes are held of each.
+# The sizes of the bodies, and the number of bytes held of each.
 BODIES = [(1, 4 * MIB), (1024, 64 * MIB), (16_384, 64 * MIB), (65_536, 64 * MIB), (MIB, 64 * MIB), (256 * MIB, 256 * MIB)]
 
-# How many bytes a server has taken before.
+# How many bytes a server has taken before a measurement.
 BEFORE = 65_536
 
 # How many bodies of a byte are sent before the replies are read.
 TOGETHER = 64
 
-# How many messages a connection has here; the server closes behind the 10,000th.
+# How many messages a connection sends here; the server closes after the 10,000th.
 MESSAGES = 8192
 
 PARTS = 64
 CHUNK = 65_536
 
-# What is measured of idle connections, and the most that it may be: MiB in all, also where each has made an upload of 1 KiB,
-# and seconds of the processors.
+# The number of idle connections, and the limits: MiB in total, also if each has made an upload of 1 KiB, and seconds of
+# processor time.
 IDLE, MOST_IDLE, MOST_USED = 1000, 24, 32
 SECONDS, MOST_SECONDS = 10, 0.1
 
@@ -43,7 +44,7 @@ def size_of(count):
 
 
 class Figure:
-    """What is measured, its value, and the most that it may be."""
+    """What is measured, its value, and its limit."""
 
     def __init__(self, title, value, unit, most, ratio=None):
         self.title, self.value, self.unit, self.most, self.ratio = title, value, unit, most, ratio
@@ -75,7 +76,7 @@ def append_bytes(server, count):
 
 
 def append(client, size, count):
-    """An upload of so many bytes in bodies of this size. Its connections have ended."""
+    """Makes an upload of `count` bytes in bodies of this size. Its connections have ended when it returns."""
     if size == 1:
         append_bytes(client.server, count)
     else:
@@ -83,7 +84,7 @@ def append(client, size, count):
 
 
 def warm(client, size=BEFORE):
-    """The memory of a server that has taken some bytes in such bodies."""
+    """The memory of a server that has taken some bytes in bodies of this size."""
     append(client, min(size, BEFORE), BEFORE)
     return settled(client.server)
 
@@ -109,8 +110,7 @@ def chunked(contender, path):
         before = warm(Client(path, contender.kind, server))
         with Connection(server) as connection:
             path = connection.make(64 * MIB)
-            fields = {"Upload-Offset": 0, "Content-Type": "application/offset+octet-stream", "Transfer-Encoding": "chunked"}
-            connection.send(head("PATCH", path, fields))
+            connection.send(patch_in_chunks(path))
             for _ in range(64 * MIB // CHUNK):
                 connection.send(f"{CHUNK:x}\r\n".encode() + bytes(CHUNK) + b"\r\n")
             connection.send(b"0\r\n\r\n")
@@ -132,7 +132,7 @@ def final(contender, _):
 
 @contextlib.contextmanager
 def staying(client, connections):
-    """So many connections that have made a small upload each, and are idle."""
+    """This many connections that have made a small upload each, and are idle."""
     words = client.words("stay", connections)
     with subprocess.Popen(words, stdin=subprocess.PIPE, stdout=subprocess.PIPE, text=True) as process:
         if process.stdout.readline() != "open\n":

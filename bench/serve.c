@@ -1,8 +1,8 @@
-/* The client of bench/serve and bench/shards: does one kind of work on the server at a port of the loopback, and says what
- * it took.
+/* The client of bench/serve.py, bench/shards.py and bench/store.py: does one kind of work on the server at a port of
+ * the loopback, and prints what it took.
  *
  *     client PORT tus|put append CONNECTIONS REQUESTS BYTES   seconds, and the name of what came first
- *     client PORT tus|put check NAME BYTES                    nothing; fetches the bytes and looks at them
+ *     client PORT tus|put check NAME BYTES                    nothing; fetches the bytes and checks them
  *     client PORT tus|put fetch NAME BYTES TIMES              seconds; the bytes that come are dropped
  *     client PORT tus|put visit NAME CONNECTIONS              seconds, one connection after another
  *     client PORT tus|put beside BYTES                        the longest wait of a small request beside one of BYTES
@@ -10,12 +10,12 @@
  *     client PORT tus lanes TURNS REQUESTS EVENTS             seconds for requests on an upload of lane 1, and for as
  *                                                             many while events of lane 0 wait for their hook
  *     client PORT tus together CONNECTIONS BYTES              "open" once as many PATCHes have half of their bytes; and
- *                                                             behind the end of its input seconds until all are answered
+ *                                                             after the end of its input seconds until all are answered
  *
- * `tus` makes uploads and appends to them by PATCH, `put` writes files by PUT, and `apart` is `tus` with each connection
- * from an address of its own. PORT may be several with a comma between, which the connections take by turns. A
- * connection has a thread, but those that are together, and waits for each reply before the next request. It needs a C
- * compiler on Linux, and ends with 1 where a reply is a wrong one.
+ * `tus` makes uploads and appends to them by PATCH, `put` writes files by PUT, and `apart` is `tus` with each
+ * connection from an address of its own. PORT may be several ports, with commas between them, which the connections
+ * take in turn. Each connection has a thread, except with `together`, and waits for each reply before the next request.
+ * The client needs a C compiler on Linux, and exits with status 1 if a reply is wrong.
  */
 #include "talk.h"
 #include <pthread.h>
@@ -25,9 +25,9 @@ enum { PIECE = 1 << 20, NUMBERS = 3, PORTS = 16 };
 
 static int ports[PORTS], port_count;
 static int speaks_tus, is_apart;
-static char piece[PIECE]; /* of which all bodies are made */
+static char piece[PIECE]; /* all bodies are made of it */
 
-/* Reads a whole reply without a body to speak of, and connects anew where the server closes after it. */
+/* Reads a whole reply whose body has come with its head, and connects again if the server closes after it. */
 static void read_reply(struct talk *talk, int status, int other)
 {
     read_head(talk, status, other);
@@ -40,7 +40,7 @@ static void read_reply(struct talk *talk, int status, int other)
     }
 }
 
-/* Connects, and makes the upload that the talk is about; a file is made by the first PUT. */
+/* Connects, and makes the upload of this connection; a file is made by the first PUT. */
 static void make(struct talk *talk, int number, size_t length)
 {
     char head[HEAD];
@@ -114,7 +114,7 @@ static void *append_all(void *given)
     return NULL;
 }
 
-/* The name of what was appended first, as GET and HEAD have it. */
+/* The name of what was appended first, for GET and HEAD. */
 static const char *name_of_first(const struct talk *talk)
 {
     static char name[NAME + 2];
@@ -155,7 +155,7 @@ static void compare(const char *bytes, size_t count, size_t place)
     }
 }
 
-/* Fetches the bytes, and looks at them or drops them. */
+/* Fetches the bytes, and checks them or drops them. */
 static void fetch(struct talk *talk, const char *name, size_t bytes, int looks)
 {
     static char into[PIECE];
@@ -193,7 +193,7 @@ static void work_fetch(const char *name, size_t bytes, int times, int looks)
     printf("%f\n", now() - start);
 }
 
-/* Small requests as long as the large one goes on; what is told is the longest wait of these. */
+/* Sends small requests while the large one goes on, and prints the longest wait for one of them. */
 static void work_beside(size_t bytes)
 {
     struct worker large = {.requests = 1, .bytes = bytes};
@@ -232,7 +232,7 @@ static void work_visit(const char *name, int connections)
     printf("%f\n", now() - start);
 }
 
-/* An upload of one of two lanes, which its id tells. */
+/* An upload of one of two lanes, by its id. */
 static struct talk upload_of(int lane)
 {
     for (;;) {
@@ -245,7 +245,7 @@ static struct talk upload_of(int lane)
     }
 }
 
-/* The seconds of so many small requests behind those that there were. */
+/* The seconds of `requests` small requests after those before. */
 static double append_small(struct talk *talk, size_t *before, size_t requests)
 {
     double start = now();
@@ -282,7 +282,7 @@ static void work_stay(int connections)
     }
 }
 
-/* Bodies of less than a piece that are all under way at once, and are then brought to their ends. */
+/* Has bodies of less than a piece all under way at once, and then completes them. */
 static void work_together(int connections, size_t bytes)
 {
     struct talk *talks = calloc(connections, sizeof *talks);

@@ -1,5 +1,5 @@
-"""The figure `slow_hook` of `bench/serve`: small requests for uploads of one lane, while the post-hook of the other takes 50
-ms for each event.
+"""The figure `slow_hook` of `bench/serve.py`: small requests for uploads of one lane, while the post-hook of the other
+takes 50 ms for each event.
 """
 import os
 import shutil
@@ -10,7 +10,7 @@ import time
 from contenders import ROOT, Client
 from serving import Connection, Server, build
 
-# What makes of `up` a program whose post-hooks take 50 ms for each event of lane 0, where there are two.
+# The edits that make of `up` a program whose post-hooks take 50 ms for each event of lane 0, of two lanes.
 SLOW_HOOK = [
     ("main.rt", "        + RandomSource\n", "        + RandomSource\n        + std::time::Clock\n"),
     ("rules.rt", "RandomSource +", "RandomSource + std::time::Clock +"),
@@ -33,7 +33,7 @@ LEAST_RATIO = 0.9
 
 
 def slow_program(folder):
-    """The path of `up` with slow post-hooks, which is proved and built in a copy of the crates."""
+    """Proves and builds `up` with slow post-hooks in a copy of the crates, and returns its path."""
     shutil.copytree(os.path.join(ROOT, "crates"), os.path.join(folder, "crates"), ignore=shutil.ignore_patterns("c"))
     for name in ("crates.txt", "HANDLES"):
         shutil.copy(os.path.join(ROOT, name), folder)
@@ -50,7 +50,8 @@ def slow_program(folder):
 
 
 def check_slow(program, lane):
-    """The hooks of one lane are slow, and those of the other are not: a server ends once its lanes have handed over all."""
+    """Checks that the hooks of lane 0 are slow, and those of lane 1 are not: a server ends once its lanes have handed
+    over all events."""
     with Server(program, "--connections", "1") as server:
         with Connection(server) as connection:
             path = connection.make(EVENTS)
@@ -71,7 +72,7 @@ def shown(values):
 
 
 def slow_hook(client, program, runs):
-    """Measures requests beside a slow post-hook, and prints the line; whether the goal is met."""
+    """Measures requests next to a slow post-hook, and prints the line. Returns whether the goal is met."""
     for lane in (0, 1):
         check_slow(program, lane)
     alone, beside = [], []

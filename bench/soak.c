@@ -1,18 +1,20 @@
-/* The client of bench/soak: changes uploads over many connections, and holds their events to what was acknowledged.
+/* The client of bench/soak.py: changes uploads over many connections, and compares their events with what was
+ * acknowledged.
  *
  *     soak PORT EVENTS CONNECTIONS UPLOADS
  *
- * EVENTS is the number of an open file, of which the lines of `serve --events` are read; UPLOADS is the most that will
- * be made. A connection has a thread. A line `TOGETHER BYTES CHANGES` of the input has them do so many changes, and a
- * few more: each makes so many uploads, appends to each so many times a byte, which completes it, removes them, and
- * begins anew. Up to 16 requests are sent before their replies are read. Where too many events wait to be read, the
- * connections wait too. Once the events of all that was acknowledged were read, a line says how many changes were
- * acknowledged so far, how many uploads were made, and how many requests were refused or had no answer; and of this
- * work how long a connection waited at most for its next reply, how many events waited at most, and the seconds.
+ * EVENTS is the number of an open file with the lines of `serve --events`; UPLOADS is the most uploads that will be
+ * made. Each connection has a thread. A line `TOGETHER BYTES CHANGES` of the input has the threads make CHANGES
+ * changes, and a few more: each makes TOGETHER uploads, appends BYTES times a byte to each, which completes it, removes
+ * them, and starts again. Up to 16 requests are sent before their replies are read. If too many events wait to be read,
+ * the connections wait too. Once the events of everything that was acknowledged have been read, the client prints a
+ * line: how many changes were acknowledged so far, how many uploads were made, and how many requests were refused or
+ * had no answer; and, for this line of the input, how long a connection waited at most for its next reply, how many
+ * events waited at most, and the seconds.
  *
- * At the end of its input it reads the events to their end, and says how many there were, how many there should be,
- * how many didn't follow those before them (bench/told.h), and how many uploads have others than were acknowledged. It
- * needs a C compiler on Linux.
+ * At the end of its input the client reads the events to their end, and prints how many there were, how many there
+ * should be, how many didn't follow those before them (bench/told.h), and how many uploads have other events than were
+ * acknowledged. It needs a C compiler on Linux.
  */
 #include "talk.h"
 #include "told.h"
@@ -20,30 +22,30 @@
 
 enum { TOGETHER = 16, REQUEST = 320, MESSAGES = 10000 };
 
-/* How many events may wait to be read, in any number of lanes, before the connections wait too, and for how many
- * microseconds they do before they look again.
+/* How many events may wait to be read, in any number of lanes, before the connections wait too, and how many
+ * microseconds they wait before they look again.
  */
 enum { MOST_WAITING = 10000, NAP = 5000 };
 
-/* After so many seconds without a reply a connection is given up, and so are events that don't come. */
+/* After this many seconds without a reply a connection is given up, and so are events that don't come. */
 enum { MOST_SECONDS = 60 };
 
 enum kind { MAKE, APPEND, REMOVE };
 
-/* An upload that was made, and the events of what was acknowledged of it. */
+/* An upload that was made, and the number of its acknowledged events. */
 struct upload {
     uint64_t id[2];
     uint32_t events;
     uint32_t is_removed;
 };
 
-/* A request that was put together. One that makes an upload has none. */
+/* A request that was written. For one that makes an upload, `upload` has no meaning. */
 struct request {
     enum kind kind;
     size_t upload, offset;
 };
 
-/* A connection's thread, and what it has done. */
+/* The thread of a connection, and what it has done. */
 struct worker {
     pthread_t thread;
     struct talk talk;
@@ -62,10 +64,10 @@ struct worker {
 
 static int connections;
 static struct worker *workers;
-static size_t together, bytes; /* of the work that is done */
+static size_t together, bytes; /* of the current line of the input */
 static atomic_long to_do; /* changes */
 static atomic_long expected; /* events of what was acknowledged */
-static atomic_long lost; /* events that were awaited, and didn't come */
+static atomic_long lost; /* events that were expected, and didn't come */
 static atomic_int has_refused;
 
 static void open_anew(struct worker *worker)
@@ -80,7 +82,7 @@ static void open_anew(struct worker *worker)
     worker->left = MESSAGES;
 }
 
-/* Notes the upload that the reply tells of, which has its first event. */
+/* Notes the upload that the reply reports, which has its first event. */
 static void note_made(struct worker *worker)
 {
     struct upload made = {.events = 1};
@@ -95,7 +97,7 @@ static void note_made(struct worker *worker)
     worker->uploads[worker->made++] = made;
 }
 
-/* Notes what a reply acknowledges; how many events that has. */
+/* Notes what a reply acknowledges, and returns how many events that has. */
 static int acknowledge(struct worker *worker, const struct request *request)
 {
     if (request->kind == MAKE) {
@@ -129,13 +131,13 @@ static void note_reply(struct worker *worker, const struct request *request)
     worker->changes++;
 }
 
-/* How many events wait to be read. */
+/* The number of events that wait to be read. */
 static long count_waiting(void)
 {
     return atomic_load(&expected) - atomic_load(&heard) - atomic_load(&lost);
 }
 
-/* Waits until no more events wait than may. */
+/* Waits until at most this many events wait. */
 static void await_events(long most)
 {
     long before = count_waiting();
@@ -151,7 +153,7 @@ static void await_events(long most)
     }
 }
 
-/* Sends what was put together, and reads the replies; whether all came. */
+/* Sends the requests that were written, and reads the replies. Returns whether all came. */
 static int talk_of_all(struct worker *worker)
 {
     double since = now();
@@ -185,7 +187,7 @@ static void send_together(struct worker *worker)
     worker->count = worker->size = 0;
 }
 
-/* Writes a request behind those that were put together. */
+/* Writes a request to a buffer, and returns its size. */
 static int write_request(struct worker *worker, const struct request *request, char *to)
 {
     const char *version = "HTTP/1.1\r\nHost: a\r\nTus-Resumable: 1.0.0\r\n";
@@ -202,7 +204,7 @@ static int write_request(struct worker *worker, const struct request *request, c
         id[0], id[1], version, request->offset);
 }
 
-/* Puts a request to the others, and sends them where they are enough. */
+/* Adds a request to the others, and sends them if there are enough. */
 static void put(struct worker *worker, enum kind kind, size_t upload, size_t offset)
 {
     struct request request = {kind, upload, offset};
@@ -213,7 +215,7 @@ static void put(struct worker *worker, enum kind kind, size_t upload, size_t off
     }
 }
 
-/* Sends what is left of the requests that were put together. */
+/* Sends the requests that are left. */
 static void send_rest(struct worker *worker)
 {
     if (worker->count > 0) {
@@ -252,7 +254,7 @@ static void *take_turns(void *given)
     return NULL;
 }
 
-/* Has all connections work, and says what came of it. */
+/* Has all connections work, and prints the results. */
 static void work(void)
 {
     struct worker sum = {0};
@@ -275,7 +277,7 @@ static void work(void)
     fflush(stdout);
 }
 
-/* Says whether the events were those of what was acknowledged. */
+/* Compares the events with what was acknowledged, and prints the results. */
 static void judge(void)
 {
     size_t made = 0, others = 0;

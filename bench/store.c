@@ -1,10 +1,10 @@
-/* What bench/store times a stored server beside: the writes of its log alone, and the reading of a file.
+/* What bench/store.py compares a stored server with: the writes of its log alone, and the reading of a file.
  *
- *     store write FILE BATCHES BYTES    seconds; writes so many batches of so many bytes
- *     store read FILE                   seconds; the bytes are dropped
+ *     store write FILE BATCHES BYTES    prints seconds; writes this many batches of this many bytes
+ *     store read FILE                   prints seconds; the bytes are dropped
  *
- * A batch is written behind a gate that is closed, a byte, together with the next one. It is synced, and then its own
- * gate is opened by a write of one byte, and synced. So do the server's logs. It needs a C compiler on Linux.
+ * A batch is written after its closed gate, which is a byte, together with the next gate. It is synced, and then its
+ * gate is opened by a write of one byte, and synced. The server's logs do the same. It needs a C compiler on Linux.
  */
 #define _GNU_SOURCE
 #include <fcntl.h>

@@ -1,6 +1,6 @@
-/* What the clients of bench/ share: a connection to a port of the loopback, what is sent on it, and the heads of
- * replies. Where a reply isn't the wanted one, or the connection breaks off, the program ends with 1; `try_to_send`
- * and `next_head` leave that to the caller.
+/* Shared by the clients of bench/: a connection to a port of the loopback, sending on it, and the heads of replies. If
+ * a reply isn't the expected one, or the connection breaks off, the program exits with status 1; `try_to_send` and
+ * `next_head` leave that to the caller.
  */
 #define _GNU_SOURCE
 #include <arpa/inet.h>
@@ -20,15 +20,15 @@ enum { HEAD = 4096, NAME = 128 };
 /* A connection, and the upload or file that its requests are about. */
 struct talk {
     int port;
-    int from; /* which address of the loopback it comes from; 0 leaves that to the system */
+    int from; /* the address of the loopback that it comes from; 0 leaves that to the system */
     int socket;
     char path[NAME];
     char read[HEAD + 1];
-    size_t have; /* how much stands in `read` */
-    size_t used; /* how much of that is the reply whose head was read last */
+    size_t have; /* the number of bytes in `read` */
+    size_t used; /* how many of these belong to the reply whose head was read last */
     int status; /* of this reply */
-    char *body; /* what was read behind its head */
-    size_t rest; /* how much of its body is still to be read */
+    char *body; /* the bytes that were read after its head */
+    size_t rest; /* how many bytes of its body are still to be read */
 };
 
 static void stop(const char *format, ...)
@@ -69,7 +69,7 @@ static void open_talk(struct talk *talk)
     talk->have = talk->used = talk->rest = 0;
 }
 
-/* Sends the bytes; whether all were taken. */
+/* Sends the bytes, and returns whether all were taken. */
 static int try_to_send(const struct talk *talk, const char *bytes, size_t count)
 {
     while (count > 0) {
@@ -90,7 +90,7 @@ static inline void send_all(const struct talk *talk, const char *bytes, size_t c
     }
 }
 
-/* Where the value of a field of the reply begins; NULL where there is none. */
+/* The start of the value of a field of the reply, or NULL if there is no such field. */
 static const char *field(const struct talk *talk, const char *name)
 {
     size_t size = strlen(name);
@@ -103,8 +103,8 @@ static const char *field(const struct talk *talk, const char *name)
     return NULL;
 }
 
-/* Reads the head of the next reply, of several that come behind one another; whether one came. The body before it has
- * been read.
+/* Reads the head of the next reply, of several that come one after another, and returns whether one came. The body of
+ * the reply before it must have been read.
  */
 static int next_head(struct talk *talk)
 {
@@ -133,7 +133,7 @@ static int next_head(struct talk *talk)
     return 1;
 }
 
-/* Reads the head of a reply, which must have this status, or the other one. */
+/* Reads the head of a reply, which must have one of these two statuses. */
 static inline void read_head(struct talk *talk, int status, int other)
 {
     if (!next_head(talk)) {
@@ -144,7 +144,7 @@ static inline void read_head(struct talk *talk, int status, int other)
     }
 }
 
-/* Whether the server closes behind the reply that was read. */
+/* Whether the server closes after the reply that was read. */
 static inline int closes(const struct talk *talk)
 {
     const char *value = field(talk, "Connection");

@@ -1,8 +1,8 @@
-/* What bench/soak hears of uploads: the lines of `serve --events`, read from a pipe as they come, and a table of what
- * they told of each upload. It stands behind talk.h.
+/* The events of uploads for bench/soak.c: the lines of `serve --events`, read from a pipe as they come, and a table of
+ * what they report about each upload. It is included after talk.h.
  *
- * An event follows those of its upload where it has the next number. The first, and no other, is `post-create`, at
- * offset 0; `post-receive` is a byte further, `post-finish` at the length, and nothing is behind `post-terminate`.
+ * An event follows those of its upload if it has the next number. The first, and no other, is `post-create`, at offset
+ * 0; `post-receive` is one byte further, `post-finish` is at the length, and nothing comes after `post-terminate`.
  */
 #include <fcntl.h>
 #include <stdatomic.h>
@@ -10,19 +10,19 @@
 
 enum { BLOCK = 1 << 20 };
 
-/* What the lines told of an upload. */
+/* What the lines reported about an upload. */
 struct told {
     uint64_t id[2];
     uint32_t events, offset, is_removed;
 };
 
 static int lines; /* the file of the events */
-static struct told *table; /* with free places, where the id is 0 */
+static struct told *table; /* the id of a free place is 0 */
 static size_t places; /* a power of 2 */
 static atomic_long heard; /* lines */
-static size_t told_of, astray; /* uploads that lines tell of, and lines that don't follow */
+static size_t told_of, astray; /* uploads that lines report, and lines that don't follow */
 
-/* Makes a table for so many uploads, and room in the pipe. */
+/* Makes a table for this many uploads, and room in the pipe. */
 static void make_table(int file, size_t uploads)
 {
     lines = file;
@@ -35,7 +35,7 @@ static void make_table(int file, size_t uploads)
     }
 }
 
-/* Reads the 32 digits of an id; whether there are so many. */
+/* Reads the 32 digits of an id, and returns whether they are there. */
 static int read_id(const char *text, uint64_t id[2])
 {
     for (int half = 0; half < 2; half++) {
@@ -51,7 +51,7 @@ static int read_id(const char *text, uint64_t id[2])
     return 1;
 }
 
-/* What was told of the upload of this id, or the free place for it. */
+/* The entry of the upload with this id, or the free place for it. */
 static struct told *find(const uint64_t id[2])
 {
     size_t place = id[1] & (places - 1);
@@ -61,7 +61,7 @@ static struct told *find(const uint64_t id[2])
     return &table[place];
 }
 
-/* Whether an event may come behind those that were told of its upload. */
+/* Whether an event may come after those that were reported of its upload. */
 static int follows(const struct told *told, uint32_t number, const char *hook, uint32_t offset, uint32_t length)
 {
     if (told->is_removed || number != told->events + 1) {
@@ -77,7 +77,7 @@ static int follows(const struct told *told, uint32_t number, const char *hook, u
         && (strcmp(hook, "post-terminate") == 0 || (strcmp(hook, "post-finish") == 0 && offset == length));
 }
 
-/* Notes the event of a line; whether it is one, and follows. */
+/* Notes the event of a line, and returns whether it is an event, and follows. */
 static int note_line(const char *line)
 {
     uint64_t id[2];
@@ -108,7 +108,7 @@ static void hear(const char *line)
     atomic_fetch_add(&heard, 1);
 }
 
-/* Reads the events to their end. It naps where few have come, so that the server needn't wake it for each. */
+/* Reads the events to their end. It naps if few have come, so that the server needn't wake it for each. */
 static void *hear_all(void *given)
 {
     static char text[BLOCK];

@@ -1,13 +1,13 @@
-/* The watcher of bench/lock: asks for the state of an upload over and over, and says how long the answers took.
+/* The watcher of bench/lock.py: asks for the state of an upload again and again, and prints how long the answers took.
  *
  *     watch PORT PATH [PORT PATH]..
  *
- * For each pair a thread sends a HEAD on a connection that is kept, waits for the answer, and sends the next at once;
- * where the server closes, as behind the 10,000th, it connects anew, and that isn't counted. It says "begun" once all
- * have had their first answer, and at the end of its input a line for each pair: how many answers there were, and the
- * mean and the longest wait for one, in milliseconds. A thread sleeps while it waits, and runs on any processor: one
- * that spins, or keeps to one processor, has to wait for others itself where processors are few. It needs a C compiler
- * on Linux. Where an answer isn't 200 it ends with 1.
+ * For each pair a thread sends a HEAD on a kept connection, waits for the answer, and sends the next one at once. If
+ * the server closes, as it does after the 10,000th, the thread connects again, which isn't counted. The watcher prints
+ * "begun" once all threads have had their first answer. At the end of its input it prints a line for each pair: the
+ * number of answers, and the mean and the longest wait for one, in milliseconds. A thread sleeps while it waits, and
+ * runs on any processor: one that spins, or keeps to one processor, has to wait for others itself if processors are
+ * few. The watcher needs a C compiler on Linux. If an answer isn't 200, it exits with status 1.
  */
 #include "talk.h"
 #include <pthread.h>
@@ -15,7 +15,7 @@
 
 enum { MOST_WATCHED = 16 };
 
-/* An upload that is asked for. */
+/* An upload whose state is asked for. */
 struct watched {
     pthread_t thread;
     struct talk talk;
@@ -28,7 +28,7 @@ struct watched {
 static atomic_int is_over;
 static pthread_barrier_t begin;
 
-/* The seconds until the answer has come. */
+/* Asks once, and returns the seconds until the answer has come. */
 static double ask(struct watched *watched)
 {
     double start = now();

@@ -1,19 +1,19 @@
-"""What `tests/crash` holds a stored server to: a plain count of uploads, clients that change them and go on after a
-crash where they were, and the lines of `--events` of all runs. """
+"""What `tests/crash.py` compares a stored server with: a plain count of uploads, clients that change uploads and
+continue after a crash, and the lines of `--events` of all runs.
+"""
 import base64
 import contextlib
 import random
 import re
 
-from serving import Connection, head, same
+from serving import Connection, head, patch, same
 
 LANES = 3
 
-# The most bytes of a piece that is appended, but for a large one now and then.
+# The most bytes of an appended piece, and those of an occasional large one.
 PIECE, LARGE = 1000, 150_000
 
-# How many uploads of a client are under way, and how many are there and complete, at most, before it goes on with
-# these or removes some.
+# The most uploads of a client that are under way, and that are complete, before it continues these or removes some.
 MOST_BEGUN, MOST_WHOLE = 6, 12
 
 # How many uploads that the last run didn't change a client looks at after a restart.
@@ -24,17 +24,17 @@ SAMPLE = 20
 
 
 class Upload:
-    """An upload as its accepted changes make it: how it was made, its length, None where it isn't known, its bytes,
-    whether it is there, how many changes there were, and its events. It is never changed: each change makes another
-    one."""
+    """An upload as its accepted changes make it: its mark, its `Upload-Concat`, its length, None if it is unknown,
+    its bytes, whether it exists, the number of its changes, and its events. It is immutable: each change makes
+    another one."""
 
     def __init__(self, mark, concat, length, body=b"", is_there=True, changes=0, events=()):
         self.mark, self.concat, self.length, self.body = mark, concat, length, body
         self.is_there, self.changes, self.events = is_there, changes, events
 
     def changed(self, length, body, is_there, *hooks):
-        """The upload after one change more, with the events of these hooks, and the last one if it is complete by
-        that."""
+        """The upload after one more change, with the events of these hooks, and the last event if it is now
+        complete."""
         is_whole = is_there and len(body) == length
         at = f"{len(body)}/{'-' if length is None else length}"
         hooks = [*hooks, *["post-finish"] * is_whole]
@@ -45,7 +45,7 @@ class Upload:
         return self.changed(self.length, self.body, True, "post-create")
 
     def appended(self, piece, length):
-        """The upload once this piece was appended, and this length is known."""
+        """The upload after this piece is appended and with this length."""
         return self.changed(length, self.body + piece, True, *["post-receive"] * bool(piece))
 
     def removed(self):
@@ -55,7 +55,7 @@ class Upload:
         return len(self.body) == self.length
 
     def stands(self):
-        """What a HEAD tells of it."""
+        """The expected result of a HEAD."""
         if not self.is_there:
             return (404,)
         length = ("1", None) if self.length is None else (None, str(self.length))
@@ -67,7 +67,7 @@ def coded(text):
 
 
 def said_of(reply):
-    """What the reply to a HEAD tells of an upload."""
+    """What the reply to a HEAD reports about an upload."""
     if reply.status == 404:
         return (404,)
     names = ("upload-offset", "upload-defer-length", "upload-length", "upload-metadata", "upload-concat")
@@ -78,14 +78,14 @@ def said_of(reply):
 
 
 class Ended(Exception):
-    """The connection has ended, where it may."""
+    """The connection has ended, as it may."""
 
 
 class Client:
-    """A client of one server after another, with uploads of its own, by their paths. Once the ending is set its
-    connection may end within a change, or the change may be refused. Such a change is `asked` until it is known what
-    became of it: the path of an upload, and what it is if the change is done. A creation without an answer is among
-    the `lost`, by its mark."""
+    """A client of one server after another, with its own uploads, by their paths. Once `ending` is set, its
+    connection may end within a change, or the change may be refused. Such a change is `asked` until its result is
+    known: the path of an upload, and the upload as it is if the change is done. A creation without an answer is in
+    `lost`, by its mark."""
 
     def __init__(self, number):
         self.number = number
@@ -96,14 +96,14 @@ class Client:
         self.made = 0
 
     def meet(self, server, ending):
-        """Goes on at this server."""
+        """Continues at this server."""
         self.connection, self.ending, self.sent = Connection(server), ending, 0
 
     def leave(self):
         self.connection.socket.close()
 
     def hear(self, message, bare=False):
-        """The whole reply to a message."""
+        """The complete reply to a message."""
         try:
             self.connection.send(message)
             reply = self.connection.reply(bare)
@@ -118,7 +118,7 @@ class Client:
         return self.hear(head(method, path, {}), method == "HEAD")
 
     def change(self, message, path, after):
-        """Has a change done by which the upload is this one; its path."""
+        """Sends a change after which the upload is `after`, and returns its path."""
         self.asked = path, after
         reply = self.hear(message)
         if reply.status == 503 and self.ending.is_set():
@@ -128,16 +128,16 @@ class Client:
         return self.settle(path or reply.fields["location"])
 
     def settle(self, path):
-        """What was asked is done, and the upload has this path."""
+        """Notes that the change in `asked` is done, and that the upload has this path."""
         self.uploads[path] = self.asked[1]
         self.touched.add(path)
         self.asked = None
         return path
 
-    # What is changed.
+    # Changes.
 
     def create(self, length, concat=None, body=b"", parts=()):
-        """Makes an upload, and answers its path."""
+        """Makes an upload, and returns its path."""
         self.made += 1
         mark = f"{self.number}.{self.made}"
         fields = {"Upload-Metadata": f"mark {coded(mark)}"}
@@ -159,20 +159,17 @@ class Client:
     def append(self, path, piece, length=None):
         """Appends a piece, and declares the length if one is given."""
         upload = self.uploads[path]
-        fields = {"Content-Type": "application/offset+octet-stream", "Upload-Offset": len(upload.body)}
-        if length is not None:
-            fields["Upload-Length"] = length
-        message = head("PATCH", path, {**fields, "Content-Length": len(piece)}) + piece
+        message = patch(path, len(upload.body), len(piece), length) + piece
         known = upload.length if length is None else length
         return self.change(message, path, upload.appended(piece, known))
 
     def remove(self, path):
         return self.change(head("DELETE", path, {}), path, self.uploads[path].removed())
 
-    # What is looked at.
+    # Checks.
 
     def look(self, path, upload=None):
-        """Sees that an upload is what the count says, with its bytes where it is complete."""
+        """Checks that an upload is what the count says, with its bytes if it is complete."""
         upload = upload or self.uploads[path]
         same(said_of(self.ask("HEAD", path)), upload.stands(), f"what a HEAD tells of {path}")
         if upload.is_there and upload.is_whole():
@@ -180,7 +177,7 @@ class Client:
             same((reply.status, reply.body == upload.body), (200, True), f"whether a GET brings the bytes of {path}")
 
     def resolve(self):
-        """Finds out what became of the change that had no answer: it is done, or nothing of it is."""
+        """Finds out the result of the change that had no answer: it must be done, or not done at all."""
         if not self.asked:
             return
         path, after = self.asked
@@ -198,14 +195,14 @@ class Client:
         self.look(path)
 
     def come_back(self, everything=False):
-        """Looks after a restart at what the last run changed, and at some or all of the rest."""
+        """Checks after a restart what the last run changed, and some or all of the rest."""
         self.resolve()
         rest = sorted(self.uploads.keys() - self.touched)
         for path in [*self.touched, *(rest if everything else random.sample(rest, min(SAMPLE, len(rest))))]:
             self.look(path)
         self.touched = set()
 
-    # What it does by itself.
+    # What a client does by itself.
 
     def begun(self):
         return [path for path, upload in self.uploads.items() if upload.is_there and not upload.is_whole()]
@@ -247,33 +244,33 @@ class Client:
                     self.begin()
 
     def finish(self):
-        """Brings all that is under way to its end."""
+        """Completes all uploads that are under way."""
         for path in self.begun():
             upload = self.uploads[path]
             size = len(upload.body) + 1 if upload.length is None else upload.length
             self.append(path, random.randbytes(size - len(upload.body)), size)
 
 
-# What the lines of events tell.
+# The lines of events.
 
 
 def lane_of(path):
-    """The lane of an upload, which its path or its id tells."""
+    """The lane of an upload, by its path or its id."""
     return int(path[-32:], 16) % LANES
 
 
 class Told:
-    """The events of each lane, as the lines of all runs tell them, each once: a run that ended by a kill may have
+    """The events of each lane, as the lines of all runs report them, each once. A run that ended by a kill may have
     handed over an event that it had not counted, which the next run hands over again."""
 
     def __init__(self, before=None):
-        """Those of another one, or none yet."""
+        """Copies another one, or starts with no events."""
         self.of_lane = {lane: list(before.of_lane[lane]) if before else [] for lane in range(LANES)}
         self.repeated = before.repeated if before else 0
         self.was_killed = before is not None and before.was_killed
 
     def add(self, output, is_killed):
-        """Adds what a run has written; the report behind it. A kill may cut the last line."""
+        """Adds the output of a run, and returns the report after its lines. A kill may cut the last line."""
         lines, _, report = ("\n" + output).partition("\n\n")
         if is_killed:
             lines, _, _ = ("\n" + output).rpartition("\n")
@@ -302,17 +299,17 @@ class Told:
         return events
 
     def counts(self):
-        """How many events each lane has handed over in all."""
+        """How many events each lane has handed over in total."""
         return [len(lines) for lines in self.of_lane.values()]
 
     def unknown(self, clients):
-        """The uploads that lines tell of, and no client knows."""
+        """The uploads that lines report and that no client knows."""
         known = {path for client in clients for path in client.uploads}
         return sorted(self.events().keys() - known)
 
     def hold(self, clients, is_whole):
-        """Holds the events to the count of the clients: of each upload its first ones, or all, each once and in order.
-        A change without an answer may have its events."""
+        """Compares the events with the count of the clients: for each upload a prefix of its events, or all if
+        `is_whole` is set, each once and in order. A change without an answer may have its events."""
         events = self.events()
         for client in clients:
             for path, upload in client.uploads.items():
@@ -332,7 +329,7 @@ class Told:
 
 
 def adopt(clients, paths):
-    """Gives uploads that no client knows to those that asked for them and had no answer, which their marks tell."""
+    """Gives each upload that no client knows to the client whose creation had no answer. The upload's mark names it."""
     for path in paths:
         reply = clients[0].ask("HEAD", path)
         same(reply.status, 200, f"the status of a HEAD of {path}, which no client knows")

@@ -1,5 +1,6 @@
-"""Servers that can be told to end in order, by the script that runs them or by their standard input: what
-`tests/ending` and `tests/crash` share. """
+"""Servers that can be told to end in order, by the script that runs them or by their standard input. `tests/ending.py`
+and `tests/crash.py` share them.
+"""
 import contextlib
 import fcntl
 import os
@@ -10,13 +11,13 @@ from serving import ROOT, Server, same
 
 SCRIPT = os.path.join(ROOT, "packaging", "up")
 
-# The most seconds that an end may take with nothing to do, and with much.
+# The most seconds that an end may take with nothing to do, and with much to do.
 MOST_IDLE, MOST_BUSY = 2, 40
 
 
 class Script(Server):
-    """A server of this program that the script runs, in a process group of its own, with these words. It may stand
-    behind a front, as `unshare`, and on a terminal."""
+    """A server of this program that the script runs, in a process group of its own, with these words. `front` are words
+    that start the script, such as `unshare`, and `terminal` is the terminal that it runs on."""
 
     def __init__(self, program, *words, script=SCRIPT, front=(), terminal=None, **how):
         environment = {**os.environ, "UP_PROGRAM": program}
@@ -28,7 +29,7 @@ class Script(Server):
 
     def limit(self):
         super().limit()
-        # What is ignored when sh starts can't be trapped by it.
+        # sh can't trap a signal that is ignored when sh starts.
         for number in (signal.SIGINT, signal.SIGHUP):
             signal.signal(number, signal.SIG_DFL)
         os.setsid()
@@ -41,7 +42,7 @@ class Script(Server):
         super().__exit__(*rest)
 
     def end(self):
-        """Tells the script to end, which is the child of a front."""
+        """Tells the script to end; with `front` words, the script is the child of the process."""
         process = self.process.pid
         os.kill(child_of(process) if self.front else process, signal.SIGTERM)
 
@@ -67,7 +68,7 @@ class Plain(Server):
         os.close(self.writer)
 
     def end(self):
-        """Ends the standard input of the server, once."""
+        """Ends the server's standard input, once."""
         if self.writer is not None:
             os.close(self.writer)
         self.writer = None
@@ -81,7 +82,7 @@ def child_of(process):
 
 
 def ended(server, most=MOST_BUSY):
-    """What the server has written once it has ended by itself, with status 0 and not a word."""
+    """The output of a server that has ended by itself, with status 0 and an empty standard error."""
     same(server.process.wait(most), 0, "the status of the server")
     same(server.process.stderr.read(), b"", "what stands on standard error")
     return server.output()

@@ -1,5 +1,5 @@
-"""What `tests/clients` tries with nginx in front of the server, and that nginx, which `tests/browser` has too. Its lines are
-those of examples/browser/nginx.conf, with other ports and paths, so what people copy is what is tried.
+"""Cases of `tests/clients.py` with nginx in front of the server, and that nginx, which `tests/browser.py` uses too. Its
+lines are those of examples/browser/nginx.conf, with other ports and paths, so what people copy is what is tried.
 """
 import contextlib
 import http.server
@@ -10,43 +10,44 @@ import threading
 import time
 import types
 
-from serving import ROOT, Connection, NginxServer, Server, free_port, head, patch, same, soon
+from serving import NOWHERE, ROOT, Connection, NginxServer, Server, free_port, head, patch, same, soon
 
 EXAMPLE = os.path.join(ROOT, "examples", "browser")
 
-# What the lines of the example say of whom to ask, and what has nginx do so.
+# The comment in the example about whom to ask, and the line that makes nginx ask.
 ASKED, ASKS = "# auth_request /may;", "auth_request /may;"
 
-# How many requests are sent where more than a conversation's 10,000 are to come, and how many a client sends over one
-# connection, which nginx ends behind the 1,000th.
+# The number of requests if there have to be more than the 10,000 of a conversation, and the number that a client sends
+# over one connection, which nginx ends after the 1,000th.
 MANY, AT_A_TIME = 10_500, 500
 
-# The bytes of an upload that is more than sockets hold.
+# The size of an upload that is larger than the buffers of sockets.
 LARGE = 32 << 20
 
-# The most bytes of a body that the lines let through, which are what `--max-size` may say at most.
+# The largest body that the example lets through, which is the greatest value of `--max-size`.
 MOST = 1 << 30
 
-# What a page of another origin needs of nginx in each answer, and what it must be let send and read.
+# The fields that a page of another origin needs from nginx in each answer, and those that it must be able to send and
+# to read.
 CORS = [f"access-control-{name}" for name in "allow-headers allow-methods allow-origin expose-headers max-age".split()]
 SENT = "content-type tus-resumable upload-concat upload-defer-length upload-length upload-metadata upload-offset"
 READ = "location tus-extension tus-max-size tus-version upload-length upload-offset"
 
 
 def replaced(text, old, new):
-    """The text of an example with other words in place of these, which stand in it once."""
+    """The text of an example with `new` instead of `old`, which must occur exactly once."""
     same(text.count(old), 1, f"how often the example says {old!r}")
     return text.replace(old, new)
 
 
 def documented():
-    """The lines that the example has for the `http` block."""
+    """The lines of the example, which belong into the `http` block."""
     with open(os.path.join(EXAMPLE, "nginx.conf"), encoding="ascii") as file:
         return file.read()
 
 
 def certificate(folder):
-    """The paths of a certificate for the loopback and of its key, which are made in this folder."""
+    """Makes a certificate for the loopback and its key in this folder, and returns their paths."""
     made, key = os.path.join(folder, "certificate.pem"), os.path.join(folder, "key.pem")
     words = "openssl req -x509 -newkey ec -pkeyopt ec_paramgen_curve:prime256v1 -nodes -days 2 -subj /CN=localhost".split()
     names = ["-addext", "subjectAltName=DNS:localhost,IP:127.0.0.1"]
@@ -55,8 +56,8 @@ def certificate(folder):
 
 
 class Front(NginxServer):
-    """An nginx in front of this server as the example has it, but for ports, paths and these changes. `others` answers lines
-    that stand behind, from the paths of the certificate and of its key. `port` is that of TLS, `plain` the other."""
+    """An nginx in front of this server as in the example, except for ports, paths and these changes. `others` returns
+    lines to add at the end, from the paths of the certificate and of its key. `port` is for TLS, and `plain` is not."""
 
     def __init__(self, server, *changes, others=lambda certificate, key: ""):
         super().__init__(self.changed, workers=1)
@@ -81,7 +82,7 @@ class Front(NginxServer):
 
 
 class Secure(Connection):
-    """A connection over TLS, which believes in the certificate of the front alone."""
+    """A connection over TLS, which trusts only the certificate of the nginx."""
 
     def __init__(self, front):
         super().__init__(front)
@@ -89,7 +90,8 @@ class Secure(Connection):
 
 
 class Doorman(http.server.BaseHTTPRequestHandler):
-    """What knows who may upload: those whose cookie is `user=known`. The server has a list of who asked for what."""
+    """Decides who may upload: those whose cookie is `user=known`. The server has a list of the requests that were asked
+    about."""
 
     def do_GET(self):
         asked = self.headers["X-Original-Method"], self.headers["X-Original-URI"], self.headers["Cookie"]
@@ -103,7 +105,7 @@ class Doorman(http.server.BaseHTTPRequestHandler):
 
 @contextlib.contextmanager
 def doorman():
-    """A doorman that answers, with its port and what it was asked."""
+    """A doorman at a free port, with the list of what it was asked."""
     with http.server.ThreadingHTTPServer(("127.0.0.1", 0), Doorman) as server:
         server.asked = []
         threading.Thread(target=server.serve_forever, daemon=True).start()
@@ -112,7 +114,7 @@ def doorman():
 
 
 def asking(man):
-    """The changes by which nginx asks this doorman."""
+    """The changes that make nginx ask this doorman."""
     return (ASKED, ASKS), ("proxy_pass http://127.0.0.1:1081;", f"proxy_pass http://127.0.0.1:{man.server_port};")
 
 
@@ -127,7 +129,7 @@ def names_of(text):
 
 
 class Fronted:
-    """The cases, which have this program serve behind nginx."""
+    """The cases, in which this program serves behind nginx."""
 
     def __init__(self, program):
         self.program = program
@@ -159,7 +161,7 @@ class Fronted:
                 same(connection.ask("HEAD", path).status, 404, "the status afterwards")
 
     def nginx_plain(self):
-        """Without TLS a request is sent to the same place with it, by a status behind which its method stays."""
+        """Without TLS a request is redirected to the same place with TLS, by a status that keeps the method."""
         with self.both() as (_, front), Connection(types.SimpleNamespace(port=front.plain)) as connection:
             reply = connection.ask("POST", "/files", upload_length=3)
         same((reply.status, reply.fields["location"]), (308, "https://a/files"), "the reply")
@@ -170,12 +172,12 @@ class Fronted:
             path = other.make(1_000_000)
             with Secure(front) as connection:
                 connection.send(patch(path, 0, 1_000_000) + bytes(300_000))
-                # nginx drops what it has read and not handed on yet when its client goes.
+                # When its client goes, nginx drops what it has read and not passed on yet.
                 time.sleep(0.5)
             soon(lambda: other.offset(path) == 300_000, "the offset is that of the bytes that came")
 
     def nginx_no_file(self):
-        """Of a large upload that a client fetches and doesn't read, nginx makes no file."""
+        """nginx makes no file for a large upload that a client fetches and doesn't read."""
         with self.both() as (_, front), Secure(front) as connection:
             path = connection.make(LARGE)
             same(connection.append(path, 0, bytes(LARGE)).status, 204, "the status of a PATCH")
@@ -185,7 +187,7 @@ class Fronted:
             same(connection.reply().body == bytes(LARGE), True, "whether the bytes came back")
 
     def nginx_largest(self):
-        """A body of as many bytes as the largest `--max-size` is let through, and one of a byte more is refused."""
+        """A body of the greatest `--max-size` is let through, and one with one more byte is refused."""
         with self.both() as (_, front), Secure(front) as connection, Secure(front) as other:
             path = connection.make(MOST)
             connection.send(patch(path, 0, MOST) + b"abc")
@@ -197,7 +199,7 @@ class Fronted:
                 soon(lambda: third.offset(path) == 3, "the offset is that of the bytes that came of the other")
 
     def nginx_override(self):
-        """A method in X-HTTP-Method-Override, which the server hears, doesn't get through nginx."""
+        """A method in X-HTTP-Method-Override, which the server would accept, doesn't get through nginx."""
         with self.both() as (server, front), Secure(front) as connection, Connection(server) as behind:
             path = connection.make(3)
             override = {"x_http_method_override": "DELETE"}
@@ -206,7 +208,8 @@ class Fronted:
             same(behind.ask("POST", path, **override).status, 204, "the status without nginx")
 
     def nginx_asks(self):
-        """With `auth_request` a program is asked of each request, but for OPTIONS; whom it doesn't know is answered 401."""
+        """With `auth_request` nginx asks a program about each request, except for OPTIONS; unknown clients are answered
+        401."""
         with doorman() as man, self.both(changes=asking(man)) as (_, front), Secure(front) as connection:
             reply = connection.ask("POST", "/files", upload_length=3)
             same([reply.status, *(name for name in CORS if name not in reply.fields)], [401], "the status, and what it hasn't")
@@ -222,14 +225,14 @@ class Fronted:
         same(man.asked, posts + patches, "what was asked")
 
     def nginx_cors(self):
-        """A page of another origin is told by nginx what it needs, in each answer and refusal."""
+        """nginx tells a page of another origin what the page needs, in each answer and refusal."""
         with self.both() as (_, front), Secure(front) as connection:
             preflight = connection.ask("OPTIONS", "/files/", access_control_request_method="PATCH")
             made = connection.ask("POST", "/files/", upload_length=3)
             path = made.fields["location"]
             connection.send(f"DELETE {path} HTTP/1.1\r\nHost: a\r\n\r\n".encode())
             replies = [preflight, made, connection.reply(), connection.append(path, 1, b"a")]
-            replies.append(connection.ask("HEAD", f"/files/{0:032x}"))
+            replies.append(connection.ask("HEAD", NOWHERE))
             connection.send(patch(path, 0, MOST + 1))
             replies.append(connection.reply())
         same([reply.status for reply in replies], [204, 201, 412, 409, 404, 413], "the statuses")
@@ -243,7 +246,7 @@ class Fronted:
         same(set(READ.split()) - exposed, set(), "what a page can't read")
 
     def nginx_most_of_an_address(self):
-        """An address that has as many bodies open as `limit_conn` says is answered 503, until one of them ends."""
+        """An address that has as many bodies open as `limit_conn` allows is answered 503, until one of them ends."""
         most = most_of_an_address()
         with self.both() as (_, front), contextlib.ExitStack() as stack:
             held = [stack.enter_context(Secure(front)) for _ in range(most)]
@@ -259,7 +262,7 @@ class Fronted:
                 same(other.ask("OPTIONS", "/files/").status, 204, "the status afterwards")
 
     def filled_byte_by_byte(self, front):
-        """How many PATCHes a second fill an upload with a byte each."""
+        """Fills an upload by PATCHes of one byte, and returns how many a second were answered."""
         with Secure(front) as connection:
             path = connection.make(MANY)
         start = time.monotonic()
@@ -271,16 +274,17 @@ class Fronted:
 
     def nginx_keeps_connections(self):
         """10,500 PATCHes through nginx arrive over few connections, and none fails."""
-        # The server would let none in behind the last of these. Before 1.19.10 nginx sent 100 requests over each.
+        # The server would let no connection in after the last of these. Before 1.19.10 nginx sent 100 requests over
+        # each.
         with self.both("--connections", "128") as (_, front):
             return self.filled_byte_by_byte(front)
 
     def nginx_longest_conversation(self):
-        """A kept connection that the server ends, behind its 10,000th request, fails no request of nginx's."""
+        """A kept connection that the server ends, after its 10,000th request, fails no request of nginx's."""
         change = ("keepalive 32;", "keepalive 32; keepalive_requests 20000;")
         with self.both("--connections", "2", changes=[change]) as (server, front):
             told = self.filled_byte_by_byte(front)
-            front.process.terminate()  # and with it the second connection, which nginx keeps
+            front.process.terminate()  # This also ends the second connection, which nginx keeps.
             same(server.process.wait(20), 0, "the exit status behind the second connection")
             same(f"accepted {MANY + 1}" in server.output().splitlines(), True, "whether all requests were accepted")
         return told

@@ -1,17 +1,17 @@
 /*
- * Refuses a program memory, as a system does that has none left. tests/memory builds it and has it loaded before the C
- * library (LD_PRELOAD).
+ * Refuses memory to a program, as a system does that has none left. tests/memory.py builds this library and loads it
+ * before the C library (LD_PRELOAD).
  *
  * Every request is counted from 1: malloc, calloc, realloc, aligned_alloc, memalign, posix_memalign, and
  * pthread_create, which asks for the stack of a thread. Requests that the C library makes for itself through these
- * names count too (pthread_create makes one by calloc); what it takes from the system by mmap doesn't. Those whose
- * number is from `first` to `last` are refused: the answer is the one for want of memory, and nothing else is done.
- * `whose` says whose requests are counted: those of all threads (0), of the first one (1), or of all others (2). The
- * requests of the first one alone come in the same order in each run. Those for fewer than `least` bytes aren't counted
- * either; a thread counts as no bytes. What isn't counted isn't refused.
+ * names count too (pthread_create makes one by calloc); memory that it takes from the system by mmap doesn't count.
+ * Requests whose number is from `first` to `last` are refused: they fail as out of memory, and nothing else is done.
+ * `whose` says whose requests are counted: those of all threads (0), of the first one (1), or of all others (2). Only
+ * the requests of the first thread come in the same order in each run. Requests for fewer than `least` bytes aren't
+ * counted; a thread counts as no bytes. Requests that aren't counted aren't refused.
  *
- * The six numbers stand in the file that MEMORY_CONTROL names, in this order. The test reads and writes them while
- * the program runs. Without that name nothing is counted and nothing refused.
+ * The six numbers of `struct control` are in the file that MEMORY_CONTROL names, in this order. The test reads and
+ * writes them while the program runs. Without MEMORY_CONTROL nothing is counted and nothing is refused.
  */
 #define _GNU_SOURCE
 #include <dlfcn.h>
@@ -37,7 +37,7 @@ enum { OF_ALL, OF_FIRST, OF_OTHERS };
 
 typedef int starter(pthread_t *, const pthread_attr_t *, void *(*)(void *), void *);
 
-/* The C library's own names of its functions: found by the linker, so that no memory is asked for to find them. */
+/* The C library's own names of its functions. The linker finds them, so finding them asks for no memory. */
 extern void *__libc_malloc(size_t);
 extern void *__libc_calloc(size_t, size_t);
 extern void *__libc_realloc(void *, size_t);
@@ -46,7 +46,7 @@ extern void *__libc_memalign(size_t, size_t);
 static struct control *control;
 static starter *start_thread;
 
-/* Whether this is the thread that the program began in. Such a variable is there before memory can be asked for. */
+/* Whether this is the first thread of the program. Such a variable exists before memory can be asked for. */
 static __thread int is_first __attribute__((tls_model("initial-exec")));
 
 /* Runs before the program's `main`. */
@@ -67,7 +67,7 @@ __attribute__((constructor)) static void begin(void)
     control = found;
 }
 
-/* Counts a request for so many bytes, and says whether it is refused. */
+/* Counts a request for `size` bytes, and returns whether it is refused. */
 static int is_refused(size_t size)
 {
     if (control == NULL || size < atomic_load(&control->least))

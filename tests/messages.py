@@ -1,5 +1,6 @@
-"""The messages of a conversation as a plain model has them: what their bytes say, what they ask for by the rules of
-docs/PROTOCOL.md, which are checked one after another, and how an answer is written. `model.py` stands on it.
+"""A plain reader of messages: what their bytes say, what they ask for by the rules of docs/PROTOCOL.md, which are
+checked one after another, how an answer is written, and how bytes are escaped. `model.py`, `draw_rows.py` and
+`draw_talks.py` use it, and it knows nothing of the server's code.
 """
 import base64
 import re
@@ -64,7 +65,7 @@ REFUSALS = {
 
 
 class Refused(Exception):
-    """A message is refused, with one of the numbers or with what a closure said."""
+    """A message is refused, with one of the numbers above or with the words of a closure."""
 
     def __init__(self, number, said=None, fields=()):
         super().__init__(number)
@@ -73,17 +74,43 @@ class Refused(Exception):
         self.fields = [*fields, TEXT]
 
 
+class BrokenOff(Refused):
+    """The input ends within a head, and the bytes that came are a prefix of one."""
+
+
 # Bytes of a conversation: messages in, responses out.
+
+TOKEN = rb"[!#-'*+.0-9A-Z^-z|~-]"
+VALUE = rb"[\t -~\x80-\xff]"
+START = re.compile(rb"(%s+) ([!-~\x80-\xff]+) (HTTP/1\.[01])\r?\n" % TOKEN)
+FIELD = re.compile(rb"(%s+):(%s*)\r?\n" % (TOKEN, VALUE))
+EMPTY = re.compile(rb"\r?\n")
+CHUNK = re.compile(rb"([0-9A-Fa-f]{1,16})[ \t]*(;[^\r\n]*)?\r\n")
+
+
+def prefixes_of(*parts):
+    """A pattern for each prefix of a line that has these parts in this order."""
+    text = b""
+    for part in reversed(parts):
+        text = b"(%s%s)?" % (part, text)
+    return re.compile(text)
+
+
+PREFIX_OF_START = prefixes_of(
+    TOKEN + b"+", b" ", rb"[!-~\x80-\xff]+", b" ", b"H", b"T", b"T", b"P", b"/", b"1", rb"\.", b"[01]", b"\r"
+)
+PREFIX_OF_FIELD = prefixes_of(TOKEN + b"+", b":", VALUE + b"*", b"\r")
 
 
 class Message:
-    """A message that was read; `cut` where the input ended inside its body."""
+    """A message that was read. `cut` says that the input ended inside its body, and `continues` that its sender waits
+    for `100 Continue`."""
 
-    def __init__(self, method, target, version, fields):
+    def __init__(self, method, target, version):
         self.method = method
         self.target = target
         self.version = version
-        self.fields = fields
+        self.fields = []
         self.body = b""
         self.cut = False
         self.continues = False
@@ -103,33 +130,52 @@ class Message:
     @property
     def closes(self):
         tokens = b",".join(self.values(b"Connection")).split(b",")
-        return self.version == b"HTTP/1.0" or b"close" in [token.strip().lower() for token in tokens]
+        return self.version == b"HTTP/1.0" or b"close" in [token.strip(b" \t").lower() for token in tokens]
 
 
 def is_digits(text):
     return text is not None and re.fullmatch(rb"[0-9]+", text) is not None
 
 
+def read_fields(data, place, fields, is_judged=True):
+    """Appends the fields of these lines to a list, up to an empty line, and returns the place after that line, or None
+    if the data ends before it. An incomplete last line is refused if `is_judged` is set and it can't become a field."""
+    count = 0
+    while not (empty := EMPTY.match(data, place)):
+        if b"\n" not in data[place:]:
+            if is_judged and not PREFIX_OF_FIELD.fullmatch(data[place:]) and data[place:] != b"\r":
+                raise Refused(1)
+            return None
+        field = FIELD.match(data, place)
+        if field is None:
+            raise Refused(1)
+        count += 1
+        if count > MAX_FIELDS:
+            raise Refused(2)
+        fields.append((field[1], field[2].strip(b" \t")))
+        place = field.end()
+    return empty.end()
+
+
 def read_head(data):
-    """A message without its body, and the bytes behind the head."""
-    while data.startswith(CRLF):
-        data = data[2:]
-    end = data.find(HEAD_END)
-    if not 0 <= end <= MAX_HEAD - len(HEAD_END):
-        raise Refused(1 if len(data) < MAX_HEAD else 2)
-    first, *lines = data[:end].split(CRLF)
-    start = re.fullmatch(rb"([!-~]+) ([!-~]+) (HTTP/1\.[01])", first)
-    fields = [re.fullmatch(rb"([!#-'*+.0-9A-Z^-z|~-]+):(.*)", line) for line in lines]
-    if start is None or None in fields:
+    """A message without its body, and the bytes after its head."""
+    front, place = data[:MAX_HEAD], 0
+    while empty := EMPTY.match(front, place):
+        place = empty.end()
+    start = START.match(front, place)
+    if start is None and not PREFIX_OF_START.fullmatch(front, place) and front[place:] != b"\r":
         raise Refused(1)
-    if len(fields) > MAX_FIELDS:
-        raise Refused(2)
-    fields = [(field[1], field[2].strip(b" \t")) for field in fields]
-    return Message(*start.groups(), fields), data[end + len(HEAD_END) :]
+    end = None
+    if start is not None:
+        message = Message(*start.groups())
+        end = read_fields(front, start.end(), message.fields)
+    if end is None:
+        raise BrokenOff(1 if len(data) < MAX_HEAD else 2)
+    return message, data[end:]
 
 
 def check_framing(message, limit):
-    """How many bytes the body has; None where it comes in chunks."""
+    """The number of bytes in the body, or None if the body comes in chunks."""
     lengths = message.values(b"Content-Length")
     codings = message.values(b"Transfer-Encoding")
     if len(lengths) + len(codings) > 1 or not all(map(is_digits, lengths)):
@@ -147,47 +193,52 @@ def check_framing(message, limit):
 
 
 def expects_more(message, length):
-    """Whether the sender waits to be told to go on."""
+    """Whether the sender waits for `100 Continue`."""
     expects = [value.lower() for value in message.values(b"Expect")]
     return message.version == b"HTTP/1.1" and b"100-continue" in expects and length != 0
 
 
 def read_chunks(message, data, limit):
-    """Reads a body in chunks, and answers the bytes behind it."""
-    while True:
-        line, end, rest = data.partition(CRLF)
-        if not end:
-            message.cut = True
-            return b""
-        size = re.fullmatch(rb"([0-9A-Fa-f]{1,16})(;.*)?", line)
-        if size is None or len(line + end) > MAX_CHUNK_LINE:
+    """Reads a body in chunks, and returns the bytes after it."""
+    while b"\n" in data:
+        line = data[: data.index(b"\n") + 1]
+        size = CHUNK.fullmatch(line)
+        if size is None or len(line) > MAX_CHUNK_LINE:
             raise Refused(3)
-        size = int(size[1], 16)
+        size, data = int(size[1], 16), data[len(line) :]
         if size == 0:
-            return skip_trailers(message, rest)
+            return skip_trailers(message, data)
         if len(message.body) + size > limit:
             raise Refused(5)
-        message.body += rest[:size]
-        if not rest[size : size + 2].startswith(CRLF[: len(rest) - size]) and len(rest) > size:
-            raise Refused(3)
-        if len(rest) < size + 2:
+        message.body += data[:size]
+        data = data[size:]
+        if data in (b"", b"\r"):
             message.cut = True
             return b""
-        data = rest[size + 2 :]
+        if not data.startswith(CRLF):
+            raise Refused(3)
+        data = data[2:]
+    if len(data) >= MAX_CHUNK_LINE:
+        raise Refused(3)
+    message.cut = True
+    return b""
 
 
 def skip_trailers(message, data):
-    """The bytes behind the trailers of a body in chunks."""
-    while True:
-        line, end, data = data.partition(CRLF)
-        if not end:
-            message.cut = True
-        if not line or not end:
-            return data
+    """The bytes after the trailers of a body in chunks. A trailer that breaks off is not checked."""
+    try:
+        end = read_fields(data[:MAX_HEAD], 0, [], is_judged=False)
+    except Refused:
+        raise Refused(3) from None
+    if end is None and len(data) >= MAX_HEAD:
+        raise Refused(3)
+    message.cut = end is None
+    return b"" if end is None else data[end:]
 
 
 def read_message(data, limit):
-    """A message, and the bytes behind it. What is wrong with its body is raised with the message."""
+    """A message with a body of at most `limit` bytes, and the bytes after it. A fault in the body is raised with the
+    message."""
     message, data = read_head(data)
     try:
         length = check_framing(message, limit)
@@ -213,11 +264,34 @@ def write_response(status, fields, body, bare, closes):
     return CRLF.join(lines) + HEAD_END + (b"" if bare else body)
 
 
+# Bytes as texts.
+
+ESCAPES = {b"\t": b"\\t", b"\n": b"\\n", b"\r": b"\\r", b"\\": b"\\\\", b'"': b'\\"', b"'": b"\\'"}
+
+
+def escaped(data, quotes=True):
+    """Bytes as Rust escapes them, in ASCII. Without `quotes`, quotes are not escaped."""
+    odd = rb"""[^ -~]|[\\"']""" if quotes else rb"[^ -~]|\\"
+    return re.sub(odd, lambda found: ESCAPES.get(found[0]) or b"\\x%02x" % ord(found[0]), data).decode("ascii")
+
+
+def escaped_line(data, quotes=True):
+    """Escapes bytes at the end of a line, where a trailing blank is escaped too."""
+    text = escaped(data, quotes)
+    return text[:-1] + "\\x20" if text.endswith(" ") else text
+
+
+def unescaped(text):
+    """The bytes that an escaped text stands for."""
+    return re.sub(rb"\\(x..|.)", lambda found: bytes([int(found[1][1:], 16)]) if found[1][0] == 120 else
+                  {b"r": b"\r", b"n": b"\n", b"t": b"\t"}.get(found[1], found[1]), text.encode())
+
+
 # What a message asks for.
 
 
 class Request:
-    """What a message asks for: its name, and what it has besides."""
+    """What a message asks for: a name, and the parts of this kind of request."""
 
     def __init__(self, name, **parts):
         self.name = name
@@ -251,7 +325,7 @@ def check_repeated(message, names):
 
 
 def check_version(message, method):
-    """Refuses a message of another version, where the version counts."""
+    """Refuses a message of another version, for methods that require one."""
     if method not in (b"POST", b"PATCH", b"DELETE", b"HEAD"):
         return
     check_repeated(message, [b"Tus-Resumable"])
@@ -261,7 +335,7 @@ def check_version(message, method):
 
 
 def check_method(method, place):
-    """Refuses a method that isn't there at this place."""
+    """Refuses a method that doesn't exist at this place."""
     if method in ((b"POST",) if place is None else UPLOAD_METHODS):
         return
     allowed = b"OPTIONS, POST" if place is None else b"OPTIONS, HEAD, GET, PATCH, DELETE"
@@ -269,7 +343,7 @@ def check_method(method, place):
 
 
 def request_of(message, max_size):
-    """What a message asks for; the first check that fails is raised."""
+    """What a message asks for. The first check that fails is raised."""
     check_repeated(message, [b"X-HTTP-Method-Override"])
     method = message.value(b"X-HTTP-Method-Override")
     method = message.method if method is None else method
@@ -299,7 +373,7 @@ def creation_of(message, max_size):
 
 
 def length_of(length, deferred, max_size):
-    """The length of a new upload, None where it comes later."""
+    """The length of a new upload, or None if the length comes later."""
     if deferred is not None:
         if length is not None or deferred != b"1":
             raise Refused(14)
@@ -342,14 +416,14 @@ def pairs_of(metadata):
 
 
 def is_base64(text):
-    """Whether a text is just what its bytes are written as."""
+    """Whether a text is exactly the Base64 of its bytes."""
     if re.fullmatch(rb"([A-Za-z0-9+/]{4})*([A-Za-z0-9+/]{2}==|[A-Za-z0-9+/]{3}=)?", text) is None:
         return False
     return base64.b64encode(base64.b64decode(text)) == text
 
 
 def patch_of(message, place):
-    """The bytes that a PATCH brings, and what it says of them."""
+    """The bytes of a PATCH, and what its fields say about them."""
     check_repeated(message, [b"Content-Type", b"Upload-Offset", b"Upload-Length"])
     media = (message.value(b"Content-Type") or b"").partition(b";")[0].rstrip(b" \t").lower() == MEDIA_TYPE
     offset = message.value(b"Upload-Offset")

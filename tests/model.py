@@ -1,5 +1,5 @@
-"""A plain model of the server, to which `bench/drawn` and `tests/memory` hold it: the uploads stand in a list that is
-scanned, and the events in a list for each lane. It knows nothing of the server's code.
+"""A plain model of the server, with which `tests/draw_talks.py` and `tests/memory.py` compare it. The uploads are in a
+list that is scanned, and the events in a list for each lane. The model knows nothing of the server's code.
 """
 from messages import (
     HEAD_END, UPLOAD_METHODS, VERSION, Refused, id_text, is_digits, read_message, request_of, write_response,
@@ -12,7 +12,7 @@ TOO_LONG_TO_FINISH = (422, "too long to finish")
 
 
 class Upload:
-    """An upload that is there."""
+    """An upload that exists."""
 
     def __init__(self, number, request, body):
         self.number = number
@@ -57,19 +57,19 @@ class Rules:
         return words
 
     def ask_to_create(self, kind, length, pairs):
-        """The closures before a creation."""
+        """The closures that are asked before a creation."""
         if self.require_key is not None and kind != "Partial" and self.require_key not in [key for key, _ in pairs]:
             raise Refused(31, KEY_MISSING)
         if self.max_length is not None and length is not None and length > self.max_length:
             raise Refused(31, TOO_LONG_HERE)
 
     def ask_to_remove(self):
-        """The closures before a removal."""
+        """The closures that are asked before a removal."""
         if self.keep:
             raise Refused(31, KEPT)
 
     def ask_to_finish(self, length):
-        """The closures before an upload is complete."""
+        """The closures that are asked before an upload becomes complete."""
         if self.max_finish is not None and length > self.max_finish:
             raise Refused(31, TOO_LONG_TO_FINISH)
 
@@ -87,8 +87,8 @@ class Server:
         self.closed = False
 
     def take(self, data):
-        """What is written to the next message of these bytes. After a closing answer it is closed, and where the input
-        ended."""
+        """What is written in reply to the next message, which has these bytes. After a closing answer, and if the input
+        ended, the model is closed."""
         written, bare, closes = b"", False, True
         try:
             message, _ = read_message(data, self.rules.max_size)
@@ -120,7 +120,7 @@ class Server:
         self.kinds["Connection: close"] += message.version == b"HTTP/1.1" and message.closes
 
     def take_cut(self, message):
-        """Stores what came of the body of a PATCH; nothing is answered."""
+        """Stores the bytes that came of a PATCH that breaks off. Nothing is answered."""
         self.closed = True
         before = self.accepted
         try:
@@ -143,7 +143,7 @@ class Server:
         return upload
 
     def answer(self, request):
-        """Status, fields and body of the answer to a request, which is carried out."""
+        """Carries out a request, and returns the status, fields and body of the answer."""
         return getattr(self, "answer_" + request.name.lower())(request)
 
     def answer_options(self, _):
@@ -170,7 +170,7 @@ class Server:
         return 201, [(b"Location", b"/files/" + id_text(number))], b""
 
     def parts_of(self, request):
-        """The parts of a final upload; each check looks at all of them before the next."""
+        """The parts of a final upload. Each check looks at all parts before the next check."""
         parts = [self.find(number) for number in request.parts]
         if None in parts:
             raise Refused(27)
@@ -228,7 +228,7 @@ class Server:
         return 204, [(b"Upload-Offset", b"%d" % offset)], b""
 
     def check_patch(self, upload, request):
-        """The length that the upload then has; None where it isn't known."""
+        """The length that the upload has after a PATCH, or None if the length is still unknown."""
         if upload.kind == "Final":
             raise Refused(22)
         if not request.media:
@@ -243,7 +243,7 @@ class Server:
         return length
 
     def declared_length(self, upload, said):
-        """The length that an upload has after this was said of it."""
+        """The length that an upload has after a PATCH with this `Upload-Length`."""
         if said is None:
             return upload.length
         if not is_digits(said):

@@ -1,4 +1,6 @@
-"""What `tests/clients` tries of the table of clients' options in docs/PROTOCOL.md: each answer of the server that it names."""
+"""Cases of `tests/clients.py` for the table of clients' options in docs/PROTOCOL.md: each answer of the server that it
+names.
+"""
 import base64
 import contextlib
 import os
@@ -9,17 +11,15 @@ import urllib.parse
 
 from curled import VERSION, patch_words, reply
 from fronted import Front
-from serving import Connection, Server, free_port, head, patch, same, soon
+from serving import MEDIA_TYPE, Connection, Server, free_port, head, patch, same, soon
 
-MEDIA = "application/offset+octet-stream"
-
-# The largest upload here, and a sum that no bytes here have.
+# The largest upload here, and a checksum that no body here has.
 MOST, WRONG_SUM = 1 << 20, f"sha1 {base64.b64encode(bytes(20)).decode()}"
 
-# With what a client begins that speaks HTTP/2 from its first byte (RFC 9113, section 3.4), behind which it sends its settings.
+# The first bytes of a client that speaks HTTP/2 from the start (RFC 9113, section 3.4), with its settings.
 PREFACE = b"PRI * HTTP/2.0\r\n\r\nSM\r\n\r\n" + bytes([0, 0, 0, 4, 0, 0, 0, 0, 0])
 
-# Where an nginx of these tests may listen besides.
+# Where the nginx of a case gets an additional `listen`.
 BESIDE = "location = /may {"
 
 
@@ -35,13 +35,13 @@ def is_refused(reply, status, text):
 
 
 def holds(connection, path, body):
-    """The upload is complete and has these bytes."""
+    """Checks that the upload is complete and has these bytes."""
     reply = connection.ask("GET", path)
     same((reply.status, reply.body == body), (200, True), "the status of a GET, and whether the bytes came back")
 
 
 class Options:
-    """The cases, each of which has this program serve."""
+    """The cases, in each of which this program serves."""
 
     def __init__(self, program, has_nginx):
         self.program = program
@@ -62,9 +62,9 @@ class Options:
             yield connection
 
     def option_bytes_at_creation(self):
-        """The bytes that come with a creation are dropped: the reply has no offset, and HEAD tells 0."""
+        """Bytes that come with a creation are dropped: the reply has no offset, and HEAD reports 0."""
         with self.open() as connection:
-            reply = sent(connection, "POST", "/files/", b"hello", upload_length=5, content_type=MEDIA)
+            reply = sent(connection, "POST", "/files/", b"hello", upload_length=5, content_type=MEDIA_TYPE)
             same((reply.status, "upload-offset" in reply.fields), (201, False), "the status, and whether it has an offset")
             path = reply.fields["location"]
             same(connection.offset(path), 0, "the offset")
@@ -72,12 +72,12 @@ class Options:
             holds(connection, path, b"hello")
 
     def option_checksum(self):
-        """A checksum isn't looked at, in a field or behind the body: the bytes are stored, though it is wrong."""
+        """A checksum isn't checked, in a field or after the body: the bytes are stored, though it is wrong."""
         with self.open() as connection:
             path = connection.make(10)
-            fields = {"upload_offset": 0, "content_type": MEDIA, "upload_checksum": WRONG_SUM}
+            fields = {"upload_offset": 0, "content_type": MEDIA_TYPE, "upload_checksum": WRONG_SUM}
             same(sent(connection, "PATCH", path, b"hello", **fields).status, 204, "the status with a field")
-            chunked = {"Transfer-Encoding": "chunked", "Trailer": "Upload-Checksum", "Content-Type": MEDIA, "Upload-Offset": 5}
+            chunked = {"Transfer-Encoding": "chunked", "Trailer": "Upload-Checksum", "Content-Type": MEDIA_TYPE, "Upload-Offset": 5}
             body = f"5\r\nworld\r\n0\r\nUpload-Checksum: {WRONG_SUM}\r\n\r\n"
             connection.send(head("PATCH", path, chunked) + body.encode())
             same(connection.reply().status, 204, "the status with a trailer")
@@ -107,7 +107,7 @@ class Options:
             is_refused(reply, 400, b"29 PartUnfinished\n")
 
     def option_deferred(self):
-        """A length may come with the last bytes, or behind them; till then HEAD tells that it is deferred."""
+        """A length may come with the last bytes, or after them; until then HEAD reports that it is deferred."""
         with self.open() as connection:
             reply = connection.ask("POST", "/files/", upload_defer_length=1)
             same(reply.status, 201, "the status of a POST")
@@ -115,7 +115,7 @@ class Options:
             same(connection.append(path, 0, b"hello ").status, 204, "the status of a PATCH")
             fields = connection.ask("HEAD", path).fields
             same((fields["upload-defer-length"], "upload-length" in fields), ("1", False), "what HEAD tells of the length")
-            last = {"upload_offset": 6, "content_type": MEDIA, "upload_length": 11}
+            last = {"upload_offset": 6, "content_type": MEDIA_TYPE, "upload_length": 11}
             same(sent(connection, "PATCH", path, b"world", **last).status, 204, "the status of the last PATCH")
             same(connection.ask("HEAD", path).fields["upload-length"], "11", "the length that HEAD tells")
             holds(connection, path, b"hello world")
@@ -129,13 +129,13 @@ class Options:
         """A POST with X-HTTP-Method-Override: PATCH is a PATCH."""
         with self.open() as connection:
             path = connection.make(5)
-            fields = {"x_http_method_override": "PATCH", "upload_offset": 0, "content_type": MEDIA}
+            fields = {"x_http_method_override": "PATCH", "upload_offset": 0, "content_type": MEDIA_TYPE}
             reply = sent(connection, "POST", path, b"hello", **fields)
             same((reply.status, reply.fields["upload-offset"]), (204, "5"), "the reply")
             holds(connection, path, b"hello")
 
     def option_location(self):
-        """Location is a path alone, which is right behind the URL that a client made the upload at."""
+        """Location is a path alone, which is right relative to the URL at which a client made the upload."""
         with self.open() as connection:
             for target in ("/files", "/files/"):
                 place = connection.ask("POST", target, upload_length=0).fields["location"]
@@ -145,7 +145,7 @@ class Options:
                 holds(connection, place, b"")
 
     def option_http_2(self):
-        """HTTP/2 from the first byte is refused; an offer to change to it isn't taken."""
+        """HTTP/2 from the first byte is refused; an offer to upgrade isn't taken."""
         with Server(self.program) as server:
             with Connection(server) as connection:
                 connection.send(PREFACE)
@@ -157,9 +157,9 @@ class Options:
                 same(connection.reply().whole.startswith(b"HTTP/1.1 201 "), True, "whether it is answered by HTTP/1.1")
 
     def option_http_2_by_nginx(self):
-        """Behind an nginx that speaks HTTP/2 a client that does too uploads, is told of a refusal, and fetches."""
+        """Behind an nginx that speaks HTTP/2, a client that does so too uploads, is told of a refusal, and fetches."""
         port, body = free_port(), os.urandom(3_000_001)
-        # Since 1.25.1 nginx has a line for it, `http2 on;`, and still takes this one, with a warning.
+        # Since 1.25.1 nginx has a separate line for it, `http2 on;`, and still accepts this one, with a warning.
         change = (BESIDE, f"listen 127.0.0.1:{port} ssl http2; {BESIDE}")
         with Server(self.program) as server, Front(server, change) as front:
             words = ["--http2", "--cacert", os.path.join(front.folder, "certificate.pem")]
@@ -177,7 +177,8 @@ class Options:
                 same(file.read() == body, True, "whether the bytes came back")
 
     def option_expect(self):
-        """`100 Continue` comes before the body, also where the offset is wrong; a body that is too large is refused instead."""
+        """`100 Continue` comes before the body, also if the offset is wrong; a body that is too large is refused
+        instead."""
         with self.open() as connection:
             path, wait = connection.make(5), b"\r\nExpect: 100-continue\r\n\r\n"
             for offset, status in ((1, 409), (0, 204)):
@@ -189,7 +190,7 @@ class Options:
             is_refused(connection.reply(), 413, b"5 BodyTooLarge\n")
 
     def option_expiration(self):
-        """No reply tells of an expiration; a server that was started anew knows no upload."""
+        """No reply has an expiration; a server that was restarted knows no upload."""
         with self.open() as connection:
             made = connection.ask("POST", "/files/", upload_length=3)
             path = made.fields["location"]
@@ -201,7 +202,7 @@ class Options:
             same(connection.ask("HEAD", path).status, 404, "the status at a server that was started anew")
 
     def option_resume(self):
-        """Of a PATCH that breaks off the bytes stay; HEAD tells how many, and a PATCH there goes on."""
+        """The bytes of a PATCH that breaks off stay; HEAD reports how many, and a PATCH there continues."""
         with Server(self.program) as server, Connection(server) as other:
             path = other.make(10)
             with Connection(server) as connection:
@@ -218,7 +219,7 @@ class Options:
             same(connection.offset(path), 0, "the offset")
 
     def option_size_of_chunks(self):
-        """Bodies of any size are taken, up to the largest."""
+        """Bodies of any size are accepted, up to the largest."""
         with self.open() as connection:
             path = connection.make(MOST)
             for offset, size in ((0, 1), (1, 2), (3, MOST - 3)):
@@ -231,7 +232,7 @@ class Options:
             is_refused(connection.reply(), 413, b"5 BodyTooLarge\n")
 
     def option_other_protocol(self):
-        """The drafts of another protocol say no version of tus, and are refused."""
+        """The drafts of another protocol give no version of tus, and are refused."""
         with self.open() as connection:
             draft = {"Upload-Draft-Interop-Version": "5", "Upload-Complete": "?0", "Upload-Length": 5}
             connection.send(head("POST", "/files/", draft).replace(f"{VERSION}\r\n".encode(), b""))
@@ -240,7 +241,7 @@ class Options:
             same(reply.fields["tus-version"], "1.0.0", "the versions that it tells")
 
     def option_request_id(self):
-        """A field that the server doesn't know is not looked at, nor sent back."""
+        """A field that the server doesn't know is ignored, and not sent back."""
         with self.open() as connection:
             reply = connection.ask("POST", "/files/", upload_length=0, x_request_id="a")
             same((reply.status, "x-request-id" in reply.fields), (201, False), "the status, and whether the field comes back")
@@ -256,7 +257,7 @@ class Options:
             is_refused(connection.ask("DELETE", connection.make(3)), 403, b"uploads are kept\n")
 
     def option_metadata(self):
-        """Metadata comes back as it was sent, and may be empty; with a key that stands twice it is refused."""
+        """Metadata comes back as it was sent, and may be empty; if it repeats a key, it is refused."""
         with self.open() as connection:
             for told in ("filename YQ==,relativePath bnVsbA==,empty", ""):
                 made = connection.ask("POST", "/files/", upload_length=3, upload_metadata=told)

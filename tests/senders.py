@@ -1,5 +1,6 @@
-"""What `tests/clients` tries of other clients, each of which also meets a refusal, and must tell of it: tuspy with many uploads
-at once and curl with 1 GiB, Go's net/http (tests/sender.go) and Node's fetch (tests/sender.mjs) with streams.
+"""Cases of `tests/clients.py` with other clients, each of which also meets a refusal, and must report it: tuspy with
+many uploads at once, curl with 1 GiB, and Go's net/http (tests/sender.go) and Node's fetch (tests/sender.mjs) with
+streams.
 """
 import contextlib
 import filecmp
@@ -20,24 +21,25 @@ try:
 except ImportError:
     TusClient = None
 
-# Into how many parts tuspy cuts a file, and how many files it uploads at once; nginx lets 16 in.
+# The number of parts into which tuspy cuts a file, and of files that it uploads at once; nginx lets 16 in.
 PARTS, FILES = 4, 12
 
-# The bytes of a stream, and the largest upload of a server that refuses it in its middle.
+# The bytes of a stream, and the largest upload of a server that refuses it in the middle.
 STREAM, FEW = (32 << 20) + 1, 1 << 20
 
-# How fast curl sends what is to be stopped, and after how many seconds it is; the most seconds that a client may take.
+# The rate at which curl sends an upload that will be stopped, the seconds until then, and the most seconds that a
+# client may take.
 RATE, STOPPED, MOST_SECONDS = "200M", 1, 120
 
-# The programs that send a stream, but for the ends of their names.
+# The programs that send a stream, without the endings of their names.
 SENDER = os.path.join(ROOT, "tests", "sender")
 
-# What the server says to a body above its largest size, and to an upload that its operator finds too long.
+# The server's words for a body above its largest size, and for an upload that is longer than its operator allows.
 TOO_LARGE, TOO_LONG = "413: 5 BodyTooLarge", "422: too long to finish"
 
 
 def written(path, size):
-    """The path, at which so many bytes are written in which no piece is like another."""
+    """Writes this many bytes, no part of which is like another, to the path, and returns it."""
     with open(path, "wb") as file:
         for start in range(0, size, 1 << 24):
             file.write(os.urandom(min(1 << 24, size - start)))
@@ -45,7 +47,7 @@ def written(path, size):
 
 
 def trusting(place):
-    """The environment of a client that believes in the certificate of this place, if that has one."""
+    """The environment of a client that trusts the certificate of this place, if the place has one."""
     if not isinstance(place, Front):
         return dict(os.environ)
     names = ("SSL_CERT_FILE", "NODE_EXTRA_CA_CERTS", "REQUESTS_CA_BUNDLE", "CURL_CA_BUNDLE")
@@ -58,7 +60,7 @@ def url_of(place):
 
 
 class Senders:
-    """Where the uploads go: a server, and an nginx in front of it, if that is there."""
+    """Where the uploads go: to a server, and to an nginx in front of it, if nginx is installed."""
 
     def __init__(self, program, has_nginx):
         self.program, self.has_nginx = program, has_nginx
@@ -104,7 +106,7 @@ class Tuspy(Senders):
             same(connection.ask("GET", made.fields["location"]).body == body, True, "whether the bytes came back")
 
     def tuspy_many(self):
-        """Twelve files at once through nginx: every third is refused at its last byte, which tuspy tells; the others arrive."""
+        """Twelve files at once through nginx: every third is refused at its last byte, as tuspy reports; others arrive."""
         sizes = [400_000 + (number % 3 == 0) for number in range(FILES)]
         bodies, told = [os.urandom(size) for size in sizes], [None] * FILES
         with self.fronted("--max-finish", "400000") as (front, files), Secure(front) as connection:
@@ -152,7 +154,7 @@ class Large(Senders):
         return int(self.curl(place, "-I", url)[1]["upload-offset"])
 
     def stopped(self, place, url, path):
-        """The offset of an upload of which curl sends this file until a signal ends it."""
+        """The offset of an upload to which curl sends this file until a signal ends curl."""
         words = ["curl", "-sS", *patch_words(0, "-T", path, "--limit-rate", RATE), url]
         with subprocess.Popen(words, env=trusting(place), stdout=subprocess.DEVNULL, stderr=subprocess.DEVNULL) as sending:
             time.sleep(STOPPED)
@@ -161,7 +163,8 @@ class Large(Senders):
         return self.offset(place, url)
 
     def curl_gib(self):
-        """1 GiB by curl, alone and through nginx: a signal stops it, -C resumes it where HEAD tells, and it comes back."""
+        """1 GiB by curl, alone and through nginx: a signal stops it, -C resumes it where HEAD says, and it comes
+        back."""
         told = []
         with tempfile.TemporaryDirectory() as folder, self.places() as (_, places):
             given, fetched = written(os.path.join(folder, "given"), MAX_SIZE), os.path.join(folder, "fetched")
@@ -178,7 +181,8 @@ class Large(Senders):
         return f"stopped at {' and '.join(told)}"
 
     def curl_gib_refused(self):
-        """curl tells that 1 GiB is refused behind its last byte, and a byte more before it: alone, and through nginx."""
+        """curl reports that 1 GiB is refused after its last byte, and one byte more before it: alone, and through
+        nginx."""
         with tempfile.TemporaryDirectory() as folder, self.places("--max-finish", "1000") as (_, places):
             path = written(os.path.join(folder, "given"), MAX_SIZE)
             for place in places:
@@ -188,11 +192,11 @@ class Large(Senders):
                 file.write(b"a")
             for place in places:
                 url = self.made(place, MAX_SIZE)
-                # nginx has words of its own, and refuses before the server hears of it.
+                # nginx has its own words, and refuses before the server receives anything.
                 self.refused(place, url, path, 413, b"5 BodyTooLarge\n" if isinstance(place, Server) else None)
 
     def refused(self, place, url, path, status, text):
-        """A PATCH of this file is refused so, which curl tells, and changes nothing."""
+        """Checks that a PATCH with this file is refused like this, that curl reports it, and that nothing changes."""
         words = ["curl", "-sS", "-i", "--fail-with-body", "-H", "Expect:", *patch_words(0, "-T", path), url]
         ran = subprocess.run(words, env=trusting(place), capture_output=True, timeout=MOST_SECONDS)
         told, _, body = ran.stdout.partition(b"\r\n\r\n")
@@ -202,8 +206,8 @@ class Large(Senders):
 
 
 class Streamed(Senders):
-    """A program that sends its standard input as one stream in chunks, and writes what it fetches back. `words` answers the
-    words that run it, but for the URL; they need this tool of this package."""
+    """A program that sends its standard input as one stream in chunks, and writes what it fetches back. `words` returns
+    the words that run it, without the URL. The program needs this tool of this package."""
 
     tool, package = None, None
 
@@ -221,7 +225,7 @@ class Streamed(Senders):
         return one
 
     def sent(self, folder, place):
-        """How the program ends that sends the file `given` of this folder, what it writes, and what it says."""
+        """The result of the program that sends the file `given` of this folder: its status and its outputs."""
         words = [*self.words(folder), f"{url_of(place)}/files"]
         with open(os.path.join(folder, "given"), "rb") as given:
             return subprocess.run(words, stdin=given, capture_output=True, env=trusting(place), timeout=MOST_SECONDS)
@@ -238,7 +242,8 @@ class Streamed(Senders):
                 same(ran.stdout == body, True, "whether the bytes came back")
 
     def is_told(self, words, size, why, events):
-        """A stream that is refused for this is said to be, alone and through nginx, and has these events and no others."""
+        """Checks that a stream is refused for this reason, alone and through nginx, that the program says so, and that
+        the upload has exactly these events."""
         with tempfile.TemporaryDirectory() as folder, self.places(*words, size=size) as (server, places):
             written(os.path.join(folder, "given"), STREAM)
             for number, place in enumerate(places, 1):
@@ -249,11 +254,13 @@ class Streamed(Senders):
             same(list(events_of(server.output()).values()), [events] * len(places), "the events")
 
     def refused(self):
-        """A stream above the largest size is refused in its middle, which the client tells: alone, and through nginx."""
+        """A stream above the largest size is refused in the middle, which the client reports: alone, and through
+        nginx."""
         self.is_told([], FEW, TOO_LARGE, ["1 post-create 0/- done"])
 
     def refused_late(self):
-        """A stream that a rule refuses once its length is declared, which the client tells: alone, and through nginx."""
+        """A stream that a rule refuses once its length is declared, which the client reports: alone, and through
+        nginx."""
         events = ["1 post-create 0/- done", f"2 post-receive {STREAM}/- done"]
         self.is_told(["--max-finish", str(STREAM - 1)], MAX_SIZE, TOO_LONG, events)
 

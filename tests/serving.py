@@ -1,8 +1,9 @@
-"""What the scripts of `tests/`, `bench/memory`, `bench/serve`, `bench/lock` and `bench/soak` share: the program `up`, a
-server of it and an nginx for the time of a `with`, connections that speak HTTP/1.1 byte for byte, work in many threads at
-once, and the count of cases. It needs nothing but Python 3, and nginx where that is used, and prints nothing by itself.
+"""Shared by the scripts of `tests/` and by most of `bench/`: building a program, running `up` and nginx for the time of
+a `with`, connections that speak HTTP/1.1 byte for byte, work in many threads, and counting cases. The module needs only
+Python 3, and nginx if that is used. It prints nothing when it is imported.
 """
 import argparse
+import contextlib
 import os
 import re
 import resource
@@ -17,39 +18,53 @@ import time
 
 ROOT = os.path.dirname(os.path.dirname(os.path.abspath(__file__)))
 
-# The most seconds that a server may take to listen, and that a reply is waited for.
+# The most seconds to wait until a server listens, and until a reply comes.
 MOST_WAIT = 20
 
-# What `rt run` has a program run with, where it doesn't run without words.
+# The words with which `rt run` runs a program that needs some.
 FIRST_WORDS = {"up": ["--", "replay"]}
 
 # No client here goes through a proxy.
 os.environ["no_proxy"] = "127.0.0.1"
 
-# The largest upload that a server takes here, in bytes, unless it is told another size.
+# The largest upload of a server here, in bytes, unless another size is given.
 MAX_SIZE = 1 << 30
+
+# The media type of the body of a PATCH.
+MEDIA_TYPE = "application/offset+octet-stream"
+
+# What a server reports if it can't start a thread for a connection, and once it lets connections in again.
+NO_THREAD = "up_server: no connection can be let in: no thread can be started\n"
+AGAIN = "up_server: connections are let in again\n"
+
+# What a server reports once the reader of its events has gone.
+UNHEARD = b"up_server: events can't be written: whoever reads them is gone\n"
 
 
 def build(name="up", root=ROOT):
-    """The path of a program of the crates, which is built anew where they changed; that takes some minutes."""
+    """Builds a program of the crates, which takes minutes, and returns its path. The old program is removed first, so
+    that it is never tried by mistake if the build fails."""
     folder = os.path.join(root, "crates", name)
+    program = os.path.join(folder, "out", name)
+    with contextlib.suppress(FileNotFoundError):
+        os.remove(program)
     words = ["rt", "run", *FIRST_WORDS.get(name, [])]
     with open(os.path.join(folder, "stdin"), "rb") as given:
         ran = subprocess.run(words, cwd=folder, stdin=given, stdout=subprocess.DEVNULL, stderr=subprocess.DEVNULL)
-    if ran.returncode != 0:
+    if ran.returncode != 0 or not os.path.exists(program):
         sys.exit(f"{name} was not built, or failed: `{' '.join(words)} < stdin` in {folder} says why")
-    return os.path.join(folder, "out", name)
+    return program
 
 
 def status_of(process, name):
-    """A number of a process: its `Threads`, or its bytes in memory now, `VmRSS`, and at most, `VmHWM`."""
+    """A number from a process's status: its `Threads`, or its bytes in memory, now (`VmRSS`) or at most (`VmHWM`)."""
     with open(f"/proc/{process}/status", encoding="ascii") as file:
         found = re.search(rf"^{name}:\s+(\d+)( kB)?$", file.read(), re.MULTILINE)
     return int(found[1]) * (1024 if found[2] else 1)
 
 
 def seconds_of(process):
-    """The processor time that a process took so far."""
+    """The processor time that a process has taken so far, in seconds."""
     with open(f"/proc/{process}/stat", encoding="ascii") as file:
         fields = file.read().rpartition(")")[2].split()
     return (int(fields[11]) + int(fields[12])) / os.sysconf("SC_CLK_TCK")
@@ -63,9 +78,10 @@ def free_port():
 
 
 class Server:
-    """`up serve` with these words, on a free port of the loopback. It is killed at the end of the `with`. With `unheard` its
-    standard output is a pipe whose reader has gone, and with a `sink` it is that file. It has this environment and standard
-    input, and so many files and KiB of addresses, where these are given. One that may fail, and doesn't listen, has no port."""
+    """`up serve` with these words, on a free port of the loopback. The server is killed at the end of the `with`. With
+    `unheard` its standard output is a pipe whose reader has gone; with a `sink` it is that file. `files` and
+    `addresses` limit the number of open files and the KiB of address space. A server that may fail, and doesn't listen,
+    has no port."""
 
     def __init__(
         self, program, *words, size=MAX_SIZE, files=None, addresses=None, unheard=False, sink=None, environment=None,
@@ -107,8 +123,8 @@ class Server:
         self.told.close()
 
     def listening(self):
-        """The port in the first line on standard error, which the server says once it listens. Over a store it says a
-        second one, once that was read."""
+        """The port, from the first line on standard error, which the server writes once it listens. With a store, also
+        waits for the second line, which the server writes once it has read the store."""
         self.first_line = self.line()
         found = re.fullmatch(r"up_server: listening on 127\.0\.0\.1:(\d+)\n", self.first_line)
         if found and "--store" in self.words:
@@ -122,7 +138,8 @@ class Server:
         sys.exit(f"the server does not listen: {self.first_line!r}")
 
     def line(self):
-        """The next line on standard error; empty if none comes. The pipe has no buffer, so no line hides from the wait."""
+        """The next line on standard error, or an empty text if none comes in time. The pipe has no buffer, so a line
+        that has come is never missed."""
         ready, _, _ = select.select([self.process.stderr], [], [], MOST_WAIT)
         return self.process.stderr.readline().decode() if ready else ""
 
@@ -140,7 +157,7 @@ class Server:
         return seconds_of(self.process.pid)
 
     def descriptors(self):
-        """How many files and sockets the server holds."""
+        """The number of files and sockets that the server has open."""
         return len(os.listdir(f"/proc/{self.process.pid}/fd"))
 
 
@@ -156,8 +173,9 @@ http {{
 
 
 class NginxServer:
-    """nginx on a free port of the loopback, with so many workers, and connections of each. `lines_of` answers the lines of its
-    `http` block, from the port and a folder for its files, which stands in `place`. Both end with the `with`."""
+    """nginx on a free port of the loopback, with this number of workers, and of connections per worker. `lines_of`
+    returns the lines of the `http` block, from the port and a folder for nginx's files, which is made in `place`. nginx
+    ends with the `with`, and the folder is removed."""
 
     def __init__(self, lines_of, workers, place=None, connections=4096):
         self.lines_of, self.workers, self.place, self.connections = lines_of, workers, place, connections
@@ -192,21 +210,30 @@ class NginxServer:
             return [self.process.pid, *map(int, file.read().split())]
 
     def open_files(self, place):
-        """The files at a place in its folder that its processes have open, also those that have no name any more."""
+        """The files below a place in nginx's folder that its processes have open, also deleted ones."""
         files = [entry.path for process in self.processes() for entry in os.scandir(f"/proc/{process}/fd")]
         paths = [os.readlink(file) for file in files]
         return [path for path in paths if path.startswith(os.path.join(self.folder, place, ""))]
 
 
 class Reply:
-    """A status, the fields with their names in lower case, the body, and the bytes of the whole."""
+    """A status, the fields with their names in lower case, the body, and all bytes of the reply."""
 
     def __init__(self, status, fields, body, whole):
         self.status, self.fields, self.body, self.whole = status, fields, body, whole
 
 
+def path_of(number):
+    """The path of the upload whose id is this number."""
+    return f"/files/{number:032x}"
+
+
+# The path of an upload that never exists.
+NOWHERE = path_of(0)
+
+
 def head(method, target, fields):
-    """The bytes of a head. A POST, PATCH or DELETE says the version."""
+    """The bytes of a head. A POST, PATCH or DELETE has `Tus-Resumable`."""
     lines = [f"{method} {target} HTTP/1.1", "Host: a"]
     if method in ("POST", "PATCH", "DELETE"):
         lines.append("Tus-Resumable: 1.0.0")
@@ -214,14 +241,21 @@ def head(method, target, fields):
     return "".join(line + "\r\n" for line in lines + [""]).encode()
 
 
-def patch(path, offset, length):
-    """The head of a PATCH that brings so many bytes."""
-    media = "application/offset+octet-stream"
-    return head("PATCH", path, {"Content-Type": media, "Upload-Offset": offset, "Content-Length": length})
+def patch(path, offset, length, declared=None):
+    """The head of a PATCH with a body of `length` bytes, which may declare the length of the upload."""
+    fields = {"Content-Type": MEDIA_TYPE, "Upload-Offset": offset}
+    if declared is not None:
+        fields["Upload-Length"] = declared
+    return head("PATCH", path, {**fields, "Content-Length": length})
+
+
+def patch_in_chunks(path):
+    """The head of a PATCH at offset 0 whose body comes in chunks."""
+    return head("PATCH", path, {"Content-Type": MEDIA_TYPE, "Upload-Offset": 0, "Transfer-Encoding": "chunked"})
 
 
 class Connection:
-    """A connection to a server, from an address of the loopback. What is read waits `MOST_WAIT` seconds at most."""
+    """A connection to a server, from an address of the loopback. A read waits at most `MOST_WAIT` seconds."""
 
     def __init__(self, server, address=None):
         self.socket = socket.create_connection(("127.0.0.1", server.port), MOST_WAIT, address and (address, 0))
@@ -238,13 +272,13 @@ class Connection:
         self.socket.sendall(message)
 
     def more(self):
-        """Reads on; nothing where the server has closed."""
+        """Reads more bytes; returns nothing if the server has closed."""
         came = self.socket.recv(1 << 20)
         self.read += came
         return came
 
     def take(self, size):
-        """The next bytes, fewer where the server closes before."""
+        """The next bytes; fewer if the server closes before."""
         pieces, left = [self.read], size - len(self.read)
         while left > 0 and (came := self.socket.recv(1 << 20)):
             pieces.append(came)
@@ -254,15 +288,22 @@ class Connection:
         return taken
 
     def reply(self, bare=False):
-        """The next reply; a bare one has no body, whatever its fields say."""
+        """The next reply. A bare reply has no body, whatever its fields say."""
+        reply = self.reply_head()
+        if not bare:
+            reply.body = self.take(int(reply.fields.get("content-length", 0)))
+            reply.whole += reply.body
+        return reply
+
+    def reply_head(self):
+        """The next reply without its body, which is left to be read."""
         while b"\r\n\r\n" not in self.read:
             if not self.more():
                 raise AssertionError(f"no reply but {self.read!r}")
         lines, end, self.read = self.read.partition(b"\r\n\r\n")
         first, *rest = lines.decode().split("\r\n")
         fields = {name.lower(): value.strip() for name, _, value in (line.partition(":") for line in rest)}
-        body = b"" if bare else self.take(int(fields.get("content-length", 0)))
-        return Reply(int(first.split()[1]), fields, body, lines + end + body)
+        return Reply(int(first.split()[1]), fields, b"", lines + end)
 
     def ask(self, method, target, **fields):
         """The reply to a message without a body; `upload_length=3` is the field `Upload-Length: 3`."""
@@ -282,18 +323,18 @@ class Connection:
         return self.reply()
 
     def offset(self, path):
-        """How far an upload has come."""
+        """The offset of an upload, by a HEAD."""
         reply = self.ask("HEAD", path)
         same(reply.status, 200, "the status of a HEAD")
         return int(reply.fields["upload-offset"])
 
     def is_closed(self):
-        """Whether the server has closed, with nothing behind what was read."""
+        """Whether the server closes without sending anything more."""
         return not self.read and not self.more()
 
 
 class Maker:
-    """A connection that is made anew before its 10,000 messages are used up."""
+    """A connection that is replaced before its 10,000 messages are used up."""
 
     def __init__(self, server):
         self.server, self.left = server, 0
@@ -313,8 +354,8 @@ class Maker:
 
 
 def at_once(work, count, meeting=None):
-    """Does this work in so many threads, each with its number; the first fault of a thread fails the case. Those that
-    wait at a meeting, a barrier, are let go then."""
+    """Runs `work` in `count` threads, each with its number. The first fault of a thread fails the case, and releases
+    the threads that wait at `meeting`, a barrier."""
     faults = []
 
     def one(number):
@@ -334,8 +375,13 @@ def at_once(work, count, meeting=None):
         raise faults[0]
 
 
+def numbered(events):
+    """The events of an upload, as the lines of events report them."""
+    return [f"{number} {event} done" for number, event in enumerate(events, 1)]
+
+
 def events_of(text):
-    """The events of each upload that the lines of a text tell of, in order."""
+    """The events of each upload, in order, as the lines of a text report them."""
     events = {}
     for line in text.splitlines():
         found = re.fullmatch(r"([0-9a-f]{32}) (.*)", line)
@@ -345,19 +391,19 @@ def events_of(text):
 
 
 def same(got, wanted, what):
-    """Fails the case where what came isn't what was wanted."""
+    """Fails the case if a result differs from the expected one."""
     if got != wanted:
         raise AssertionError(f"{what}: {str(got)[:200]!r}, not {str(wanted)[:200]!r}")
 
 
 def below(got, limit, what):
-    """Fails the case where a figure isn't below its limit."""
+    """Fails the case if a number isn't below its limit."""
     if not got < limit:
         raise AssertionError(f"{what}: {got:.3f}, not below {limit:.3f}")
 
 
 def settled(server):
-    """The memory of the server once it has done what it was asked, and has slept for a while."""
+    """The server's memory once it has finished its work and has been idle for a moment."""
     before = -1.0
     while server.seconds() != before:
         before = server.seconds()
@@ -366,7 +412,7 @@ def settled(server):
 
 
 def soon(holds, what):
-    """Waits until this holds; fails the case where it doesn't in time."""
+    """Waits until `holds()` is true; fails the case if that takes too long."""
     end = time.monotonic() + MOST_WAIT
     while not holds():
         if time.monotonic() > end:
@@ -375,8 +421,8 @@ def soon(holds, what):
 
 
 def words_of(about, **others):
-    """The program to be tried, the others, each with its own word of the command line, and the names of the cases that
-    were asked for."""
+    """The programs to try, each from its own option of the command line, `--program` first, and the names of the
+    requested cases."""
     words = argparse.ArgumentParser(description=about)
     programs = {"program": "up", **others}
     for word, name in programs.items():
@@ -387,21 +433,22 @@ def words_of(about, **others):
 
 
 def try_all(cases, names, passed_over=()):
-    """Tries the cases, each a function with a sentence on it, and prints what came of them; the exit status. What a case
-    answers is printed with its seconds."""
+    """Runs the cases, each a function with a sentence as its docstring, prints the results, and returns the exit
+    status. What a case returns is printed with its seconds."""
     passed, failed = 0, 0
     for case in cases:
         if names and case.__name__ not in names:
             continue
+        title = f"{case.__name__}: {' '.join(case.__doc__.split())}"
         start = time.monotonic()
         try:
             told = case()
             passed += 1
             front = f"{told}, " if told else ""
-            print(f"passed: {case.__name__}: {case.__doc__} ({front}{time.monotonic() - start:.1f} s)", flush=True)
+            print(f"passed: {title} ({front}{time.monotonic() - start:.1f} s)", flush=True)
         except Exception as fault:
             failed += 1
-            print(f"failed: {case.__name__}: {case.__doc__} {type(fault).__name__}: {fault}", flush=True)
+            print(f"failed: {title} {type(fault).__name__}: {fault}", flush=True)
     for what in passed_over:
         print(f"passed over: {what}")
     print(f"{passed} passed, {failed} failed")

@@ -1,6 +1,6 @@
-"""What `tests/shards` and `bench/shards` share: servers that are shards, and the proxies of examples/shards in front of them.
-The proxies have the lines that stand there, with other ports, so what people copy is what is tried. And the clients of
-`tests/shards`, which keep a count.
+"""Shared by `tests/shards.py` and `bench/shards.py`: servers that are shards, and the proxies of examples/shards in
+front of them. The proxies have the lines of the examples, with other ports, so what people copy is what is tried. Also
+the clients of `tests/shards.py`, which keep a count.
 """
 import contextlib
 import os
@@ -11,22 +11,23 @@ import subprocess
 import tempfile
 
 from fronted import replaced
-from serving import ROOT, Connection, NginxServer, Server, events_of, free_port, head, patch, same, soon
+from serving import ROOT, Connection, NginxServer, Server, events_of, free_port, head, numbered, patch, same, soon
 
 EXAMPLE = os.path.join(ROOT, "examples", "shards")
 
-# How many shards the examples have, and the port of the first.
+# The number of shards in the examples, and the port of the first one.
 SHARDS, FIRST_PORT = 4, 1080
 
-# The most seconds that an end in order may take.
+# The most seconds that a graceful end may take.
 MOST_END = 40
 
-# What a shard answers that is ending, and what a proxy does for one that is gone.
+# The reply of a shard that is ending, and the status from a proxy for a shard that is gone.
 CLOSED, GONE = (503, b"20 Closed\n"), 502
 
 
 def quiet_ports(count):
-    """So many free ports, of those that the system gives to no client: nobody else takes them while a shard is away."""
+    """This many free ports, from those that the system gives to no client: nobody else takes them while a shard is
+    away."""
     ports = []
     with contextlib.ExitStack() as stack:
         while len(ports) < count:
@@ -43,7 +44,7 @@ def shard_of(path):
 
 
 class Shard(Server):
-    """A server whose ids begin with this byte, at this port, and that ends in order when its input does."""
+    """A server whose ids begin with this byte, at this port, which ends in order when its input ends."""
 
     def __init__(self, program, number, port, *words, **how):
         self.reader, self.writer = os.pipe()
@@ -71,8 +72,8 @@ class Shard(Server):
 
 
 class Shards:
-    """So many shards for the time of a `with`, each at a port of its own, also where it ends and is started anew. `told` has
-    what those have written that have ended, each with its number."""
+    """This many shards for the time of a `with`, each at a port of its own, also if it ends and is restarted. `told`
+    has the outputs of the shards that have ended, each with the shard's number."""
 
     def __init__(self, program, *words, count=SHARDS, **how):
         self.program, self.words, self.how = program, words, how
@@ -94,12 +95,12 @@ class Shards:
         return Shard(self.program, number, self.ports[number], *self.words, **{**self.how, **how})
 
     def start(self, number, **how):
-        """Starts one that has ended."""
+        """Starts a shard that has ended."""
         self.running[number] = self.started(number, **how).__enter__()
         return self.running[number]
 
     def take(self, number):
-        """Takes what one has written that has ended."""
+        """Takes the output of a shard that has ended."""
         server, self.running[number] = self.running[number], None
         output = server.output()
         self.told.append((number, output))
@@ -112,7 +113,7 @@ class Shards:
         return self.take(number)
 
     def end(self, number):
-        """Ends one in order, and takes what it has written."""
+        """Ends a shard in order, and takes its output."""
         server = self.running[number]
         server.end()
         same(server.process.wait(MOST_END), 0, f"the status of shard {number}")
@@ -120,7 +121,8 @@ class Shards:
         return self.take(number)
 
     def end_all(self):
-        """Ends all that run; the events of all uploads, each of which one process alone must have told of, its own shard."""
+        """Ends all shards that run, and returns the events of all uploads. Exactly one process must have reported each
+        upload: its own shard."""
         for number, server in enumerate(self.running):
             if server:
                 self.end(number)
@@ -134,7 +136,7 @@ class Shards:
 
 
 def example(name, ports, *changes):
-    """The lines of an example with these ports and changes. Where there are fewer shards the lines of the others are left
+    """The lines of an example with these ports and changes. If there are fewer shards, the lines of the others are left
     out."""
     with open(os.path.join(EXAMPLE, name), encoding="ascii") as file:
         text = re.sub(r"(?m)^#.*\n", "", file.read())
@@ -161,7 +163,7 @@ class NginxOfShards(NginxServer):
 
 
 class HaproxyOfShards:
-    """haproxy in front of these shards, with these changes. It is ended at the end of the `with`."""
+    """haproxy in front of these shards, with these changes. It ends with the `with`."""
 
     name = "haproxy"
 
@@ -198,8 +200,8 @@ class HaproxyOfShards:
 
 
 class Client:
-    """A client of a proxy, from an address of its own and with these fields in each of its requests. It notes the events that
-    it was acknowledged of, and those of changes that had no answer."""
+    """A client of a proxy, with an address of its own and with these fields in each of its requests. It notes the
+    events of its acknowledged changes, and those of changes without an answer."""
 
     def __init__(self, front, number, **fields):
         self.front, self.address, self.fields = front, f"127.0.1.{1 + number}", fields
@@ -207,7 +209,8 @@ class Client:
         self.told, self.unanswered = {}, []
 
     def hear(self, method, target, body=b"", **fields):
-        """The reply to a message, over the connection that there is, or a new one; None where it ends without one."""
+        """The reply to a message, over the existing connection or a new one; None if the connection ends without a
+        reply."""
         if self.connection is None:
             self.connection = Connection(self.front, self.address)
         named = {name.replace("_", "-"): value for name, value in {**self.fields, **fields}.items()}
@@ -229,7 +232,8 @@ class Client:
         self.connection = None
 
     def change(self, method, path, *events, **more):
-        """The status of a change of this upload, or of one that is made; it is noted what was told of it."""
+        """The status of a change of this upload, or of a creation if the path is None. Notes the events of the
+        change."""
         reply = self.hear(method, path or "/files/", **more)
         if reply is None or reply.status == GONE:
             self.unanswered.append((path, list(events)))
@@ -247,7 +251,7 @@ class Client:
         return self.path
 
     def append(self, path, offset, body, size):
-        """The status of a PATCH that brings these bytes."""
+        """The status of a PATCH with these bytes."""
         reached = offset + len(body)
         events = [f"post-receive {reached}/{size}", f"post-finish {size}/{size}"][: 1 + (reached == size)]
         return self.change("PATCH", path, *events, body=body, at=offset)
@@ -272,19 +276,15 @@ class Client:
         return reply and reply.status
 
     def holds(self, path, body):
-        """Sees that a GET brings these bytes."""
+        """Checks that a GET returns these bytes."""
         reply = self.hear("GET", path)
         same((reply.status, reply.body == body), (200, True), f"the status of a GET of {path}, and whether the bytes came")
 
 
-def numbered(events):
-    """The events of an upload as lines tell of them."""
-    return [f"{number} {event} done" for number, event in enumerate(events, 1)]
-
-
 def hold(events, clients, killed=()):
-    """Holds the events of all uploads to what the clients were told. Of those that were killed the first ones are enough. An
-    upload that no client knows was made by a POST that had no answer of its shard; how many such there are."""
+    """Compares the events of all uploads with what the clients were told. For uploads of a killed shard, a prefix is
+    enough. An upload that no client knows was made by a POST without an answer from its shard. Returns how many such
+    uploads there are."""
     events = dict(events)
     for client in clients:
         maybe = dict(client.unanswered)

@@ -1,5 +1,5 @@
-"""Servers with a store for `tests/crash`: how they are started, killed, limited and refused, and what is in the files
-of a store. """
+"""Servers with a store for `tests/crash.py`: starting, killing, limiting and refusing them, and the files of a store.
+"""
 import contextlib
 import os
 import random
@@ -16,10 +16,11 @@ import endings
 from crashed import LANES, lane_of
 from serving import MAX_SIZE, MOST_WAIT, Server, same, soon
 
-# The largest file of a server that is limited, and the size of a small disk; and what this then gets.
+# The largest file of a limited server, which is also the size of a small disk; and the size of that disk once it is
+# enlarged.
 LIMIT, MORE = 4 << 20, 32 << 20
 
-# How many bytes the heading of a log takes, with the gate before it.
+# The number of bytes in the heading of a log, with the gate before it.
 HEADING = 33
 
 
@@ -32,7 +33,7 @@ class Kept(Server):
 
 
 class Hasty(Kept):
-    """One that is killed while it starts, or soon after that. Nobody connects."""
+    """A server that is killed while it starts, or soon after. Nobody connects to it."""
 
     def listening(self):
         time.sleep(random.uniform(0, 0.05))
@@ -40,7 +41,7 @@ class Hasty(Kept):
 
 
 class Limited(Kept):
-    """One whose files may have so many bytes, and which is told by an error where one would have more."""
+    """A server whose files are limited in size, and which gets an error when a file would exceed the limit."""
 
     def limit(self):
         super().limit()
@@ -65,31 +66,31 @@ class Store:
         return kind(self.program, *self.words())
 
     def plain(self):
-        """A server that the end of its standard input ends in order."""
+        """A server that ends in order at the end of its standard input."""
         return endings.Plain(self.program, *self.words())
 
     def script(self):
-        """A server that TERM to the script ends in order."""
+        """A server that ends in order when its script gets a TERM."""
         return endings.Script(self.program, *self.words())
 
     def path(self, name):
         return os.path.join(self.folder, name)
 
     def generation(self):
-        """The number behind the name of the last log that is there: how often it was made shorter."""
+        """The number in the name of the latest log: how often the log was made shorter."""
         return max(int(name[4:] or 0) for name in self.logs())
 
     def current(self):
-        """The names of the logs that count."""
+        """The names of the current logs."""
         end = f".{self.generation()}" if self.generation() else ""
         return {f"log{end}", f"void{end}"}
 
     def logs(self):
-        """The names of the logs of changes, of which there are two while a shorter one is written."""
+        """The names of the logs of changes. There are two while a shorter one is written."""
         return [name for name in os.listdir(self.folder) if re.fullmatch(r"log(\.\d+)?", name)]
 
     def size_of_log(self):
-        """How many bytes the logs of changes have."""
+        """The number of bytes in the logs of changes."""
         return sum(os.path.getsize(self.path(name)) for name in self.logs())
 
     def files(self):
@@ -102,7 +103,7 @@ class Store:
         soon(lambda: [os.path.getsize(file) for file in files] == wanted, "all events are counted")
 
     def run(self, lanes=None, size=MAX_SIZE):
-        """A run that ends by itself with status 1, and leaves the files as they are."""
+        """A run that must end by itself with status 1, and must leave the files as they are."""
         before = self.files()
         words = [self.program, "serve", "--address", "127.0.0.1:0", "--max-size", str(size), *self.words(lanes)]
         ran = subprocess.run(words, stdin=subprocess.DEVNULL, capture_output=True, timeout=MOST_WAIT)
@@ -112,7 +113,7 @@ class Store:
         return ran
 
     def refused(self, lanes=None, size=MAX_SIZE):
-        """Sees that a server of this store is refused in a line, which it answers."""
+        """Checks that a server of this store is refused with one line, and returns that line."""
         ran = self.run(lanes, size)
         lines = ran.stderr.decode().splitlines()
         same(len(lines) == 1 and lines[0].startswith("up_server: "), True, f"whether {lines} is one line that says why")
@@ -120,7 +121,7 @@ class Store:
         return lines[0]
 
     def unread(self):
-        """Sees that the log can't be read to its end, so that nobody is served. The line that says why."""
+        """Checks that the log can't be read to its end, so that nobody is served. Returns the line that says why."""
         lines = self.run().stderr.decode().splitlines()
         same(len(lines), 2, f"how many lines say that it listens, and why it ends: {lines}")
         same(lines[1].startswith("up_server: cannot read the store: "), True, f"whether {lines} say why it ends")
@@ -129,13 +130,13 @@ class Store:
 
 @contextlib.contextmanager
 def store_of(program):
-    """A store whose folder isn't there yet, on the disk of temporary files."""
+    """A store whose folder doesn't exist yet, on the disk of temporary files."""
     with tempfile.TemporaryDirectory(prefix="up-crash-") as folder:
         yield Store(program, os.path.join(folder, "store"))
 
 
 def files_of(folder):
-    """The files of a folder, with their bytes; none where it is no folder."""
+    """The files of a folder, with their bytes; none if it isn't a folder."""
     found = {}
     for name in sorted(os.listdir(folder)) if os.path.isdir(folder) else []:
         path = os.path.join(folder, name)
@@ -154,7 +155,7 @@ def counts_of(uploads):
 
 
 def put_store(program, folder, files, log, uploads):
-    """A store in a new folder, with these files, but for the log, and as many events handed over as these uploads
+    """A store in a new folder, with these files and this log, which has handed over as many events as these uploads
     have."""
     os.mkdir(folder)
     for name, text in {**files, "log": log}.items():
@@ -166,8 +167,8 @@ def put_store(program, folder, files, log, uploads):
 
 
 def gates_of(log):
-    """Where each block of a log's file begins, and the place behind the last one: a block is a byte 1, its gate, eight
-    bytes that tell how many behind these are its batch, and those."""
+    """The place of each block in a log's file, and the place after the last block. A block is its gate, which is a byte
+    1, the length of its batch in eight bytes, and the batch."""
     gates, at = [], HEADING
     while at + 9 <= len(log) and log[at] == 1:
         gates.append(at)
@@ -177,8 +178,8 @@ def gates_of(log):
 
 
 def logs_left(log, gate, cut):
-    """What a crash may leave of a log within the block at this gate: the gate is closed, and what is behind it is
-    short, or something else."""
+    """What a crash may leave of a log whose block at this gate is cut: the gate is closed, and the bytes after it are
+    short, or differ."""
     kept = log[gate + 1 : cut]
     yield log[:gate] + b"\0" * (cut > gate) + kept
     if cut % 4 == 0:
@@ -187,7 +188,7 @@ def logs_left(log, gate, cut):
 
 @contextlib.contextmanager
 def small_disk():
-    """A folder that is a disk of its own, in memory, and has little room."""
+    """A folder that is a small disk of its own, in memory."""
     with tempfile.TemporaryDirectory(prefix="up-crash-") as folder:
         subprocess.run(["mount", "-t", "tmpfs", "-o", f"size={LIMIT}", "tmpfs", folder], check=True, capture_output=True)
         try:
@@ -198,10 +199,10 @@ def small_disk():
 
 @contextlib.contextmanager
 def failing_syncs(process):
-    """Each sync of a process fails for the time of a `with`."""
+    """Makes each sync of a process fail for the time of a `with`."""
     words = ["strace", "-f", "-p", str(process), "-e", "trace=fsync,fdatasync", "-e", "inject=fsync,fdatasync:error=EIO"]
     with subprocess.Popen(words, stdin=subprocess.DEVNULL, stderr=subprocess.PIPE, bufsize=0) as tracer:
-        # It says when it has attached itself, and again for each thread.
+        # strace writes a line when it has attached itself, and another for each thread.
         tracer.stderr.readline()
         hearing = threading.Thread(target=tracer.stderr.read)
         hearing.start()
@@ -213,7 +214,7 @@ def failing_syncs(process):
 
 
 def may_trace():
-    """Whether strace is there, and may trace a process here."""
+    """Whether strace exists, and may trace a process here."""
     if not shutil.which("strace"):
         return False
     words = ["strace", "-f", "-e", "trace=fsync,fdatasync", "-e", "inject=fsync,fdatasync:error=EIO", "true"]
@@ -221,7 +222,7 @@ def may_trace():
 
 
 def enlarge(disk):
-    """Gives such a disk more room."""
+    """Enlarges a small disk."""
     subprocess.run(["mount", "-o", f"remount,size={MORE}", disk], check=True, capture_output=True)
 
 

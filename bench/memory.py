@@ -1,13 +1,14 @@
 #!/usr/bin/env python3
 """Measures what clients can make `up serve` hold in memory.
 
-    bench/memory [--program PATH] [NAME..]
+    bench/memory.py [--program PATH] [NAME..]
 
-It needs nothing but Python 3. Each figure has a server of its own, with `--max-size 1073741824`. Many connections do the
-same, and what the memory of the process (`VmRSS`) grew by is divided among them: what a connection costs that is idle, or
-in a head, or has announced a body and sent none of it, or half a body; what an upload costs, and each change of one. A line
-for each has the bytes of one. Where a body of 2^30 bytes that was announced and never sent costs more than one of a byte by
-8,192 bytes and what the allocator adds, the exit status is 1. NAME is a figure's name, to measure it alone.
+It needs only Python 3. Each figure has a server of its own, with `--max-size 1073741824`. Many connections do the same,
+and the growth of the process's memory (`VmRSS`) is divided by their number. The figures are the cost of a connection
+that is idle, or in a head, or has announced a body and sent none of it, or half of it; of an upload; and of each change
+of an upload. Each line has the bytes of one. If an announced body of 2^30 bytes that never comes costs more than one of
+a byte by 8,192 bytes and the allocator's share, the exit status is 1. NAME is a figure's name, to measure only that
+one.
 """
 import argparse
 import os
@@ -15,22 +16,21 @@ import sys
 
 ROOT = os.path.dirname(os.path.dirname(os.path.abspath(__file__)))
 sys.path.insert(0, os.path.join(ROOT, "tests"))
-from serving import Connection, Maker, Server, build, head, patch, settled  # noqa: E402
+from serving import NOWHERE, Connection, Maker, Server, build, head, patch, settled  # noqa: E402
 
 MIB = 1 << 20
 FIRST_ROOM = 8192
 
 # What the allocator adds to a block, and what pages add to the average of many.
 OWN = 256
-GONE = "/files/" + 32 * "0"
 
-# How many connections stay at a time, and how many uploads or changes are made.
+# The number of connections that stay at a time, and of uploads or changes that are made.
 STAYING = 500
 MANY = 20_000
 
 
 def each_of(server, count, work):
-    """By how many bytes each of so many calls has the server grow, while what they answer stays."""
+    """The bytes by which the server grows for each of `count` calls, while their results stay open."""
     before = settled(server)
     kept = [work(number) for number in range(count)]
     grown = settled(server) - before
@@ -52,7 +52,7 @@ def staying(server, message):
 
 
 def padded(message, size):
-    """The head with one more field, so that it has this size."""
+    """The head with an additional field that brings it to this size."""
     rest = size - len(message) - len("X-Pad: \r\n")
     return message[:-2] + f"X-Pad: {'x' * rest}\r\n\r\n".encode()
 
@@ -68,12 +68,12 @@ def idle(server):
 
 def in_a_head(server):
     """a connection that has sent a head of 200 bytes but for the last one"""
-    return staying(server, padded(announced(GONE), 200)[:-1])
+    return staying(server, padded(announced(NOWHERE), 200)[:-1])
 
 
 def in_a_long_head(server):
     """a connection that has sent a head of 16,384 bytes but for the last one"""
-    return staying(server, padded(announced(GONE), 16_384)[:-1])
+    return staying(server, padded(announced(NOWHERE), 16_384)[:-1])
 
 
 def body_announced(server):

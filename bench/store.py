@@ -1,26 +1,26 @@
 #!/usr/bin/env python3
-"""Times `up serve --store DIR` beside the same writes alone, and beside `up` without a store, on one disk in one run.
+"""Times `up serve --store DIR` next to the same writes alone, and next to `up` without a store, on one disk in one run.
 
-    bench/store [--program PATH] [--rounds N] [--folder FOLDER] [--mebibytes N] [NAME..]
+    bench/store.py [--program PATH] [--rounds N] [--folder FOLDER] [--mebibytes N] [NAME..]
 
 It needs a C compiler, for its clients (bench/serve.c and bench/store.c), and Linux. FOLDER is where stores are made,
-each in a folder of its own that is removed behind the run; it has to be on a real disk, and is a temporary folder
-beside this repository unless it is given. Without `--program` it times the program of this tree.
+each in a folder of its own that is removed after the run. It has to be on a real disk; by default it is a temporary
+folder next to this repository. Without `--program` it times the program of this tree.
 
-In each of N rounds (by default 7) each work is done in each way, by turns:
+In each of N rounds (by default 7) each work is done in each way, in turn:
 
 - `bodies`: 128 bodies of 1 MiB over one connection, MiB/s.
 - `small`: 64 connections append 200 times 200 bytes each, changes a second.
 - `reads`: a GET of 1 MiB, 1,024 times over one connection, MiB/s.
 - `restart`: seconds from the start of a server whose log has 1 GiB (or `--mebibytes`) to the first HEAD that is
-  answered, where the system has the log in memory, and where it hasn't.
+  answered, if the system has the log in memory, and if it hasn't.
 
-The writes alone are those of a log: a batch behind a closed gate, a sync, the gate, a sync. For `small` one writer
-makes them with a change in each batch, and with 64. Beside a restart the file of the log is read, and nothing else is
-done.
+The writes alone are those of a log: a batch after a closed gate, a sync, the gate, a sync. For `small` one writer makes
+them with one change in each batch, and with 64. For `restart` only the file of the log is read.
 
-A line of the table is a work done in one way: the median, least and most, and the median as part of that of the first
-way. NAME is a work's name, to have it alone. """
+A line of the table is a work done in one way: the median, least and most, and the median as a fraction of that of the
+first way. NAME is a work's name, to do only that one.
+"""
 import argparse
 import contextlib
 import os
@@ -34,13 +34,13 @@ from contenders import MIB, ROOT, Client, as_started, by_turns, compiled, say_ma
 import serving
 from serving import Connection, same
 
-# How long a server may take to read its log, in seconds.
+# The seconds that a server may take to read its log.
 serving.MOST_WAIT = 600
 
-# What each work does.
+# The numbers of each work.
 BODIES, SMALL, CONNECTIONS, REQUESTS, READS = 128, 200, 64, 200, 1024
 
-# What a block of a log takes beside its changes, without its gate, and what a change takes beside the bytes that it
+# The bytes of a block of a log besides its changes, without its gate, and of a change besides the bytes that it
 # appends.
 OF_BLOCK, OF_CHANGE = 16, 53
 
@@ -55,18 +55,18 @@ class Bench:
 
     @contextlib.contextmanager
     def fresh(self):
-        """A path at which nothing is, of a file or a folder that is removed behind the `with`."""
+        """A path at which nothing exists, for a file or a folder that is removed after the `with`."""
         with tempfile.TemporaryDirectory(dir=self.place) as folder:
             yield os.path.join(folder, "store")
 
     @contextlib.contextmanager
     def served(self, has_store=True):
-        """A client of a new server, which has a store or none."""
+        """A client of a new server, with a store or without one."""
         with self.fresh() as folder, self.up.server(*["--store", folder] * has_store) as server:
             yield Client(self.client, self.up.kind, server)
 
     def written(self, batches, count):
-        """The seconds of so many batches of so many bytes, in a file."""
+        """The seconds that a file takes for this many batches of this many bytes."""
         with self.fresh() as file:
             return self.said("write", file, batches, count)
 
@@ -75,7 +75,7 @@ class Bench:
         return float(ran.stdout)
 
     def full(self):
-        """A store of so many MiB by bodies of 1 MiB, and the path of its upload."""
+        """A store of `mebibytes` MiB in bodies of 1 MiB, and the path of its upload."""
         if not self.filled:
             folder = os.path.join(self.place, "full")
             with self.up.server("--store", folder) as server:
@@ -136,14 +136,14 @@ def held_reads(bench):
 
 
 def forget(file):
-    """Has the system drop what it has of a file in memory."""
+    """Has the system drop a file from memory."""
     with open(file, "rb") as opened:
         os.fdatasync(opened.fileno())
         os.posix_fadvise(opened.fileno(), 0, 0, os.POSIX_FADV_DONTNEED)
 
 
 def recall(file):
-    """Has the system have a file in memory."""
+    """Has the system read a file into memory."""
     with open(file, "rb") as opened:
         while opened.read(MIB):
             pass
@@ -206,7 +206,7 @@ def figure(value):
 
 
 def do_all(bench, names, rounds):
-    """Does the works by turns, and prints their table."""
+    """Does the works in turn, and prints their table."""
     came = {(name, way): [] for name in names for way in WORKS[name][1]}
     for number in range(rounds):
         print(f"round {number + 1} of {rounds}", file=sys.stderr, flush=True)

@@ -1,22 +1,23 @@
 #!/usr/bin/env python3
 """Measures how long a request of one client makes another one wait.
 
-    bench/lock [--program NAME=PATH[@GLIBC_TUNABLES]].. [--rounds N] [--small] [NAME..]
+    bench/lock.py [--program NAME=PATH[@GLIBC_TUNABLES]].. [--rounds N] [--small] [NAME..]
 
-It needs a C compiler, for its watcher (bench/watch.c), and nothing else. Two servers of a program run beside each other. One is
-worked from one client with the largest of everything: bodies, finals, removals, lanes that fill. The other has nothing to do,
-and shows what the machine alone does. Meanwhile a thread of the watcher asks for another, small upload of each server, by HEAD
-on a connection that is kept, and sends the next HEAD as soon as it has the answer.
+It needs a C compiler, for its watcher (bench/watch.c), and nothing else. Two servers of a program run next to each
+other. One of them is busy with the largest of everything from one client: bodies, finals, removals, lanes that fill.
+The other one has nothing to do, and shows what the machine alone does. Meanwhile a thread of the watcher asks for the
+state of another, small upload of each server, by HEAD on a kept connection, and sends the next HEAD as soon as it has
+the answer.
 
-Each of N rounds (by default 3) does each work with each program, by turns. A line for each work and program has the number of
-answers of the server that is worked, their mean and the longest, in milliseconds, and the longest of the server that does
-nothing. The longest is that of the best round and that of the worst, since the system may let something else run in any round.
-The goal is that in the best round the longest is under a millisecond, or no longer than what the server that does nothing
-waited in any. Where it is missed the line says so, and the exit status is 1.
+Each of N rounds (by default 3) does each work with each program, in turn. A line for each work and program has the
+number of answers of the busy server, their mean and the longest, in milliseconds, and the longest of the idle server.
+The longest is given for the best round and for the worst, since the system may let something else run in any round. The
+goal is that in the best round the longest is under a millisecond, or no longer than the idle server's longest in any
+round. If the goal is missed, the line says so, and the exit status is 1.
 
-The works take up to 3 GiB of memory, where a final takes bytes of its own. `--small` has sizes and numbers of an eighth.
-Without `--program` the program of this tree is measured, as the script `up` starts it; the word may stand several times. NAME
-is a course's name, to have it alone.
+The works take up to 3 GiB of memory, if a final takes bytes of its own. `--small` uses an eighth of the sizes and
+numbers. Without `--program` the program of this tree is measured, as the script `up` starts it; the option may be
+repeated. NAME is a course's name, to do only that one.
 """
 import argparse
 import contextlib
@@ -29,34 +30,34 @@ import time
 from contenders import MIB, add_program_word, by_turns, compiled, contenders_of, hear, say_machine, say_table
 from serving import Connection, Maker, head, patch, same
 
-# How many seconds are watched before a work begins and after it has ended.
+# The seconds that are watched before a work begins and after it has ended.
 AROUND = 0.05
 
-# The longest wait that is let pass, in milliseconds.
+# The longest wait that is accepted, in milliseconds.
 MOST_WAIT = 1.0
 
 PIECE = bytes(MIB)
 SMALL_BODY = 16_384
 PART = 65_536
 
-# The URLs of so many parts fit into a head. So many finals are made of them.
+# The URLs of this many parts fit into a head, and this many finals are made of them.
 PARTS = 400
 FINALS = 20
 
-# The lanes, and the events that the queue of each holds. The lanes are filled over so many connections, two at a time, by so
-# many uploads on each, of which so many are asked for together.
+# The number of lanes, and of events in the queue of each. The lanes are filled over PAIRS pairs of connections, by
+# UPLOADS uploads on each connection, of which TOGETHER are requested at a time.
 LANES = 16
 CAPACITY = 4096
 PAIRS = 8
 UPLOADS = 8192
 TOGETHER = 128
 
-# So many events and a few more wait in one lane's log.
+# A few more events than this wait in one lane's log.
 WAITING = 10_000_000
 
 
 class Course:
-    """A server that is worked and one that does nothing, for one round, and what their watched answers took."""
+    """A busy server and an idle one, for one round, and the times of their watched answers."""
 
     def __init__(self, watcher, busy, idle, events, divisor):
         self.watcher, self.busy, self.events, self.divisor = watcher, busy, events, divisor
@@ -86,7 +87,7 @@ class Course:
         self.found[title] = numbers
 
     def send_body(self, path, offset, size, status=204):
-        """A PATCH with so many bytes."""
+        """A PATCH with this many bytes."""
         connection = self.maker.connection
         connection.send(patch(path, offset, size))
         for _ in range(size // MIB):
@@ -94,7 +95,7 @@ class Course:
         same(connection.reply().status, status, "the status of a PATCH")
 
     def make_part(self, length, body):
-        """A part in such bodies."""
+        """A part that is uploaded in such bodies."""
         path = self.maker.make(length, Upload_Concat="partial")
         message = bytes(body)
         for offset in range(0, length, body):
@@ -110,7 +111,7 @@ def size_of(count):
 
 
 def bodies(course):
-    """Large bodies, of which the last is refused."""
+    """Large bodies, the last of which is refused."""
     size = 256 * MIB // course.divisor
     path = course.maker.make(3 * size)
     with course.watch(f"a body of {size_of(size)}"):
@@ -122,7 +123,7 @@ def bodies(course):
 
 
 def finals(course):
-    """Finals of as many parts as a head has room for."""
+    """Finals of as many parts as fit into a head."""
     parts = [course.make_part(PART, PART) for _ in range(PARTS // course.divisor)]
     with course.watch(f"{FINALS} finals of {len(parts)} parts of 64 KiB"):
         for _ in range(FINALS):
@@ -142,13 +143,10 @@ def pieces(course):
 
 
 def fetch(connection, path, size):
-    """A GET, whose bytes are dropped."""
+    """A GET whose bytes are dropped."""
     connection.send(head("GET", path, {}))
-    while b"\r\n\r\n" not in connection.read and connection.more():
-        pass
-    front, _, body = connection.read.partition(b"\r\n\r\n")
-    same(front.split()[1:2], [b"200"], "the status of a GET")
-    into, came = bytearray(MIB), len(body)
+    same(connection.reply_head().status, 200, "the status of a GET")
+    into, came = bytearray(MIB), len(connection.read)
     while came < size:
         more = connection.socket.recv_into(into)
         if more == 0:
@@ -157,7 +155,7 @@ def fetch(connection, path, size):
 
 
 def whole(course):
-    """An upload as large as may be, that is fetched and removed."""
+    """An upload of the largest size, which is fetched and removed."""
     size = (1 << 30) // course.divisor
     path = course.maker.make(size)
     course.send_body(path, 0, size)
@@ -168,7 +166,7 @@ def whole(course):
 
 
 def make_uploads(server, count, length=1):
-    """So many uploads of this length on each of two connections."""
+    """Makes this many uploads of this length on each of two connections."""
     post = head("POST", "/files/", {"Upload-Length": length})
     with Connection(server) as one, Connection(server) as other:
         for _ in range(count // TOGETHER):
@@ -179,13 +177,13 @@ def make_uploads(server, count, length=1):
 
 
 def hear_lines(events, count):
-    """Reads so many lines of events."""
+    """Reads this many lines of events."""
     while count > 0:
         count -= os.read(events, MIB).count(b"\n")
 
 
 def lanes(course):
-    """Lanes that fill while nobody reads what their post-hooks write, and then hand over."""
+    """Lanes that fill while nobody reads what their post-hooks write, and that are then emptied."""
     uploads = UPLOADS // course.divisor
     made = 2 * PAIRS * uploads
     with course.watch(f"{made:,} uploads made, {LANES} lanes fill"):
@@ -196,7 +194,7 @@ def lanes(course):
 
 
 def backlog(course):
-    """A lane's log of very many events, since nobody reads what its post-hook writes, and then its first half goes.
+    """A lane's log of very many events, since nobody reads what its post-hook writes; then half of it is handed over.
 
     An upload of no bytes has two events.
     """
@@ -224,7 +222,7 @@ def words_of(course, divisor):
 
 
 def run(course, contender, watcher, divisor):
-    """What the watched answers of a course took, by the names of its works."""
+    """The times of the watched answers of a course, by the names of its works."""
     words = words_of(course, divisor)
     events, sink = os.pipe()
     with contender.server(*words, sink=sink) as busy, contender.server(*words) as idle:
@@ -236,7 +234,7 @@ def run(course, contender, watcher, divisor):
 
 
 def line(title, name, rounds):
-    """The cells of a work of a program, of which each round has the count, mean and longest of both servers."""
+    """The cells of a work of a program. Each round has the count, mean and longest of both servers."""
     counts, means, longest, _, _, of_idle = zip(*rounds)
     mean = sum(count * mean for count, mean in zip(counts, means)) / sum(counts)
     times = [mean, min(longest), max(longest), min(of_idle), max(of_idle)]
@@ -245,7 +243,7 @@ def line(title, name, rounds):
 
 
 def watch_all(contenders, courses, watcher, rounds, divisor):
-    """Does the courses by turns, and prints their table; whether all goals are met."""
+    """Does the courses in turn, and prints their table. Returns whether all goals are met."""
     came = {}
     for number in range(rounds):
         for course in courses:

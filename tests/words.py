@@ -1,14 +1,14 @@
 #!/usr/bin/env python3
-"""Gives `up` words that it can't do as they say, and holds its exit status and what it then says to docs/RUNNING.md; and
-an empty input.
+"""Runs `up` with wrong words, and with words that it can't carry out, and compares its exit status and what it then
+reports with docs/RUNNING.md. Also runs it on an empty input.
 
-    tests/words [--program PATH] [NAME..]
+    tests/words.py [--program PATH] [NAME..]
 
-It needs nothing but Python 3 and Linux, and takes less than a second. The gate, `.ci/run`, runs it with the program
-that it has built.
+It needs only Python 3 and Linux, and takes less than a second. The gate, `.ci/run`, runs it with the program that it
+has built.
 
-A line for each case says whether it passed; the last line is `N passed, M failed`, and the exit status is 1 where one
-failed.
+For each case, one line says whether it passed. The last line is `N passed, M failed`, and the exit status is 1 if a
+case failed.
 """
 import os
 import re
@@ -19,7 +19,7 @@ import sys
 
 from serving import ROOT, same, try_all, words_of
 
-# The most seconds that a run may take: a name may be looked up for long.
+# The most seconds that a run may take: looking up a name may take long.
 MOST_SECONDS = 60
 
 # A name that never resolves (RFC 6761, section 6.4).
@@ -27,7 +27,7 @@ NOBODY = "nobody.invalid"
 
 
 def run(*words, **files):
-    """The status of a run with these words, and what it says on standard error. It must say nothing else."""
+    """The status of a run with these words, and its standard error. Its standard output must be empty."""
     files = {"stdin": subprocess.DEVNULL, "stdout": subprocess.PIPE, "stderr": subprocess.PIPE, **files}
     ran = subprocess.run([program, *words], timeout=MOST_SECONDS, **files)
     same(ran.stdout, b"", "what stands on standard output")
@@ -35,7 +35,7 @@ def run(*words, **files):
 
 
 def refused(*words):
-    """What the program says of words that it refuses, with status 2."""
+    """What the program reports about words that it refuses with status 2."""
     status, said = run(*words)
     same(status, 2, f"the status of {words}")
     same(said.endswith(b"\n"), True, f"whether {said!r} is whole lines")
@@ -43,7 +43,7 @@ def refused(*words):
 
 
 def why_not(address):
-    """Why the program doesn't listen at this address."""
+    """Why the program can't listen at this address."""
     status, said = run("serve", "--address", address)
     found = re.fullmatch(rf'up_server: cannot listen at "{re.escape(address)}": ([^\n]+)\n', said.decode())
     same(found is not None, True, f"whether {said!r} says why it can't listen at {address}")
@@ -52,14 +52,14 @@ def why_not(address):
 
 
 def no_text():
-    """Words that are no UTF-8 are refused with status 2 and a line that says so."""
+    """Words that aren't UTF-8 are refused with status 2 and a line that says so."""
     for words in ((b"serve", b"--address", b"\xff:80"), (b"\xc3\x28",), (b"replay", b"--require-key", b"a\x80")):
         said = refused(*words)
         same((said.count(b"\n"), b"UTF-8" in said), (1, True), f"whether {said!r} is a line that says so")
 
 
 def nobody_hears():
-    """Wrong words, and words for help, end with status 2 where standard error is closed, and where its reader has gone."""
+    """Wrong words, and words for help, end with status 2 if standard error is closed, and if its reader has gone."""
     for words in (["nonsense"], ["serve", "--lanes", "0"], ["replay", "--address", "a:1"], ["--help"], [b"\xff"]):
         status, _ = run(*words, stderr=None, preexec_fn=lambda: os.close(2))
         same(status, 2, f"the status of {words} with standard error closed")
@@ -73,25 +73,25 @@ def nobody_hears():
 
 
 def taken_port():
-    """A port at which another program listens."""
+    """A port at which another program listens is refused with its own reason."""
     with socket.create_server(("127.0.0.1", 0)) as other:
         address = f"127.0.0.1:{other.getsockname()[1]}"
         same(why_not(address) == why_not("127.0.0.1"), False, "whether an address without a port has its reason")
 
 
 def unknown_name():
-    """A name that doesn't resolve."""
+    """A name that doesn't resolve is refused with its own reason."""
     same(why_not(f"{NOBODY}:80") == why_not("127.0.0.1"), False, "whether an address without a port has its reason")
 
 
 def no_port():
-    """An address without a port, and one whose port is no number of a port."""
+    """An address without a port is refused, and so is one whose port isn't the number of a port."""
     for address in ("127.0.0.1", "", "127.0.0.1:", "127.0.0.1:65536", "127.0.0.1:http?", "[::1"):
         why_not(address)
 
 
 def too_few_and_too_many():
-    """Numbers that a server can't be of, and what is no number: each is named as it was given."""
+    """Numbers out of range, and texts that aren't numbers, are refused, and each is named as it was given."""
     for words in (
         ("replay", "--lanes", "0"), ("replay", "--lanes", "17"), ("serve", "--status", "0"), ("serve", "--status", "86401"),
         ("serve", "--status", "x"), ("serve", "--status", "1.5"), ("serve", "--grace", "0"),
@@ -104,7 +104,7 @@ def too_few_and_too_many():
 
 
 def version():
-    """`--version` tells the version, and the logic that is named in docs/PROVED.md and by `rt version`, with status 0."""
+    """`--version` prints the version, and the logic that docs/PROVED.md and `rt version` name, with status 0."""
     ran = subprocess.run([program, "--version"], timeout=MOST_SECONDS, capture_output=True)
     same((ran.returncode, ran.stderr), (0, b""), "the status, and what is said on standard error")
     found = re.fullmatch(r"up (\d+\.\d+\.\d+)\nproved by Rattle's logic ([0-9a-f]{16})\n", ran.stdout.decode())
@@ -129,13 +129,13 @@ def nothing_asked():
 
 
 def words_of_serve():
-    """`replay` knows no `--events`, which would stand among its replies, nor what it does anyway or never can."""
+    """`replay` refuses `--events`, whose lines would be among its replies, and words that are meaningless for it."""
     for words in (["--events"], ["--until-eof"], ["--shard", "1"]):
         same(words[0].encode() in refused("replay", *words), True, "whether the word is named that is refused")
 
 
 def no_shard():
-    """A shard that is no number, is negative, stands twice or isn't given."""
+    """A shard that isn't a number, is negative, is repeated or is missing is refused."""
     for words in (["--shard="], ["--shard=-1"], ["--shard", "1", "--shard", "1"], ["--shard"]):
         same(b"--shard" in refused("serve", *words), True, "whether the word is named that is refused")
 

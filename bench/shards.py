@@ -1,24 +1,25 @@
 #!/usr/bin/env python3
-"""Times 1, 2 and 4 shards, processes of `up serve --shard K`, side by side: asked by themselves, and through each of the
-proxies of examples/shards. And has many uploads under way at once.
+"""Times 1, 2 and 4 shards, processes of `up serve --shard K`, side by side: directly, and through each of the proxies
+of examples/shards. Also has many uploads under way at once.
 
-    bench/shards [--program NAME=PATH[@GLIBC_TUNABLES]] [--rounds N] [--uploads N] [NAME..]
+    bench/shards.py [--program NAME=PATH[@GLIBC_TUNABLES]] [--rounds N] [--uploads N] [NAME..]
 
-It needs a C compiler, for its client (bench/serve.c), and Debian's `nginx-light` and `haproxy`; what isn't there is passed
-over. All is on the loopback of one machine, so the shards, the proxy and the client share its processors: the rates say what
-that machine does in all, and the processor times what each of these takes, by which more machines can be reckoned.
+It needs a C compiler, for its client (bench/serve.c), and Debian's `nginx-light` and `haproxy`; missing ones are
+skipped. Everything is on the loopback of one machine, so the shards, the proxy and the client share its processors: the
+rates are those of that machine as a whole, and the processor times are those of each part, from which more machines can
+be calculated.
 
-In each of N rounds (by default 5) each work is done in each way, by turns, and each run has fresh servers. The first table has
-a line for each work, way and number of shards: the median, least and most of the rate, and the medians of the processor times
-of the shards, the proxy and the client. Each connection comes from an address of its own, since the proxies choose a shard by
-it; nginx has as many workers as there are processors, and haproxy as many threads.
+In each of N rounds (by default 5) each work is done in each way, in turn, and each run has new servers. The first table
+has a line for each work, way and number of shards: the median, least and most of the rate, and the medians of the
+processor times of the shards, the proxy and the client. Each connection comes from an address of its own, since the
+proxies choose a shard by it. nginx has as many workers as there are processors, and haproxy as many threads.
 
-The second is of N uploads (by default 10,000) through nginx to four shards: all have sent a half of their 64 KiB, and wait;
-then each sends the other half, and is answered 204. It says how long the first took and the second, what the shards and nginx
-then had in memory, how many threads there were, and how many connections the shard had that had most. Descriptors are needed:
-as many as uploads for the client, and twice as many for all workers of nginx together.
+The second table is of N uploads (by default 10,000) through nginx to four shards: all send a half of their 64 KiB, and
+wait; then each sends the other half, and is answered 204. The table has the seconds of each half, the number of threads
+of each shard, and the memory of the shards and of nginx. The client needs as many descriptors as there are uploads, and
+all workers of nginx together need twice as many.
 
-NAME is a work's name, `small`, `large` or `together`, to do it alone.
+NAME is a work's name, `small`, `large` or `together`, to do only that one.
 """
 import argparse
 import os
@@ -35,18 +36,18 @@ from contenders import (
 from serving import soon, status_of
 from sharded import HaproxyOfShards, NginxOfShards, Shards
 
-# How many shards there are, in each work, and how many where many uploads are under way.
+# The numbers of shards in each work, and the number of shards when many uploads are under way.
 COUNTS, MOST = (1, 2, 4), 4
 
-# How many bytes each of many uploads has.
+# The bytes of each of many uploads.
 HALVES = 65_536
 
-# Workers of nginx where many uploads are under way: each has a limit of descriptors of its own.
+# The workers of nginx when many uploads are under way: each has its own limit of descriptors.
 WORKERS = 8
 
 
 class Alone:
-    """The shards with nothing before them: the connections take them by turns."""
+    """The shards without a proxy: the connections take them in turn."""
 
     name = "none"
 
@@ -82,7 +83,7 @@ TITLES = ["work", "proxy", "shards", "median", "least", "most", "shards s", "pro
 
 
 class Timed(Client):
-    """A client that notes what the shards and the proxy took, each apart."""
+    """A client that also notes the processor seconds of the shards, apart from those of the proxy."""
 
     def __init__(self, path, shards, front):
         super().__init__(path, "apart", front)
@@ -111,13 +112,13 @@ def run(work, program, path, way, count):
 
 
 def settle(front, count):
-    """Gives a proxy that asks shards whether they are well the time to do so."""
+    """Waits until a proxy that checks the health of shards has done so."""
     if front.name == HaproxyOfShards.name:
         time.sleep(2)
 
 
 def time_works(works, ways, program, path, rounds):
-    """Does the works by turns, and prints their table."""
+    """Does the works in turn, and prints their table."""
     cases = [(way, count) for way in ways for count in COUNTS]
     came = {(work, *case): [] for work in works for case in cases}
     for number in range(rounds):

@@ -1,12 +1,14 @@
 #!/usr/bin/env python3
-"""Runs examples/scanner and examples/archive on `up serve --events`, and holds them to what is left where.
+"""Runs examples/scanner and examples/archive on `up serve --events`, and checks which uploads they leave, remove and
+store.
 
-    tests/readers [--program PATH] [NAME..]
+    tests/readers.py [--program PATH] [NAME..]
 
-It needs `curl`, and Debian's `rclone` for a store that isn't a folder. What isn't there is said, and its cases are passed
-over. It takes some seconds. ClamAV isn't run: a script of three lines stands for it.
+It needs `curl`, and Debian's `rclone` for a store that isn't a folder. If something is missing, the script says so and
+skips its cases. It takes some seconds. ClamAV isn't run: a script of three lines replaces it.
 
-A line for each case says whether it passed; the last line is `N passed, M failed`, and the exit status is 1 where one failed.
+For each case, one line says whether it passed. The last line is `N passed, M failed`, and the exit status is 1 if a
+case failed.
 """
 import base64
 import contextlib
@@ -19,7 +21,7 @@ import sys
 import tempfile
 import time
 
-from serving import ROOT, Connection, Server, below, same, soon, try_all, words_of
+from serving import ROOT, UNHEARD, Connection, Server, below, numbered, same, soon, try_all, words_of
 
 EXAMPLES = os.path.join(ROOT, "examples")
 
@@ -29,13 +31,13 @@ MOST_LINES = 20
 GOOD = b"nothing that anybody looks for"
 EICAR = rb"X5O!P%@AP[4\PZX54(P^)7CC)7}$EICAR-STANDARD-ANTIVIRUS-TEST-FILE!$H+H*"
 
-# What the examples may call; ClamAV isn't among it.
+# The commands that the examples may call, without ClamAV.
 TOOLS = "base64 curl cut grep mktemp mv rclone rm sed sleep stat sync tr".split()
 
-# What stands for ClamAV: it takes half a second, finds `bad` to be bad, and can't scan `odd`.
+# A replacement for ClamAV: it takes half a second, finds `bad` to be bad, and can't scan `odd`.
 CLAMSCAN = '#!/bin/sh\nsleep 0.5\ngrep -q odd "$2" && exit 2\n! grep -q bad "$2"\n'
 
-# A `curl` that loses what is behind the third byte of an upload.
+# A `curl` that loses everything after the third byte of an upload.
 SHORT_CURL = f"""#!/bin/sh
 case $* in *-sfI*|*DELETE*) exec {shutil.which("curl")} "$@" ;; esac
 {shutil.which("curl")} "$@" | cut -b-3 | tr -d '\\n'
@@ -52,13 +54,11 @@ FAILING_CURL = """#!/bin/sh
 exit 7
 """
 
-# What the server says once a reader has ended.
-UNHEARD = b"up_server: events can't be written: whoever reads them is gone\n"
-
 
 class Readers:
-    """A server whose events are read by these examples, each with its words, one behind the other. They find the tools and
-    these scripts, and begin when they are started. One lane has the events of all uploads come in one order."""
+    """A server whose events are read by these examples, in a pipeline, each with its words. The examples find the
+    tools and these scripts, and begin when they are started. With its one lane, the events of all uploads come in
+    one order."""
 
     def __init__(self, *examples, **scripts):
         self.examples, self.scripts, self.running = examples, scripts, []
@@ -113,18 +113,19 @@ class Readers:
         os.close(self.lines)
 
     def place_of(self, word):
-        """The place that a word stands for: the folder (None), the same by rclone, or one that isn't there."""
+        """The place that a word means: the folder (None), the same by rclone, or a folder that doesn't exist."""
         return {None: self.place, ":local:": f":local:{self.place}"}.get(word, f"{self.place}/{word}")
 
     def stop(self):
-        """Kills what is still running of the examples."""
+        """Kills the examples that are still running."""
         for one in self.running:
             with contextlib.suppress(ProcessLookupError):
                 os.killpg(one.pid, signal.SIGKILL)
             one.wait()
 
     def end(self):
-        """Ends the server, and sees that the examples end behind it. The lines that the last of them passed on."""
+        """Ends the server, and checks that the examples end after it. Returns the lines that the last of them passed
+        on."""
         self.connection.socket.close()
         os.close(self.writer)
         same(self.server.process.wait(20), 0, "the status of the server")
@@ -134,7 +135,7 @@ class Readers:
         return os.pread(self.out.fileno(), 1 << 20, 0).decode().splitlines()
 
     def said(self):
-        """What the examples said, a line each."""
+        """What the examples have written to standard error, in lines."""
         return os.pread(self.err.fileno(), 1 << 20, 0).decode().splitlines()
 
     def doing(self):
@@ -147,14 +148,15 @@ class Readers:
         return commands
 
     def until(self, holds, what):
-        """Waits until this holds; where it doesn't in time, what the examples said and what they do is told of too."""
+        """Waits until `holds()` is true. If it takes too long, the fault also has what the examples said, and what they
+        run."""
         try:
             soon(holds, what)
         except AssertionError as fault:
             raise AssertionError(f"{fault}; they said {self.said()}, and run {self.doing()}") from fault
 
     def upload(self, body, **fields):
-        """The id of an upload that has these bytes."""
+        """The id of a new upload with these bytes."""
         reply = self.connection.ask("POST", "/files/", upload_length=len(body), **fields)
         same(reply.status, 201, "the status of a POST")
         path = reply.fields["location"]
@@ -166,11 +168,11 @@ class Readers:
         same(self.connection.ask("DELETE", f"/files/{upload}").status, 204, "the status of a DELETE")
 
     def stands(self, upload):
-        """Whether the upload is still there."""
+        """Whether the upload still exists."""
         return self.connection.ask("HEAD", f"/files/{upload}").status == 200
 
     def stored(self):
-        """The files at the place, by their names."""
+        """The files at the place, with their bytes, by their names."""
         return {name: read(os.path.join(self.place, name)) for name in os.listdir(self.place)}
 
 
@@ -180,7 +182,7 @@ def read(path):
 
 
 def called(name):
-    """The field that says what a file is called."""
+    """The field with the name of a file."""
     return {"upload_metadata": f"filename {base64.b64encode(name.encode()).decode()}"}
 
 
@@ -188,7 +190,7 @@ def lines_of(upload, body, *more):
     """The lines of an upload whose bytes came at once."""
     size = len(body)
     events = [f"post-create 0/{size}", *[f"post-receive {size}/{size}"] * bool(body), f"post-finish {size}/{size}", *more]
-    return [f"{upload} {number} {event} done" for number, event in enumerate(events, 1)]
+    return [f"{upload} {line}" for line in numbered(events)]
 
 
 def passed_on(lines, upload):
@@ -196,7 +198,8 @@ def passed_on(lines, upload):
 
 
 def scanner():
-    """Without ClamAV the scanner removes what has the text of the EICAR file, and leaves and passes on the rest, parts too."""
+    """Without ClamAV the scanner removes what has the text of the EICAR file, and leaves and passes on the rest, parts
+    too."""
     with Readers(["scanner"]) as it:
         gone = it.upload(GOOD)
         it.remove(gone)
@@ -216,7 +219,7 @@ def scanner():
 
 
 def scanner_kept():
-    """What is bad and can't be removed from the server is told of, and not passed on."""
+    """A bad upload that can't be removed from the server is reported, and not passed on."""
     with Readers(["scanner"], curl=KEEPING_CURL) as it:
         it.start()
         kept = it.upload(EICAR)
@@ -228,7 +231,7 @@ def scanner_kept():
 
 
 def out_of_reach():
-    """What can't be fetched for another reason than that it is gone is told of so."""
+    """An upload that can't be fetched, though it isn't gone, is reported as such."""
     for reader in (["scanner"], ["archive", None]):
         with Readers(reader, curl=FAILING_CURL) as it:
             it.start()
@@ -255,7 +258,8 @@ def clamav():
 
 
 def moved(it, names):
-    """Has uploads made that are called so, and others, and sees that those alone are moved that are to be; by which names."""
+    """Makes uploads with these names, and others, and checks that exactly the right ones are moved, under the right
+    names."""
     gone = it.upload(GOOD)
     it.remove(gone)
     it.start()
@@ -270,7 +274,7 @@ def moved(it, names):
     reply = it.connection.ask("POST", "/files/", upload_concat=f"final;{list_of}", **called("joined"))
     same(reply.status, 201, "the status of a final POST")
     wanted[f"{reply.fields['location'].removeprefix('/files/')}-joined"] = b"hello worldhello "
-    # Each is waited for by itself, since a store may take seconds for each where others use the machine.
+    # Each one is waited for by itself, since a store may take seconds for each if others use the machine.
     for name in wanted:
         it.until(lambda: not it.stands(name[:32]), f"{name} is stored, and removed")
     it.until(lambda: not any(map(it.stands, parts)), "the parts of what is joined are removed")
@@ -281,7 +285,8 @@ def moved(it, names):
 
 
 def archive():
-    """The archive moves what is complete into a folder, under names that stay in it, and leaves parts that are under way."""
+    """The archive moves complete uploads into a folder, under names that stay in it, and leaves parts that are under
+    way."""
     long = "ü" * 200
     names = [
         ("plain.txt", "plain.txt"), ("../../etc/passwd", ".._.._etc_passwd"), ("Übersicht 報告.md", "Übersicht 報告.md"),
@@ -292,13 +297,14 @@ def archive():
 
 
 def archive_store():
-    """The archive moves what is complete into a store that rclone knows: a folder, as such."""
+    """The archive moves complete uploads into a store that rclone knows: a folder, as such."""
     with Readers(["archive", ":local:"]) as it:
         moved(it, [("plain.txt", "plain.txt"), ("../../etc/passwd", ".._.._etc_passwd"), ("a:b c.pdf", "a:b c.pdf")])
 
 
 def archive_short():
-    """What doesn't come whole, or has no place, isn't removed from the server, has no name at the place, and is told of."""
+    """An upload that comes incomplete, or has no place, stays on the server, has no name at the place, and is
+    reported."""
     for place, scripts in ((None, {"curl": SHORT_CURL}), ("nowhere", {})):
         with Readers(["archive", place], **scripts) as it:
             it.start()
@@ -310,7 +316,7 @@ def archive_short():
 
 
 def archive_kept():
-    """What is stored and can't be removed from the server is told of."""
+    """An upload that is stored and can't be removed from the server is reported."""
     with Readers(["archive", None], curl=KEEPING_CURL) as it:
         it.start()
         kept = it.upload(GOOD)
@@ -321,7 +327,7 @@ def archive_kept():
 
 
 def both():
-    """Behind the scanner the archive moves what is good, and never sees what is bad."""
+    """After the scanner, the archive moves what is good, and never sees what is bad."""
     with Readers(["scanner"], ["archive", None]) as it:
         it.start()
         bad, good = it.upload(EICAR, **called("bad")), it.upload(GOOD, **called("good"))
@@ -331,7 +337,7 @@ def both():
 
 
 def interrupted():
-    """^C, which comes to all of a pipeline, ends no reader before its lines do."""
+    """^C, which is sent to all of a pipeline, ends no reader before its lines end."""
     with Readers(["scanner"], ["archive", None], clamscan=CLAMSCAN) as it:
         it.start()
         good = it.upload(GOOD)
@@ -353,7 +359,7 @@ def reader_ends():
         it.until(lambda: not it.stands(first), "the first is moved")
         it.stop()
         error = it.server.process.stderr
-        # What the reader had started may hold its end of the pipe for a moment longer.
+        # A process that the reader has started may keep its end of the pipe open for a moment longer.
         it.until(lambda: it.upload(GOOD) and select.select([error], [], [], 0.1)[0], "the server says something")
         same(error.readline(), UNHEARD, "what it says")
         same(it.stands(it.upload(GOOD)), True, "whether what comes behind that is there")

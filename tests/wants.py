@@ -1,14 +1,14 @@
 #!/usr/bin/env python3
-"""Takes from `up serve` what it needs to let connections in, and gives it back: descriptors, addresses for the stacks of
-threads, and the listener.
+"""Takes from `up serve` what it needs to let connections in, and gives it back: descriptors, address space for the
+stacks of threads, and the listener.
 
-    tests/wants [--program PATH] [NAME..]
+    tests/wants.py [--program PATH] [NAME..]
 
-It needs nothing but Python 3.9 and Linux, and takes less than a minute. Where the system doesn't lend the listener of
-another process (`pidfd_getfd`), the cases that shut it down are passed over.
+It needs only Python 3.9 and Linux, and takes less than a minute. If the system doesn't lend the listener of another
+process (`pidfd_getfd`), the cases that shut it down are skipped.
 
-A line for each case says whether it passed; the last line is `N passed, M failed`, and the exit status is 1 where one
-failed.
+For each case, one line says whether it passed. The last line is `N passed, M failed`, and the exit status is 1 if a
+case failed.
 """
 import ctypes
 import os
@@ -18,15 +18,15 @@ import socket
 import sys
 import time
 
-from serving import MOST_WAIT, Connection, Server, below, events_of, head, same, soon, try_all, words_of
+from serving import (
+    AGAIN, MOST_WAIT, NO_THREAD, Connection, Server, below, events_of, head, same, soon, try_all, words_of,
+)
 
-# What stands on standard error.
+# The lines on standard error.
 NO_FILES = "up_server: no connection can be let in: Too many open files (os error 24)\n"
-NO_THREAD = "up_server: no connection can be let in: no thread can be started\n"
-AGAIN = "up_server: connections are let in again\n"
 GONE = "up_server: the listener is gone, and the run ends: Invalid argument (os error 22)\n"
 
-# The seconds in which a server in want is watched, and the most processor time that it may take.
+# The seconds for which a server that lacks something is watched, and the most processor time that it may take.
 WATCHED = 2
 MOST_WORK = 0.2
 
@@ -35,21 +35,21 @@ PIDFD_GETFD = 438
 
 
 def limit(server, what, most):
-    """Sets a limit of the server while it runs; the limit before."""
+    """Sets a limit of the server while it runs, and returns the limit before."""
     before, hard = resource.prlimit(server.process.pid, what)
     resource.prlimit(server.process.pid, what, (most, hard))
     return before
 
 
 class Watched(Server):
-    """A server whose lines on standard error are read with the time at which each came."""
+    """A server whose lines on standard error are read with a timeout."""
 
     def __init__(self, *words, **others):
         super().__init__(program, *words, **others)
         self.rest = b""
 
     def line(self, seconds):
-        """The next line, where it comes in so many seconds."""
+        """The next line, if it comes within this many seconds."""
         end = time.monotonic() + seconds
         while b"\n" not in self.rest:
             left = end - time.monotonic()
@@ -62,7 +62,7 @@ class Watched(Server):
         return line.decode() + "\n"
 
     def lines(self, seconds):
-        """The lines that come in so many seconds."""
+        """The lines that come within this many seconds."""
         end = time.monotonic() + seconds
         found = []
         while time.monotonic() < end:
@@ -72,7 +72,7 @@ class Watched(Server):
 
 
 def is_served(connection, seconds):
-    """Whether the server answers in so many seconds what this connection has asked."""
+    """Whether the server answers this connection's request within this many seconds."""
     ready, _, _ = select.select([connection.socket], [], [], seconds)
     if not ready:
         return False
@@ -81,25 +81,26 @@ def is_served(connection, seconds):
 
 
 def asked(server):
-    """A new connection that has asked what is served."""
+    """A new connection that has sent an OPTIONS."""
     connection = Connection(server)
     connection.send(head("OPTIONS", "/files/", {}))
     return connection
 
 
 def sleeps(server, what):
-    """The server takes next to no processor time in some seconds."""
+    """Checks that the server takes almost no processor time for some seconds."""
     before = server.seconds()
     time.sleep(WATCHED)
     below(server.seconds() - before, MOST_WORK, f"processor time in {WATCHED} seconds {what}")
 
 
 def no_files():
-    """Out of descriptors, a client is let in once there are some again, though no connection has ended; two lines say so."""
+    """Out of descriptors, a client is let in once there are some again, even if no connection has ended; two lines say
+    so."""
     with Watched() as server, asked(server) as first:
         same(is_served(first, MOST_WAIT), True, "whether the first client is served")
         before = limit(server, resource.RLIMIT_NOFILE, server.descriptors())
-        # The accept that waits has its descriptor already.
+        # The accept that is waiting already has its descriptor.
         with asked(server) as second, asked(server) as third:
             same(server.line(5), NO_FILES, "what is said where no descriptor is left")
             same(is_served(third, 0.5), False, "whether a client is served without a descriptor")
@@ -123,7 +124,7 @@ def one_leaves():
 
 
 def over_and_over():
-    """Descriptors that come and go ten times in five seconds are told of in no more than a line a second."""
+    """Descriptors that come and go ten times in five seconds are reported in at most a line a second."""
     with Watched() as server, asked(server) as first:
         same(is_served(first, MOST_WAIT), True, "whether the first client is served")
         few = server.descriptors()
@@ -141,7 +142,7 @@ def over_and_over():
 
 
 def no_threads():
-    """Without addresses for a thread a client is closed, and a later one is served once there are some again."""
+    """Without address space for a thread a client is closed, and a later one is served once there is some again."""
     with Watched() as server, asked(server) as first:
         same(is_served(first, MOST_WAIT), True, "whether the first client is served")
         before = limit(server, resource.RLIMIT_AS, server.status("VmSize"))
@@ -160,7 +161,7 @@ def no_threads():
 
 
 def listener_of(server):
-    """The listener of the server, which is lent by the system; none where it doesn't lend it."""
+    """The listener of the server, if the system lends it, or None."""
     system = ctypes.CDLL(None, use_errno=True)
     process = os.pidfd_open(server.process.pid)
     try:
@@ -195,7 +196,7 @@ def shut_down(server):
 
 
 def listener_gone():
-    """Where its listener is shut down a server without an end ends in order, with status 0, once its client has gone."""
+    """If its listener is shut down, a server without an end ends in order, with status 0, once its client has gone."""
     with Watched("--events") as server, Connection(server) as first:
         path = first.make(3)
         shut_down(server)
@@ -209,7 +210,7 @@ def listener_gone():
 
 
 def gone_and_counted():
-    """Where its listener is shut down, a server of a number of connections reports what was done, as if all had come."""
+    """If its listener is shut down, a server with a number of connections reports what was done, as if all had come."""
     with Watched("--connections", "100", "--lanes", "1") as server, Connection(server) as first:
         path = first.make(0)
         shut_down(server)
@@ -221,7 +222,7 @@ def gone_and_counted():
 
 
 def gone_in_want():
-    """A listener that goes while descriptors are wanting is told of in its turn, and ends the run."""
+    """A listener that goes while the server is out of descriptors is reported in its turn, and ends the run."""
     with Watched() as server, asked(server) as first:
         same(is_served(first, MOST_WAIT), True, "whether the first client is served")
         limit(server, resource.RLIMIT_NOFILE, server.descriptors())

@@ -1,10 +1,10 @@
 #!/usr/bin/env python3
-"""Tries slow, rude and vanishing clients against `up serve`: what they do is to harm no other client.
+"""Tries slow, rude and vanishing clients against `up serve`: they must not harm any other client.
 
-    tests/hostile [--program PATH] [NAME..]
+    tests/hostile.py [--program PATH] [NAME..]
 
-It needs nothing but Python 3 and Linux, and takes less than a minute. A line for each case says whether it passed; the
-last line is `N passed, M failed`, and the exit status is 1 where one failed.
+It needs only Python 3 and Linux, and takes less than a minute. For each case, one line says whether it passed. The last
+line is `N passed, M failed`, and the exit status is 1 if a case failed.
 """
 import contextlib
 import fcntl
@@ -18,12 +18,13 @@ import termios
 import time
 
 from serving import (
-    MOST_WAIT, Connection, Server, at_once, below, events_of, head, patch, same, soon, try_all, words_of,
+    MOST_WAIT, UNHEARD, Connection, Server, at_once, below, events_of, head, patch, patch_in_chunks, path_of, same,
+    soon, try_all, words_of,
 )
 
 MIB = 1 << 20
 
-# How many times the seconds of fast clients alone they may take beside others, and how many seconds more.
+# How many times as long as alone a fast client may take next to others, and how many seconds more.
 MOST_TIMES = 3
 MOST_MORE = 0.5
 
@@ -35,27 +36,27 @@ def connect():
 
 
 def reset(connection):
-    """Closes a connection by a reset: what the server hasn't read yet is lost."""
+    """Closes a connection by a reset: data that the server hasn't read yet is lost."""
     connection.socket.setsockopt(socket.SOL_SOCKET, socket.SO_LINGER, struct.pack("ii", 1, 0))
     connection.socket.close()
 
 
 def filled(connection, body):
-    """The path of a new upload of these bytes, which is complete."""
+    """The path of a new, complete upload with these bytes."""
     path = connection.make(len(body))
     same(connection.append(path, 0, body).status, 204, "the status of a PATCH")
     return path
 
 
 def holds(connection, path, body):
-    """The upload has these bytes."""
+    """Checks that the upload has these bytes."""
     reply = connection.ask("GET", path)
     same(reply.status, 200, "the status of a GET")
     same(reply.body == body, True, "whether the bytes came back")
 
 
 def fast():
-    """The seconds of a fast client: 300 small PATCHes, and 8 MiB in one that are fetched back."""
+    """The seconds that a fast client takes for 300 small PATCHes, and for 8 MiB in one PATCH that it fetches back."""
     body = os.urandom(8 * MIB)
     start = time.monotonic()
     with connect() as connection:
@@ -67,12 +68,14 @@ def fast():
 
 
 def not_slowed(alone, what):
-    """Fast clients now take no longer than alone, but for the noise of a machine that has other work."""
+    """Checks that a fast client now takes no longer than alone, apart from the noise of a machine that has other
+    work."""
     below(fast(), MOST_TIMES * alone + MOST_MORE, f"seconds of a fast client {what} ({alone:.3f} alone)")
 
 
 def slow_clients():
-    """40 clients at a byte a second, half of them in a head and half in a body, don't slow a fast one and are served."""
+    """40 clients at a byte a second, half of them in a head and half in a body, don't slow a fast one, and are
+    served."""
     alone = fast()
     with connect() as connection:
         paths = [connection.make(8) for _ in range(40)]
@@ -179,7 +182,7 @@ def burst():
 
 
 def never_reads():
-    """Four clients that ask for 64 MiB and never read them slow nobody; when they drop, nothing stays behind."""
+    """Four clients that ask for 64 MiB and never read slow nobody; once they drop, nothing of them is left."""
     alone = fast()
     body = os.urandom(64 * MIB)
     with connect() as connection:
@@ -205,7 +208,8 @@ def never_reads():
 
 
 def vanish_in_a_body():
-    """20 clients vanish in a body after so many bytes: the next HEAD tells just these, and the upload is resumed there."""
+    """20 clients vanish in a body after some bytes: the next HEAD reports exactly these, and the upload is resumed
+    there."""
     draw = random.Random(7)
 
     def vanish(number):
@@ -225,7 +229,7 @@ def vanish_in_a_body():
 
 
 def reset_in_a_body():
-    """20 clients reset in a body: HEAD tells no more than what was sent, and what it tells is a front of that."""
+    """20 clients reset in a body: HEAD reports at most what was sent, and the stored bytes are a prefix of it."""
     draw = random.Random(8)
     threads = server.status("Threads")
     cut_off = []
@@ -245,13 +249,14 @@ def reset_in_a_body():
             holds(connection, path, body)
 
 
-# A POST of 75 bytes makes an upload of 11; the head of the PATCH that fills it ends behind 249 bytes, and its body
-# behind 260.
+# A POST of 75 bytes makes an upload of 11 bytes. The head of the PATCH that fills it ends after 249 bytes, and its body
+# after 260.
 POST_END, HEAD_END, BODY_END = 75, 249, 260
 
 
 def send_front(connection, count):
-    """Sends so many bytes of the two messages, the PATCH once the POST is answered; the path, where there is one."""
+    """Sends the first `count` bytes of the two messages, the PATCH once the POST is answered. Returns the path if there
+    is one."""
     post = head("POST", "/files/", {"Upload-Length": 11})
     same(len(post), POST_END, "the bytes of the POST")
     connection.send(post[:count])
@@ -267,14 +272,15 @@ def send_front(connection, count):
 
 
 def stands_behind(connection, path, count):
-    """The upload is there where the POST was whole, and has just the bytes of the body that were sent."""
+    """Checks that the upload exists if the POST was complete, and has exactly the bytes of the body that were sent."""
     if path is None:
-        return same(connection.ask("HEAD", f"/files/{count:032x}").status, 404, f"the status behind {count} bytes")
+        return same(connection.ask("HEAD", path_of(count)).status, 404, f"the status behind {count} bytes")
     same(connection.offset(path), max(0, count - HEAD_END), f"the offset behind {count} bytes")
 
 
 def half_close_behind(narrow, count):
-    """Half-closes behind so many bytes; the path. A head that breaks off is refused, a body that does has no answer."""
+    """Half-closes after `count` bytes, and returns the path. A head that breaks off is refused; a body that breaks off
+    has no answer."""
     with Connection(narrow) as connection:
         path = send_front(connection, count)
         connection.socket.shutdown(socket.SHUT_WR)
@@ -289,7 +295,7 @@ def half_close_behind(narrow, count):
 
 
 def have_arrived(connections, port):
-    """Whether the server has read all that these connections sent: nothing waits at either end."""
+    """Whether the server has read everything that these connections sent: nothing waits at either end."""
     waiting = sum(
         struct.unpack("i", fcntl.ioctl(connection.socket, termios.TIOCOUTQ, bytes(4)))[0] for connection in connections
     )
@@ -300,14 +306,15 @@ def have_arrived(connections, port):
 
 
 def events_behind(count):
-    """What the report is to tell of an upload whose two messages broke off behind so many bytes."""
+    """The events of an upload whose two messages broke off after `count` bytes."""
     offset = max(0, count - HEAD_END)
     told = ["1 post-create 0/11 done", f"2 post-receive {offset}/11 done", "3 post-finish 11/11 done"]
     return told[: 1 + (offset > 0) + (offset == 11)]
 
 
 def break_off_anywhere():
-    """A POST and a PATCH break off behind each byte, by half-closes and by resets: just what came is kept and told."""
+    """A POST and a PATCH break off after each byte, by half-closes and by resets: exactly what came is kept and
+    reported."""
     counts = range(BODY_END + 1)
     size = len(counts)
     with Server(program, "--connections", str(3 * size + 2)) as narrow:
@@ -343,9 +350,7 @@ def vanish_in_chunks():
     for sent, offset in ((b"5\r\nabcde\r\n", 5), (b"5\r\nabcde\r\n5\r\nfg", 7), (b"5\r\nab", 2)):
         with connect() as connection:
             path = connection.make(10)
-            media = "application/offset+octet-stream"
-            fields = {"Content-Type": media, "Upload-Offset": 0, "Transfer-Encoding": "chunked"}
-            connection.send(head("PATCH", path, fields) + sent)
+            connection.send(patch_in_chunks(path) + sent)
             connection.socket.shutdown(socket.SHUT_WR)
             same(connection.is_closed(), True, "whether the server closes without an answer")
         with connect() as connection:
@@ -353,7 +358,7 @@ def vanish_in_chunks():
 
 
 def drop_in_a_head():
-    """A connection that drops in a head changes nothing for another that stands beside it."""
+    """A connection that drops in a head changes nothing for another connection."""
     with connect() as other:
         path = other.make(10)
         for number in range(10):
@@ -366,7 +371,7 @@ def drop_in_a_head():
 
 
 def begun_after():
-    """What a first connection was told, a second sees that is begun after the reply."""
+    """A second connection, begun after a reply to the first, sees what the first was told."""
     for number in range(200):
         body = b"%03d" % number
         with connect() as first:
@@ -379,7 +384,7 @@ def begun_after():
 
 
 def rivals():
-    """Eight clients append to one upload at the same offsets: just one of them wins each time."""
+    """Eight clients append to one upload at the same offsets: exactly one of them wins each time."""
     size = 200
     with connect() as connection:
         path = connection.make(size)
@@ -419,7 +424,7 @@ def half_closed():
 
 
 def nonsense():
-    """What is no message is answered with its status, and closes its own connection alone."""
+    """Data that is no message is answered with its status, and closes only its own connection."""
     with connect() as other:
         path = other.make(3)
         for message, status in (
@@ -439,7 +444,7 @@ def nonsense():
 
 
 def refused_unread():
-    """A client whose body is refused unread gets the answer, though it sends 8 MiB of it before it reads."""
+    """A client whose body is refused unread gets the answer, though it sends 8 MiB of the body before it reads."""
     with connect() as connection:
         path = connection.make(3)
     for _ in range(20):
@@ -454,13 +459,13 @@ def larger(path, chunked):
     """A PATCH of 8 MiB."""
     if not chunked:
         return patch(path, 0, 8 * MIB) + bytes(8 * MIB)
-    fields = {"Content-Type": "application/offset+octet-stream", "Upload-Offset": 0, "Transfer-Encoding": "chunked"}
     chunk = b"10000\r\n" + bytes(0x10000) + b"\r\n"
-    return head("PATCH", path, fields) + 128 * chunk + b"0\r\n\r\n"
+    return patch_in_chunks(path) + 128 * chunk + b"0\r\n\r\n"
 
 
 def larger_than_taken():
-    """Eight clients send 8 MiB to a server that takes 1 MiB, four of them in chunks: each gets its 413 whole, then the end."""
+    """Eight clients send 8 MiB to a server that takes 1 MiB, four of them in chunks: each gets its whole 413, then the
+    end."""
     wanted = b"5 BodyTooLarge\n"
     with Server(program, size=MIB) as narrow:
 
@@ -480,7 +485,8 @@ def larger_than_taken():
 
 
 def closed_but_held():
-    """A client that doesn't close a connection that the server has closed keeps its place for two seconds, and no longer."""
+    """A client that doesn't close a connection that the server has closed keeps its place for two seconds, and no
+    longer."""
     with Server(program, "--open", "1") as narrow:
         with Connection(narrow) as first, Connection(narrow) as second:
             first.send(b"nonsense\n")
@@ -491,7 +497,7 @@ def closed_but_held():
 
 
 def dropped_on_and_on():
-    """A client that is refused and sends a byte five times a second behind that keeps its place for two seconds, too."""
+    """A client that is refused and then sends a byte five times a second also keeps its place for only two seconds."""
     with Server(program, "--open", "1") as narrow:
         with Connection(narrow) as first, Connection(narrow) as second:
             first.send(b"nonsense\n")
@@ -506,8 +512,8 @@ def dropped_on_and_on():
 
 
 def lost_patience():
-    """With `--patience 1` clients lose their places that are silent, at once, in a head, in a body or behind a request, or that
-    don't read; what came of the body stays."""
+    """With `--patience 1` clients lose their places if they are silent, at once, in a head, in a body or after a
+    request, or if they don't read; the bytes that came of the body stay."""
     with Server(program, "--patience", "1", "--open", "5") as narrow:
         with Connection(narrow) as connection:
             large = filled(connection, bytes(64 * MIB))
@@ -530,8 +536,8 @@ def lost_patience():
 
 
 def too_slow():
-    """With `--least-rate 1000` a body at 100 bytes a second is ended after ten seconds, and what came of it stays; one at 2,000
-    bytes a second goes on, and so does a client that asks for little, but seldom."""
+    """With `--least-rate 1000` a body at 100 bytes a second is ended after ten seconds, and its bytes stay; one at
+    2,000 bytes a second continues, and so does a client that asks for little, but seldom."""
     with Server(program, "--least-rate", "1000") as other, Connection(other) as asking:
         paths = [asking.make(40_000) for _ in range(2)]
 
@@ -562,15 +568,14 @@ def too_slow():
 
 
 def events_unheard():
-    """If the reader of the events' lines has gone, the server serves on, and says so once."""
+    """If the reader of the lines of events has gone, the server continues to serve, and says so once."""
     with Server(program, "--events", unheard=True) as other:
         with Connection(other) as connection:
             for number in range(100):
                 body = b"%04d" % number
                 holds(connection, filled(connection, body), body)
         other.process.kill()
-        said = b"up_server: events can't be written: whoever reads them is gone\n"
-        same(other.process.stderr.read(), said, "what it says on standard error")
+        same(other.process.stderr.read(), UNHEARD, "what it says on standard error")
 
 
 CASES = [

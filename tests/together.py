@@ -1,19 +1,19 @@
 #!/usr/bin/env python3
-"""Has many clients at once talk to `up serve`, and holds what they are told, and the report, to a plain count.
+"""Has many clients talk to `up serve` at once, and compares the replies and the report with a plain count.
 
-    tests/together [--program PATH] [NAME..]
+    tests/together.py [--program PATH] [NAME..]
 
-It needs nothing but Python 3 and Linux, and takes less than ten seconds. The gate, `.ci/run`, runs it with the program that it
+It needs only Python 3 and Linux, and takes less than ten seconds. The gate, `.ci/run`, runs it with the program that it
 has built.
 
-Each case has a server of its own, with three lanes whose queues hold one event each, which ends behind a number of
-connections. Each client notes in the count what it does. Each reply must be what the count says, byte for byte; the
-server must end with status 0; and its report must have the count's number of accepted changes, and of each lane how
-many events it handed over. The events of each upload must stand there, each once and in order: as lines that `--events`
+Most cases have a server of their own, with three lanes whose queues hold one event each, which ends after a number of
+connections. Each client notes in the count what it does. Each reply must be what the count says, byte for byte. The
+server must end with status 0, and its report must have the count's number of accepted changes, and the number of events
+that each lane handed over. The events of each upload must be there, each once and in order: as lines that `--events`
 wrote meanwhile, or else in the report, in their lane.
 
-A line for each case says whether it passed; the last line is `N passed, M failed`, and the exit status is 1 where one
-failed.
+For each case, one line says whether it passed. The last line is `N passed, M failed`, and the exit status is 1 if a
+case failed.
 """
 import contextlib
 import os
@@ -25,19 +25,16 @@ import threading
 import time
 
 from serving import (
-    MAX_SIZE, MOST_WAIT, Connection, Server, at_once, below, events_of, head, patch, same, soon, try_all, words_of,
+    MAX_SIZE, MEDIA_TYPE, MOST_WAIT, NOWHERE, Connection, Server, at_once, below, events_of, head, patch,
+    patch_in_chunks, same, soon, try_all, words_of,
 )
 
 MIB = 1 << 20
 
-# How many lanes hand events over.
+# The number of lanes.
 LANES = 3
 
-# The path of an upload that there never is.
-NOWHERE = "/files/" + 32 * "0"
-
-
-# What clients must be answered.
+# The expected replies.
 
 
 def text(status, *fields, body=""):
@@ -52,7 +49,7 @@ def stored(offset):
 
 
 def what_is_served(size):
-    """The reply to OPTIONS of a server that takes uploads of so many bytes."""
+    """The reply to OPTIONS of a server whose largest upload has this size."""
     extensions = "creation,creation-defer-length,termination,concatenation"
     return text("204 No Content", "Tus-Version: 1.0.0", f"Tus-Extension: {extensions}", f"Tus-Max-Size: {size}")
 
@@ -73,8 +70,8 @@ DECLARED_TOO_LONG = text(TOO_LARGE, REFUSED, "Content-Length: 19", body="37 Decl
 
 
 class Upload:
-    """An upload, how often it was changed, and its events. It is changed by one client at a time, and its length may be
-    none, where that isn't known."""
+    """An upload, the number of its changes, and its events. Only one client changes it at a time. Its length is None
+    while it is unknown."""
 
     def __init__(self, length):
         self.length = length
@@ -88,7 +85,7 @@ class Upload:
         self.events.append(f"{len(self.events) + 1} {hook} {len(self.body)}/{length} done")
 
     def change(self, hook):
-        """One change more, with its event, and the last event where all bytes are there by it."""
+        """Counts a change with its event, and adds the last event if all bytes are there now."""
         self.changes += 1
         self.tell(hook)
         if self.is_there and len(self.body) == self.length:
@@ -96,7 +93,8 @@ class Upload:
 
 
 class Count:
-    """What clients have done, by the paths of the uploads. `create` to `remove` answer what must be replied."""
+    """What clients have done, by the paths of the uploads. The methods from `create` to `remove` return the expected
+    reply."""
 
     def __init__(self):
         self.uploads = {}
@@ -125,7 +123,7 @@ class Count:
         return text("200 OK", f"Upload-Offset: {len(upload.body)}", f"Upload-Length: {upload.length}")
 
     def fetch(self, path):
-        """The reply where the upload is there and complete."""
+        """The reply if the upload exists and is complete."""
         body = self.uploads[path].body
         media = "Content-Type: application/octet-stream"
         return text("200 OK", media, f"Content-Length: {len(body)}", body=body.decode())
@@ -139,18 +137,18 @@ class Count:
         return text("204 No Content")
 
     def accepted(self):
-        """How many changes were accepted."""
+        """The number of accepted changes."""
         return sum(upload.changes for upload in self.uploads.values())
 
     def stands(self, connections, waiting=LANES * (0,)):
-        """What a server says of how it stands, where so many connections are open, and so many events of each lane wait."""
+        """The line of `--status`, with this number of open connections, and of events that wait in each lane."""
         there = [upload for upload in self.uploads.values() if upload.is_there]
         lanes = [f", lane {lane} drains ({count} waiting)" for lane, count in enumerate(waiting)]
         counts = f"uploads {len(there)}, bytes {sum(len(upload.body) for upload in there)}, changes {self.accepted()}"
         return f"up_server: {counts}, connections {connections}{''.join(lanes)}\n"
 
     def events(self, lane=None):
-        """The events of each upload of a lane, or of all."""
+        """The events of each upload of a lane, or of all lanes."""
         return {path: upload.events for path, upload in self.uploads.items() if lane in (None, lane_of(path[-32:]))}
 
 
@@ -159,11 +157,11 @@ def lane_of(upload):
     return int(upload, 16) % LANES
 
 
-# Clients and servers that are held to it.
+# Clients and servers that are compared with the count.
 
 
 class Client(Connection):
-    """A connection whose replies are held to the count. A slow one sends a byte at a time."""
+    """A connection whose replies are compared with the count. A slow one sends a byte at a time."""
 
     def __init__(self, server, count, slow=False):
         super().__init__(server)
@@ -176,7 +174,7 @@ class Client(Connection):
             super().send(message[start : start + size])
 
     def created(self, length):
-        """The path of the upload of this length of which the next reply tells."""
+        """The path of the new upload, of this length, that the next reply reports."""
         whole = self.reply().whole
         found = re.search(rb"\r\nLocation: (/files/[0-9a-f]{32})\r\n", whole)
         same(found is not None, True, f"whether {whole!r} tells of a new upload")
@@ -190,7 +188,7 @@ class Client(Connection):
         return self.created(length)
 
     def hear(self, message, reply):
-        """Sends a message, and hears just this."""
+        """Sends a message, and expects exactly this reply."""
         self.send(message)
         same(self.take(len(reply)), reply, f"the reply to {message[:60]!r}")
 
@@ -208,29 +206,30 @@ class Client(Connection):
         same(self.ask("DELETE", path).whole, self.count.remove(path), "the reply to a DELETE")
 
     def wins(self, path, offset, byte):
-        """Sends a byte for an offset for which others compete; whether it was stored. The count isn't told."""
+        """Sends a byte for an offset for which others compete, and returns whether it was stored. The count isn't
+        changed."""
         whole = self.append(path, offset, byte).whole
         same(whole in (stored(offset + 1), WRONG_OFFSET), True, f"whether {whole!r} is a reply to one of many")
         return whole != WRONG_OFFSET
 
     def break_off(self):
-        """The path of a new upload, of whose ten bytes four are sent, in a message that says all ten."""
+        """The path of a new upload, after a PATCH that announces ten bytes and sends four."""
         path = self.create(10)
         self.send(patch(path, 0, 10) + b"abcd")
         self.count.append(path, 0, b"abcd")
         return path
 
     def end(self, behind=b""):
-        """Sends no more, and sees the connection closed with just this behind the last reply."""
+        """Stops sending, and checks that the connection closes with exactly this after the last reply."""
         self.socket.shutdown(socket.SHUT_WR)
         same(self.take(len(behind) + 1), behind, "what comes behind the last reply")
 
 
 @contextlib.contextmanager
 def served(connections, most_open, size=MAX_SIZE, more=(), lines=True):
-    """A server of so many connections, of which so many may be open, and of uploads of this size, and the count that it
-    is held to at its end. It writes its events as lines, or keeps them for its report. If more words than these are
-    given, what it says on standard error isn't looked at."""
+    """A server that ends after this number of connections, of which `most_open` may be open at a time, and whose
+    largest upload has this size; and the count with which the server is compared at its end. The server writes its
+    events as lines, or keeps them for its report. With `more` words, its standard error isn't checked."""
     words = ["--connections", connections, "--open", most_open, "--lanes", LANES, "--capacity", 1]
     words += ["--events"] * lines + [*more]
     count = Count()
@@ -243,8 +242,8 @@ def served(connections, most_open, size=MAX_SIZE, more=(), lines=True):
 
 
 def hold_output(output, count, with_lines):
-    """Holds what a server has written to the count: the lines of `--events`, if it wrote them, and the report behind an
-    empty line, which has the events if it didn't."""
+    """Compares what a server has written with the count: the lines of `--events`, if it wrote them, and the report
+    after an empty line, which has the events if the server wrote no lines."""
     written, _, report = output.partition("\naccepted ")
     same(with_lines or not written, True, "whether nothing stands before the report")
     accepted, *lines = report.split("\n")
@@ -290,12 +289,12 @@ def dropped_head():
             second.end()
 
 
-# How many clients of `together` there are, and how many bytes the upload has to which all of them append.
+# The number of clients of `together`, and of bytes in the upload to which all of them append.
 CLIENTS = 16
 SHARED = 16
 
-# Which of them sends a byte at a time, which sends what is no message, which is gone within a body, and which sends no
-# more within a body and waits for the end.
+# The numbers of the clients that send a byte at a time, send no message at all, leave within a body, and stop sending
+# within a body and wait for the end.
 SLOW, CONFUSED, GONE, SILENT = 3, 6, 9, 12
 
 
@@ -305,7 +304,7 @@ def letter(number):
 
 
 def grow(client, more):
-    """The path of an upload of three bytes and so many more, brought to its end, with a late PATCH on the way."""
+    """The path of a new upload of `3 + more` bytes, which is filled, with a PATCH at an old offset on the way."""
     path = client.create(3 + more)
     client.put(path, 0, b"abc")
     client.look(path)
@@ -317,7 +316,7 @@ def grow(client, more):
 
 
 def clear(client, path):
-    """Removes an upload, and finds that it is gone."""
+    """Removes an upload, and checks that it is gone."""
     client.remove(path)
     client.look(path)
     client.put(path, 0, b"abc")
@@ -336,7 +335,7 @@ def compete(client, number, shared, meeting, winners):
 
 
 def leave(client, number, broken_off):
-    """How a client ends: most of them send no more. Notes the upload that it leaves within a body."""
+    """Ends a client: most of them stop sending. Notes the upload that the client leaves within a body."""
     if number in (GONE, SILENT):
         broken_off.append(client.break_off())
     if number == CONFUSED:
@@ -346,7 +345,7 @@ def leave(client, number, broken_off):
 
 
 def resume(client, path):
-    """Looks at an upload that was broken off, once the server has seen that, and brings it to its end."""
+    """Looks at an upload that was broken off, once the server has noticed that, and completes it."""
     soon(lambda: client.offset(path) == 4, "the bytes that came of a body are stored")
     client.look(path)
     client.put(path, 4, b"efghij")
@@ -354,7 +353,8 @@ def resume(client, path):
 
 
 def together(lines=True):
-    """Sixteen clients at once, each with uploads of its own, and one that all share: one wins each of its offsets."""
+    """Sixteen clients work at once, each with its own uploads and with one that all share: one wins each of its
+    offsets."""
     winners = [[] for _ in range(SHARED)]
     broken_off = []
     meeting = threading.Barrier(CLIENTS)
@@ -384,16 +384,16 @@ def together(lines=True):
 
 
 def reported():
-    """The same, by a server that keeps its events for the report."""
+    """The same is true of a server that keeps its events for the report."""
     together(lines=False)
 
 
-# How many clients of `crowd` there are, how often each of them comes, and how many may be open at a time.
+# The number of clients of `crowd`, of visits of each, and of connections that may be open at a time.
 CROWD, TIMES, MOST_OPEN = 8, 5, 4
 
 
 def crowd():
-    """Eight clients come five times each, where four may be open at a time, and go on with what they have begun."""
+    """Eight clients come five times each, four may be open at a time, and each continues what it has begun."""
     open_now = []
     with served(CROWD * TIMES, MOST_OPEN) as (server, count):
 
@@ -413,20 +413,18 @@ def crowd():
         at_once(come_often, CROWD)
 
 
-# How many clients of `largest` there are, and how many bytes more than the largest size some of their bodies have.
+# The number of clients of `largest`, and by how many bytes some of their bodies exceed the largest size.
 LARGE = 8
 FAR_MORE = 8 * MIB
 
 
 def in_chunks(path, body):
     """A PATCH whose body comes in one chunk."""
-    media = "application/offset+octet-stream"
-    fields = {"Content-Type": media, "Upload-Offset": 0, "Transfer-Encoding": "chunked"}
-    return head("PATCH", path, fields) + b"%x\r\n" % len(body) + body + b"\r\n0\r\n\r\n"
+    return patch_in_chunks(path) + b"%x\r\n" % len(body) + body + b"\r\n0\r\n\r\n"
 
 
 def fill(client, size):
-    """Uploads of just the size pass, with their length known and without, and of one byte more don't."""
+    """Uploads of exactly the largest size are accepted, with and without a known length; one byte more is refused."""
     body = b"x" * size
     client.hear(head("OPTIONS", "/files/", {}), what_is_served(size))
     client.hear(head("POST", "/files/", {"Upload-Length": size + 1}), TOO_LONG)
@@ -436,12 +434,13 @@ def fill(client, size):
     path = client.create(None)
     client.put(path, 0, body)
     client.hear(patch(path, size, 1) + b"x", TOO_MUCH)
-    named = {"Content-Type": "application/offset+octet-stream", "Upload-Offset": size, "Upload-Length": size + 1}
+    named = {"Content-Type": MEDIA_TYPE, "Upload-Offset": size, "Upload-Length": size + 1}
     client.hear(head("PATCH", path, named), DECLARED_TOO_LONG)
 
 
 def overflow(client, size, number):
-    """Sends a body that is too large, by a byte or by many, with its length or in a chunk, before it hears that."""
+    """Sends a body that is too large, by one byte or by many, with its length or in a chunk, and then reads the
+    refusal."""
     path = client.create(None)
     body = b"x" * (size + (1 if number % 4 < 2 else FAR_MORE))
     message = in_chunks(path, body) if number % 2 else patch(path, 0, len(body)) + body
@@ -450,7 +449,8 @@ def overflow(client, size, number):
 
 
 def largest():
-    """Eight clients send bodies and make uploads of just the largest size, which pass, and larger ones, which are 413."""
+    """Eight clients send bodies and make uploads of exactly the largest size, which is accepted, and larger ones:
+    413."""
     for size in (5, MIB):
         with served(LARGE, LARGE, size) as (server, count):
 
@@ -462,20 +462,20 @@ def largest():
             at_once(visit, LARGE)
 
 
-# How many bodies of how many bytes `many_bodies` appends to an upload, and the largest size of its uploads. A body of so many
-# bytes is kept as it came, and a smaller one is copied.
+# The number of bodies that `many_bodies` appends to an upload, their bytes, and the largest size of its uploads. A body
+# of this size is kept as it came, and a smaller one is copied.
 BODIES = 96
 KEPT_BODY = 16_384
 OF_BODIES = 4 * MIB
 
 
 def numbered(number, size=KEPT_BODY):
-    """A body that tells which one it is, and which bytes of it."""
+    """A body whose bytes show its number and their place in it."""
     return b"".join(b"%04d%04x" % (number, place) for place in range(size // 8))
 
 
 def lay_bodies(client, path, first):
-    """Appends bodies one after another, each tenth of which is sent to a wrong offset before; how many bytes they have."""
+    """Appends bodies one after another, every tenth at a wrong offset first, and returns their bytes in all."""
     for number in range(first, first + BODIES):
         offset = (number - first) * KEPT_BODY
         if number % 10 == 0:
@@ -485,8 +485,8 @@ def lay_bodies(client, path, first):
 
 
 def many_bodies():
-    """Bodies of one upload come over one connection, then those of another, a small one, and one that breaks off: the bytes
-    are right, also after the first upload is removed."""
+    """Bodies of one upload come over one connection, then those of another, a small one, and one that breaks off: the
+    bytes are right, also after the first upload is removed."""
     with served(2, 2, OF_BODIES) as (server, count):
         with Client(server, count) as client:
             first, second = client.create(BODIES * KEPT_BODY), client.create(OF_BODIES)
@@ -509,13 +509,13 @@ def many_bodies():
             client.end()
 
 
-# The seconds in which a server is watched that has nothing to do, and the most processor time that it may take.
+# The seconds for which an idle server is watched, and the most processor time that it may take.
 IDLE = 2
 MOST_WORK = 0.1
 
 
 def asleep():
-    """A server that has served, and that clients keep waiting within a head, a body and between two messages, sleeps."""
+    """A server sleeps after it has served, while clients wait within a head, within a body and between two messages."""
     with served(3, 3) as (server, count), Client(server, count) as first:
         path = first.create(10)
         grow(first, 7)
@@ -537,7 +537,8 @@ def asleep():
 
 
 def hear(server, line):
-    """Waits for this line on standard error. Those before it say how the server stood; the seconds until it came."""
+    """Waits for this line on standard error, and returns the seconds until it came. The lines before it must be lines
+    of `--status`."""
     start = time.monotonic()
     while time.monotonic() - start < MOST_WAIT:
         select.select([server.process.stderr], [], [], MOST_WAIT)
@@ -549,7 +550,7 @@ def hear(server, line):
 
 
 def status():
-    """With `--status 1` it is said each second how the server stands, and once at the end."""
+    """With `--status 1` the server reports its state each second, and once at the end."""
     with served(3, 3, more=("--status", 1)) as (server, count):
         hear(server, count.stands(0))
         with Client(server, count) as first, Client(server, count) as second, Client(server, count) as third:
@@ -573,7 +574,7 @@ def status():
 
 
 def status_of_waiting():
-    """Where nobody reads the lines of events, these wait, and are counted; no request waits."""
+    """If nobody reads the lines of events, the events wait and are counted, and no request waits."""
     reader, writer = os.pipe()
     os.set_blocking(writer, False)
     with contextlib.suppress(BlockingIOError):

@@ -1,17 +1,21 @@
 #!/usr/bin/env python3
-"""Holds what the documents say to the sources that they say it of: the tables of crates and modules, and the list of
-definitions, of docs/ARCHITECTURE.md; the words and their limits of docs/RUNNING.md; the refusals of docs/PROTOCOL.md;
-and links and the length of lines in all of them.
+"""Compares the documents with the sources: the tables of crates and modules and the list of definitions in
+docs/ARCHITECTURE.md, the words and their limits in docs/RUNNING.md, and the refusals in docs/PROTOCOL.md. It checks the
+links and the length of lines in all documents. It also compares the drawn data of the crates with what the generators
+draw.
 
-    tests/documents [NAME..]
+    tests/documents.py [NAME..]
 
-It needs nothing but Python 3, and takes less than a second. The gate, `.ci/run`, runs it.
+It needs only Python 3, and takes a second or two. The gate, `.ci/run`, runs it.
 
-A line for each case says whether it passed; the last line is `N passed, M failed`, and the exit status is 1 where one
-failed.
+For each case, one line says whether it passed. The last line is `N passed, M failed`, and the exit status is 1 if a
+case failed.
 """
+import argparse
+import itertools
 import pathlib
 import re
+import subprocess
 import sys
 
 from serving import ROOT, same, try_all
@@ -22,11 +26,14 @@ CRATES = TOP / "crates"
 # Crates that have no table of modules: programs that try others, tests, and the texts for these.
 UNLISTED = {"up_escape", "up_example", "up_refusals", "up_rows", "up_talks"}
 
-# Files of definitions that docs/ARCHITECTURE.md names together, since no public contract shows what is in them.
+# Files of definitions that docs/ARCHITECTURE.md names together, since no public contract shows their content.
 HIDDEN = {"Kept", "Fits", "Stored", "Padded", "Inside", "Steps", "Shapes", "StateCode", "StandingCode", "TiedCode", "LawfulOnce"}
 
-# Words of the command line whose numbers no table bounds.
+# Words of the command line whose numbers no table limits.
 ENDLESS = {"max-length", "max-finish"}
+
+# The files of drawn data, each with the script that draws it.
+DRAWN = {"crates/up_talks/data/drawn": "tests/draw_talks.py", "crates/up_rows/data/drawn": "tests/draw_rows.py"}
 
 
 def text_of(name):
@@ -34,18 +41,18 @@ def text_of(name):
 
 
 def crates():
-    """The crates of crates.txt but for those of tests."""
+    """The crates of crates.txt, without those of tests."""
     found = re.findall(r"^(up\w*)(?: [^:\n]*)?:", text_of("crates.txt"), re.MULTILINE)
     return [name for name in found if not name.endswith("_tests")]
 
 
 def first_cells(lines):
-    """What stands in the first column of the rows of a table."""
+    """The first column of the rows of a table."""
     return [line.split("|")[1].strip() for line in lines if line.startswith("|") and not line.startswith("|---")]
 
 
 def named(text):
-    """What stands between backquotes."""
+    """The texts between backquotes."""
     return re.findall(r"`([^`]+)`", text)
 
 
@@ -59,7 +66,7 @@ def each_crate():
 
 
 def each_module():
-    """ARCHITECTURE's tables of modules have those that there are."""
+    """ARCHITECTURE's tables have exactly the modules of each library."""
     page = text_of("docs/ARCHITECTURE.md")
     tables = {}
     for head in re.finditer(r"^\| module of `(\w+)`.*\n\|---.*\n((?:\|.*\n)+)", page, re.MULTILINE):
@@ -104,7 +111,7 @@ def each_word():
 
 
 def statuses(path, function):
-    """The cases of a definition that gives a status for each fault."""
+    """The cases of a definition that maps each fault to a status."""
     found = re.findall(rf"^{function} \(?(?:\w+\.)?(\w+)[^=\n]*= (?:Some |refused_with )?(\d+)", text_of(path), re.MULTILINE)
     return {name: int(status) for name, status in found}
 
@@ -126,20 +133,34 @@ def documents():
 
 
 def each_link():
-    """What a document links to is there."""
+    """The targets of all links in the documents exist."""
     for path in documents():
         for target in re.findall(r"\]\(([^)#:]+)(?:#[^)]*)?\)", path.read_text(encoding="utf-8")):
             same((path.parent / target).exists(), True, f"whether {path.name} links to what is there: {target}")
 
 
 def each_line():
-    """No line of a document is over 120 columns, but for rows of tables, code and drawings."""
+    """No line of a document is over 120 columns, except for rows of tables, code and drawings."""
     for path in documents():
         plain = re.sub(r"^```.*?^```$", "", path.read_text(encoding="utf-8"), flags=re.MULTILINE | re.DOTALL)
         for line in plain.splitlines():
             same(len(line) <= 120 or line.startswith(("|", "  |", "    ")), True, f"whether {path.name} has no long line: {line}")
 
 
+def each_drawn():
+    """Each file of drawn data is what its generator draws."""
+    for name, script in DRAWN.items():
+        drawn = subprocess.run([sys.executable, TOP / script], stdout=subprocess.PIPE, check=True).stdout
+        stored = (TOP / name).read_bytes()
+        if drawn == stored:
+            continue
+        pairs = itertools.zip_longest(drawn.splitlines(keepends=True), stored.splitlines(keepends=True))
+        number, (new, old) = next((at, pair) for at, pair in enumerate(pairs, 1) if pair[0] != pair[1])
+        same(new, old, f"line {number} that {script} draws, and of {name}")
+
+
 if __name__ == "__main__":
-    CASES = [each_crate, each_module, each_definition, each_word, each_refusal, each_link, each_line]
-    sys.exit(try_all(CASES, sys.argv[1:]))
+    CASES = [each_crate, each_module, each_definition, each_word, each_refusal, each_link, each_line, each_drawn]
+    given = argparse.ArgumentParser(description=__doc__, formatter_class=argparse.RawDescriptionHelpFormatter)
+    given.add_argument("names", nargs="*", metavar="NAME", help="the cases to be tried, instead of all")
+    sys.exit(try_all(CASES, given.parse_args().names))

@@ -1,15 +1,15 @@
 #!/usr/bin/env python3
-"""Has a browser upload through nginx, as examples/browser has it, from a page of the same origin and of another.
+"""Has a browser upload through nginx, as in examples/browser, from a page of the same origin and of another.
 
-    tests/browser [--program PATH] [NAME..]
+    tests/browser.py [--program PATH] [NAME..]
 
-It needs Debian's `chromium`, `chromium-driver`, `nginx-light` and `openssl`. What isn't there is said, and everything is
-passed over. It takes a minute, and reaches nothing but the loopback. Pictures of an upload that runs, of one that was resumed
-and of one that is refused are in tests/out afterwards.
+It needs Debian's `chromium`, `chromium-driver`, `nginx-light` and `openssl`. If one is missing, the script says so and
+skips everything. It takes a minute, and reaches nothing but the loopback. Afterwards, tests/out has pictures of an
+upload that runs, of one that was resumed and of one that is refused.
 
-A file of 50 MiB goes in parts over a slow network, is paused, found again by a page that was loaded anew, resumed, and
-fetched back. The lines of `--events` must be those of what the page did, each once and in order. A line for each case says
-whether it passed; the last line is `N passed, M failed`, and the exit status is 1 where one failed.
+A file of 50 MiB is uploaded in parts over a slow network, paused, found again by the page after a reload, resumed, and
+fetched back. The lines of `--events` must be those of what the page did, each once and in order. For each case, one
+line says whether it passed. The last line is `N passed, M failed`, and the exit status is 1 if a case failed.
 """
 import base64
 import contextlib
@@ -22,16 +22,16 @@ import time
 
 from driven import Browser
 from fronted import EXAMPLE, Front, Secure, asking, doorman, replaced
-from serving import ROOT, Connection, Server, below, events_of, free_port, same, soon, try_all, words_of
+from serving import ROOT, Connection, Server, below, events_of, free_port, numbered, same, soon, try_all, words_of
 
 NEEDED = {"chromium": "chromium", "chromedriver": "chromium-driver", "nginx": "nginx-light", "openssl": "openssl"}
 PICTURES = os.path.join(ROOT, "tests", "out")
 
-# The bytes of a file that goes in parts, and into how many; of one that goes in one piece; and those that the slow network
-# carries each second.
+# The bytes of a file that is uploaded in parts, and the number of parts; the bytes of one that is uploaded in one
+# piece; and the bytes that the slow network carries each second.
 LARGE, PARTS, SMALL, SLOW = 50 << 20, 4, 300_000, 6_000_000
 
-# Names of files that take two to four bytes for a letter.
+# File names whose letters take two to four bytes.
 NAME, OTHER_NAME = "Überblick – Říjen ☀.zip", "報告 🐟.bin"
 
 # The most lines that the page's script may have.
@@ -41,8 +41,8 @@ ORIGIN, PLACE = '"https://page.example"', 'data-uploads="/files"'
 
 
 class Stage:
-    """A server that writes events, nginx before it, and the page in the browser: of the same origin, of the other one that
-    nginx lets in, or of a stranger."""
+    """A server that writes events, nginx in front of it, and the page in the browser: of the same origin, of the other
+    origin that nginx lets in, or of a stranger's."""
 
     def __init__(self, *words, origin="same", changes=(), size=1 << 30):
         self.words, self.origin, self.changes, self.size = words, origin, list(changes), size
@@ -76,7 +76,7 @@ class Stage:
         )
 
     def write_page(self):
-        """The page of the other origin, which uploads to the one of nginx."""
+        """Writes the page of the other origin, which uploads to nginx's."""
         with open(os.path.join(EXAMPLE, "index.html"), encoding="utf-8") as file:
             text = replaced(file.read(), PLACE, f'data-uploads="{self.files}"')
         with open(os.path.join(self.pages, "index.html"), "w", encoding="utf-8") as file:
@@ -86,7 +86,7 @@ class Stage:
         return events_of(self.server.output())
 
     def parts(self):
-        """The paths of what the page is uploading, as it has the browser keep them."""
+        """The paths of the uploads of the page, as the browser stores them for the page."""
         (kept,) = browser.run("return Object.values(localStorage).map((kept) => JSON.parse(kept)[2])")
         return [part["url"] for part in kept]
 
@@ -95,7 +95,7 @@ class Stage:
             return [connection.offset(path) for path in paths]
 
     def fetched(self, called=NAME):
-        """The path of what the page says is uploaded, its bytes, and the fields that a HEAD tells."""
+        """The path of the upload that the page shows as done, its bytes, and the fields of a HEAD."""
         href, name = browser.run("const link = document.querySelector('.open'); return [link.href, link.download]")
         same(name, called, "the name under which it is saved")
         path = "/files" + href.removeprefix(self.files)
@@ -106,7 +106,7 @@ class Stage:
 
 
 def file_of(size):
-    """The path of a file of so many bytes, of which no piece is like another, and these."""
+    """A new file of this size, no part of which is like another: its path, and its bytes."""
     body = os.urandom(size)
     path = os.path.join(folder, NAME)
     with open(path, "wb") as file:
@@ -115,7 +115,7 @@ def file_of(size):
 
 
 def metadata(name):
-    """What a HEAD tells of a file that is called so."""
+    """The metadata that a HEAD reports for a file of this name."""
     return f"filename {base64.b64encode(name.encode()).decode()}"
 
 
@@ -128,26 +128,23 @@ def said():
 
 
 def says(words):
-    """Waits until the page says this of the upload."""
+    """Waits until the page says this about the upload."""
     soon(lambda: said() == words, f"the page says {words!r}, and not {said()!r}")
 
 
 def reaches(share):
-    """Waits until the bar has gone so far."""
+    """Waits until the bar has passed this share."""
     soon(lambda: browser.run("return document.querySelector('.bar').value") > share, f"the bar is beyond {share}")
 
 
-def numbered(events):
-    return [f"{number} {event} done" for number, event in enumerate(events, 1)]
-
-
 def received(lines):
-    """The offsets that were reached, by the lines of an upload."""
+    """The offsets that the lines of an upload report."""
     return [int(found[1]) for line in lines if (found := re.search(r" post-receive (\d+)/", line))]
 
 
 def hold_course(lines, length, *ends):
-    """Holds the lines of an upload to those of one that got all its bytes, some at a time; how often it got some."""
+    """Checks that the lines of an upload are those of one that got all its bytes, in pieces. Returns the number of
+    pieces."""
     offsets = received(lines)
     same(offsets, sorted(set(offsets)), "the offsets that were reached, in order")
     came = [f"post-receive {offset}/{length}" for offset in offsets]
@@ -158,8 +155,8 @@ def hold_course(lines, length, *ends):
 
 
 def hold_events(events, parts, final, stopped):
-    """Holds the events of an upload in parts to what the page did: it asked whether it would be taken, uploaded the parts,
-    which had come to these offsets when it stopped, joined them, and removed them."""
+    """Compares the events of an upload in parts with what the page did. The page asked whether the upload would be
+    taken, uploaded the parts, which had these offsets when it stopped, joined them, and removed them."""
     events = dict(events)
     same(events.pop(final), numbered(f"{hook} {LARGE}/{LARGE}" for hook in ("post-create", "post-finish")), "the final's")
     for path, offset in zip(parts, stopped):
@@ -170,7 +167,7 @@ def hold_events(events, parts, final, stopped):
 
 
 def upload_in_parts(stage, pictures):
-    """Uploads a large file, and stops, loads the page anew and goes on meanwhile."""
+    """Uploads a large file, and stops, reloads the page and continues on the way."""
     path, body = file_of(LARGE)
     browser.network(SLOW)
     choose(path)
@@ -204,7 +201,8 @@ def upload_in_parts(stage, pictures):
 
 
 def same_origin():
-    """A page of the same origin uploads 50 MiB in parts, is stopped and loaded anew, and goes on; all comes back, once."""
+    """A page of the same origin uploads 50 MiB in parts, is stopped and reloaded, and continues; all comes back,
+    once."""
     with Stage() as stage:
         upload_in_parts(stage, True)
 
@@ -224,7 +222,7 @@ def stranger():
 
 
 def one_piece():
-    """A small file that is dropped on the page goes in one piece, and an empty one is there at once."""
+    """A small file that is dropped on the page is uploaded in one piece, and an empty one is there at once."""
     script = """
         const files = new DataTransfer();
         files.items.add(new File([new Uint8Array(arguments[1]).fill(7)], arguments[0]));
@@ -243,7 +241,8 @@ def one_piece():
 
 
 def refused():
-    """An upload without a key that the server requires is refused, in words and before any byte is sent, on both pages."""
+    """An upload without a key that the server requires is refused, in words and before any byte is sent, on both
+    pages."""
     for origin in ("same", "other"):
         with Stage("--require-key", "project", origin=origin) as stage:
             choose(file_of(LARGE)[0])
@@ -262,7 +261,7 @@ def too_large():
 
 
 def signed_in():
-    """Where nginx asks, a visitor who isn't known is told to sign in, and one who is uploads."""
+    """If nginx asks, a visitor who isn't known is told to sign in, and one who is known uploads."""
     with doorman() as man, Stage(changes=asking(man)) as stage:
         choose(file_of(SMALL)[0])
         says("Please sign in first.")
@@ -275,7 +274,7 @@ def signed_in():
 
 
 def breaks():
-    """An upload whose network breaks goes on by itself when it is there again."""
+    """An upload whose network breaks continues by itself when the network is back."""
     with Stage() as stage:
         path, body = file_of(LARGE)
         browser.network(SLOW)
@@ -308,7 +307,7 @@ def cancelled():
 
 
 def gone():
-    """An upload that the server has no more is said to be gone, and begun anew when the visitor says so."""
+    """An upload that the server no longer has is said to be gone, and is restarted when the visitor says so."""
     with Stage() as stage:
         path, body = file_of(LARGE)
         browser.network(SLOW)
@@ -327,7 +326,7 @@ def gone():
 
 
 def keyboard():
-    """All is reached by the keyboard, and has a name for those who don't see it."""
+    """Everything is reached by the keyboard, and has a name for those who don't see it."""
     tab, space = "\ue004", " "
     with Stage() as stage:
         browser.press(tab)

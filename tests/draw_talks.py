@@ -1,26 +1,26 @@
 #!/usr/bin/env python3
-"""Draws conversations with the server, and says what must come of each, to the byte.
+"""Draws conversations with the server, each with the expected result, to the byte.
 
-    bench/drawn [--seed N] [--talks N] [--messages N] [--count]
+    tests/draw_talks.py [--seed N] [--talks N] [--messages N] [--count]
 
-The conversations are printed as the program of crates/up_talks reads them. What is wanted comes from a plain model of the
-server (tests/model.py), which knows nothing of its code. With --count it tells on standard error how often each kind of
-answer was drawn, and ends with 1 if one never was.
+The conversations are printed in the form that the program of crates/up_talks reads. Without options they are
+crates/up_talks/data/drawn. The expected results come from a plain model of the server (tests/model.py), which knows
+nothing of the server's code. With --count the script reports on standard error how often each kind of answer was drawn,
+and exits with status 1 if a kind was never drawn.
 """
 import argparse
 import base64
 import collections
-import os
 import random
 import re
 import sys
 
-ROOT = os.path.dirname(os.path.dirname(os.path.abspath(__file__)))
-sys.path.insert(0, os.path.join(ROOT, "tests"))
-from messages import CRLF, HEAD_END, MAX_CHUNK_LINE, MAX_FIELDS, MEDIA_TYPE, REFUSALS, VERSION, id_text  # noqa: E402
-from model import KEPT, KEY_MISSING, TOO_LONG_HERE, TOO_LONG_TO_FINISH, Rules, Server  # noqa: E402
+from messages import (
+    CRLF, HEAD_END, MAX_CHUNK_LINE, MAX_FIELDS, MEDIA_TYPE, REFUSALS, VERSION, escaped_line, id_text,
+)
+from model import KEPT, KEY_MISSING, TOO_LONG_HERE, TOO_LONG_TO_FINISH, Rules, Server
 
-# Every kind of answer and of end, by the name under which it is counted.
+# Each kind of answer and of end, by the name under which it is counted.
 KINDS = [f"{number} {name}" for number, (name, _) in REFUSALS.items()]
 KINDS += [reason for _, reason in (KEY_MISSING, TOO_LONG_HERE, KEPT, TOO_LONG_TO_FINISH)]
 KINDS += [
@@ -62,7 +62,7 @@ RULES = ["none", "key", "length", "keep", "finish", "none", "all"]
 
 
 class Ask:
-    """A message before it is written: method, target, fields and body, None where it has none."""
+    """A message before it is written: method, target, fields and body. Fields whose value is None are left out."""
 
     def __init__(self, method, target, fields=(), body=None):
         self.method = method
@@ -73,7 +73,7 @@ class Ask:
 
 
 class Draw:
-    """Draws messages that go on from where a server stands."""
+    """Draws messages that continue from the state of a server."""
 
     def __init__(self, rng, server):
         self.rng = rng
@@ -99,7 +99,7 @@ class Draw:
         return self.rng.randint(1, max(1, self.max_size * 2 // 3))
 
     def number(self):
-        """The id of an upload, mostly of one that is there."""
+        """The id of an upload, mostly of one that exists."""
         if self.server.uploads and self.chance(85):
             return self.rng.choice(self.server.uploads[-8:]).number
         return self.rng.randint(0, self.server.next_id + 1)
@@ -108,7 +108,7 @@ class Draw:
         return b"/files/" + id_text(number)
 
     def open_upload(self):
-        """An upload that takes bytes, where there is one."""
+        """An upload that takes bytes, or None."""
         found = [upload for upload in self.server.uploads if upload.kind != "Final" and not upload.is_whole]
         return self.rng.choice(found[-5:]) if found else None
 
@@ -139,7 +139,7 @@ class Draw:
         return b"final;" + (b" " if self.chance(10) else b"") + gap.join(self.url(part) for part in parts)
 
     def parts(self):
-        """The parts of a final upload: mostly complete ones, sometimes with one that is none."""
+        """The parts of a final upload: mostly complete ones, sometimes one that is none."""
         whole = [upload.number for upload in self.server.uploads if upload.kind == "Partial" and upload.is_whole]
         parts = self.rng.choices(whole, k=self.rng.choice([1, 1, 2, 2, 3])) if whole else []
         if not parts or self.chance(25):
@@ -170,7 +170,7 @@ class Draw:
         ])
 
     def create_badly(self):
-        """A POST with one thing wrong, or more."""
+        """A POST with one fault or more."""
         length, late, concat, metadata = self.digits(self.length()), None, None, self.metadata()
         fault = self.rng.randrange(6)
         if fault == 0:
@@ -204,7 +204,7 @@ class Draw:
         return [(b"Content-Type", self.rng.choice(GOOD_MEDIA)), (b"Upload-Offset", offset), (b"Upload-Length", length)]
 
     def patch(self):
-        """A PATCH as it must be, where an upload takes bytes, or else a POST."""
+        """A correct PATCH if there is an upload that takes bytes, or else a POST."""
         upload = self.open_upload()
         if upload is None:
             return self.create()
@@ -214,7 +214,7 @@ class Draw:
         return Ask(b"PATCH", self.target(upload.number), self.patch_fields(self.digits(upload.offset), length), self.bytes(count))
 
     def patch_declaring(self):
-        """A PATCH with a length, for an upload without one where there is such."""
+        """A PATCH with a length, if possible for an upload without one."""
         found = [upload for upload in self.server.uploads if upload.kind != "Final" and upload.length is None]
         upload = self.rng.choice(found[-5:]) if found else self.open_upload()
         if upload is None:
@@ -229,7 +229,7 @@ class Draw:
         return Ask(b"PATCH", self.target(upload.number), self.patch_fields(self.digits(upload.offset), length), body)
 
     def patch_badly(self):
-        """A PATCH of any upload with one thing wrong, or more."""
+        """A PATCH of any upload with one fault or more."""
         number = self.number()
         upload = self.server.find(number)
         at = upload.offset if upload else 0
@@ -258,7 +258,7 @@ class Draw:
         return Ask(b"OPTIONS", self.rng.choice([b"/files/", b"*", b"/", b"/any?thing", b"http://a/b"]))
 
     def elsewhere(self):
-        """A target that isn't there."""
+        """A target that doesn't exist."""
         here = self.target(self.number())
         target = self.rng.choice([
             b"/", b"/file", b"/filess", b"/files/x", b"/files//", here + b"/", here[:-1], here + b"0", here[:-1] + b"A", b"/Files/",
@@ -277,7 +277,7 @@ class Draw:
         return ask
 
     def repeated(self):
-        """A message with a field twice that is read once."""
+        """A message that repeats a field which may come only once."""
         ask = self.rng.choice([self.create, self.create_final, self.patch, self.patch_declaring, self.simple])()
         more = (b"Tus-Resumable", VERSION)
         if ask.fields and self.chance(75):
@@ -289,7 +289,7 @@ class Draw:
         return ask
 
     def overridden(self):
-        """A message whose method stands in a field."""
+        """A message whose method is in a field."""
         ask = self.rng.choice([self.create, self.patch, self.patch, self.simple, self.simple, self.options])()
         ask.fields.append((b"X-HTTP-Method-Override", ask.method if self.chance(90) else self.rng.choice([b"", b"get", b"a b"])))
         ask.method = self.rng.choice([b"POST", b"POST", b"GET", b"HEAD", b"BREW"])
@@ -317,7 +317,7 @@ class Draw:
     # How a message is written.
 
     def chunks(self, body):
-        """A body in chunks, at times with an extension and a trailer."""
+        """A body in chunks, sometimes with an extension and a trailer."""
         text = b""
         while body:
             count = self.rng.randint(1, len(body))
@@ -338,7 +338,7 @@ class Draw:
         return [(b"Content-Length", self.digits(len(body)))], body
 
     def extras(self):
-        """Fields that change nothing, or that ask to be told to go on."""
+        """Fields that change nothing, or that ask for `100 Continue`."""
         extras = []
         if self.chance(6):
             extras.append((b"Expect", self.rng.choice([b"100-continue", b"100-Continue", b"100-continue, x", b"other"])))
@@ -354,14 +354,14 @@ class Draw:
         return target + (b"?x=1" if target != b"*" and self.chance(4) else b"")
 
     def line(self, field):
-        """The line of a field, in other letters or with blanks at times."""
+        """The line of a field, sometimes in other case or with blanks."""
         name, value = field
         if self.chance(4):
             name = self.rng.choice([name.lower(), name.upper()])
         return name + (b":" if self.chance(3) else b": ") + value + (b" \t" if self.chance(3) else b"")
 
     def write(self, ask, version=b"HTTP/1.1", framing=None):
-        """The bytes of a message; `framing` stands in place of the fields and bytes of its body."""
+        """The bytes of a message. `framing` replaces the fields and bytes of its body."""
         fields, body = self.framed(ask) if framing is None else framing
         fields = ask.fields + fields + self.extras()
         if self.chance(10):
@@ -375,7 +375,7 @@ class Draw:
     # How a conversation ends.
 
     def ending(self, name):
-        """The last bytes of a conversation, and whether more may stand behind them."""
+        """The last bytes of a conversation, and whether more bytes may follow them."""
         if name in ("close", "old"):
             return self.closing(name), True
         if name == "end":
@@ -383,7 +383,7 @@ class Draw:
         return getattr(self, "ending_" + name)(), False
 
     def closing(self, name):
-        """A message behind which the conversation closes."""
+        """A message after which the conversation closes."""
         ask = self.message()
         body = ask.body or b""
         framing = [(b"Content-Length", b"%d" % len(body))]
@@ -397,7 +397,7 @@ class Draw:
         return self.cut(self.patch_declaring() if self.chance(30) else self.patch())
 
     def ending_lost(self):
-        """A PATCH that breaks off inside its body, and mostly has something wrong."""
+        """A PATCH that breaks off inside its body, mostly with a fault."""
         return self.cut(self.patch_badly())
 
     def ending_other(self):
@@ -430,7 +430,7 @@ class Draw:
         return self.write(ask)
 
     def ending_framing(self):
-        """A message whose body can't be told."""
+        """A message whose body can't be delimited."""
         length, coding = (b"Content-Length", b"1"), (b"Transfer-Encoding", b"chunked")
         chunks = b"1" + CRLF + b"a" + CRLF + b"0" + HEAD_END
         fields, body, version = self.rng.choice([
@@ -451,7 +451,7 @@ class Draw:
         return self.write(self.message(), framing=([(b"Transfer-Encoding", coding)], b""))
 
     def ending_large(self):
-        """A message whose body is above the limit."""
+        """A message whose body exceeds the limit."""
         above = self.max_size + 1
         fields, body = self.rng.choice([
             ([(b"Content-Length", b"%d" % above)], b""),
@@ -466,14 +466,12 @@ class Draw:
 
 
 def escaped(data):
-    """A text that stands for these bytes."""
-    named = {9: "\\t", 10: "\\n", 13: "\\r", 92: "\\\\"}
-    text = "".join(named.get(byte) or (chr(byte) if 32 <= byte < 127 else f"\\x{byte:02x}") for byte in data)
-    return text[:-1] + "\\x20" if text.endswith(" ") else text
+    """A text that stands for these bytes, at the end of a line."""
+    return escaped_line(data, quotes=False)
 
 
 def marked(mark, data):
-    """Bytes as lines of a talk: each ended by CRLF, and what stands behind the last."""
+    """Bytes as lines of a talk: each one that ends with CRLF, and the rest after the last CRLF."""
     *lines, rest = data.split(CRLF)
     for line in lines:
         yield f"{mark} {escaped(line)}".rstrip()
@@ -482,7 +480,7 @@ def marked(mark, data):
 
 
 def asked_lines(data):
-    """What is asked, with the usual start of a message in short."""
+    """The lines of a request, with the usual start of a message abbreviated."""
     start = re.match(rb"([!-~]+ [!-~]+) HTTP/1\.1\r\nHost: a\r\nTus-Resumable: 1\.0\.0\r\n", data)
     if start:
         yield f">> {escaped(start[1])}"
@@ -491,7 +489,7 @@ def asked_lines(data):
 
 
 def wanted_lines(data):
-    """What is wanted, with the usual start of a response in short."""
+    """The lines of an expected reply, with the usual start of a response abbreviated."""
     start = re.match(rb"HTTP/1\.1 ([ -~]+)\r\nTus-Resumable: 1\.0\.0\r\nCache-Control: no-store\r\n", data)
     if start:
         yield f"<< {escaped(start[1])}"
@@ -519,7 +517,7 @@ def draw_rules(rng, name):
 
 
 def draw_talk(rng, place, messages, kinds):
-    """The lines of a talk; its place says which closures it has and how it ends."""
+    """The lines of a talk. Its place determines its closures and how it ends."""
     server = Server(draw_rules(rng, RULES[place % len(RULES)]), kinds)
     draw = Draw(rng, server)
     yield f"words {server.rules.words()}"
@@ -549,6 +547,7 @@ def main():
     given = words.parse_args()
     rng = random.Random(given.seed)
     kinds = collections.Counter()
+    # The stored file names the script like this in its first line.
     print(f"# Conversations that bench/drawn drew: --seed {given.seed} --talks {given.talks} --messages {given.messages}")
     for place in range(given.talks):
         print(f"\ntalk drawn {given.seed}.{place + 1}")
@@ -558,7 +557,7 @@ def main():
         for kind in KINDS:
             print(f"{kinds[kind]:8} {kind}", file=sys.stderr)
         if not all(kinds[kind] for kind in KINDS):
-            sys.exit("drawn: some kind of answer was never drawn")
+            sys.exit("draw_talks: some kind of answer was never drawn")
 
 
 main()

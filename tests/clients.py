@@ -1,14 +1,16 @@
 #!/usr/bin/python3
-"""Tries real clients against `up serve`: tuspy, curl, Go's net/http and Node's fetch; nginx in front of it, as
-examples/browser has it; and the answers that docs/PROTOCOL.md names for the options of clients.
+"""Tries real clients against `up serve`: tuspy, curl, Go's net/http and Node's fetch; nginx in front of it, as in
+examples/browser; and the answers that docs/PROTOCOL.md lists for the options of clients.
 
-    tests/clients [--program PATH] [NAME..]
+    tests/clients.py [--program PATH] [NAME..]
 
-It needs Debian's `python3-tuspy`, or pip's `tuspy` for the Python that runs it (then: `python3 tests/clients`), `curl`,
-`golang-go`, `nodejs` 18 or later, and `nginx-light` with `openssl`; what isn't there is said, and its cases are passed over.
-Each upload is fetched back by GET and compared byte for byte. It takes a minute, 1.1 GiB of memory, and 2 GiB of TMPDIR.
+It needs Debian's `python3-tuspy`, or pip's `tuspy` for the Python that runs it (then: `python3 tests/clients.py`),
+`curl`, `golang-go`, `nodejs` 18 or later, and `nginx-light` with `openssl`. If something is missing, the script says so
+and skips its cases. Each upload is fetched back by GET and compared byte for byte. It takes a minute, 1.1 GiB of
+memory, and 2 GiB of TMPDIR.
 
-A line for each case says whether it passed; the last line is `N passed, M failed`, and the exit status is 1 where one failed.
+For each case, one line says whether it passed. The last line is `N passed, M failed`, and the exit status is 1 if a
+case failed.
 """
 import asyncio
 import base64
@@ -24,7 +26,7 @@ from curled import MEDIA, VERSION, curl, replies, reply
 from fronted import Fronted
 from options import Options
 from senders import Go, Large, Node, Tuspy
-from serving import MAX_SIZE, Server, below, same, soon, try_all, words_of
+from serving import MAX_SIZE, NOWHERE, Server, below, same, soon, try_all, words_of
 
 try:
     from tusclient.client import TusClient
@@ -38,7 +40,7 @@ folder = None
 
 
 def drawn(size):
-    """So many bytes in which no piece is like another."""
+    """This many bytes, no part of which is like another."""
     return os.urandom(size)
 
 
@@ -55,7 +57,7 @@ def fetched(url):
 
 
 def holds(url, body):
-    """The upload at this URL has these bytes."""
+    """Checks that the upload at this URL has these bytes."""
     came = fetched(url)
     same(len(came), len(body), "the length of the upload")
     same(came == body, True, "whether the bytes came back")
@@ -111,7 +113,7 @@ def tuspy_by_fingerprint():
 
 
 def tuspy_stream():
-    """A stream in place of a file, in chunks."""
+    """A stream instead of a file, in chunks."""
     body = drawn(700_001)
     uploader = tus().uploader(file_stream=io.BytesIO(body), chunk_size=250_000)
     uploader.upload()
@@ -144,7 +146,7 @@ def tuspy_metadata():
 
 
 def tuspy_checksum():
-    """A checksum, which isn't served, is no hindrance."""
+    """A checksum, which isn't supported, does no harm."""
     body = drawn(100_000)
     uploader = tus().uploader(file_stream=io.BytesIO(body), chunk_size=30_000, upload_checksum=True)
     uploader.upload()
@@ -152,9 +154,9 @@ def tuspy_checksum():
 
 
 def tuspy_unknown():
-    """The offset of an upload that isn't there is an error of tuspy's, with the status."""
+    """Asking for the offset of an upload that doesn't exist is an error of tuspy's, with the status."""
     try:
-        tus().uploader(file_stream=io.BytesIO(b"abc"), url=f"{server.url}/files/{0:032x}")
+        tus().uploader(file_stream=io.BytesIO(b"abc"), url=server.url + NOWHERE)
     except TusCommunicationError as error:
         same(error.status_code, 404, "the status of the error")
         return
@@ -173,7 +175,7 @@ def made(*fields):
 
 
 def sent(url, offset, path, *words):
-    """The offset after a PATCH of the file, and what curl said."""
+    """The offset after a PATCH with the file, and what curl said."""
     status, fields, said = reply(
         "-X", "PATCH", "-H", VERSION, "-H", MEDIA, "-H", f"Upload-Offset: {offset}", "--data-binary", f"@{path}", *words, url
     )
@@ -186,7 +188,7 @@ def curl_head(url):
 
 
 def curl_options():
-    """OPTIONS tells the version, the extensions and the largest size."""
+    """OPTIONS reports the version, the extensions and the largest size."""
     status, fields, _ = reply("-X", "OPTIONS", f"{server.url}/files/")
     same(status, 204, "the status")
     same(fields["tus-version"], "1.0.0", "the versions")
@@ -195,7 +197,7 @@ def curl_options():
 
 
 def curl_expect():
-    """A body for which curl waits until `100 Continue` has come."""
+    """A body that curl sends once `100 Continue` has come."""
     body = drawn(2_000_000)
     url = made(f"Upload-Length: {len(body)}")
     offset, said = sent(url, 0, file_of(body), "-H", "Expect: 100-continue", "--expect100-timeout", "15")
@@ -276,7 +278,7 @@ def curl_old_version():
 
 
 def curl_resume():
-    """An upload that breaks off at its time limit is resumed at the offset that HEAD tells."""
+    """An upload that breaks off at its time limit is resumed at the offset that HEAD reports."""
     body = drawn(3_000_000)
     url = made(f"Upload-Length: {len(body)}")
     words = ["-X", "PATCH", "-H", VERSION, "-H", MEDIA, "-H", "Upload-Offset: 0", "-H", "Expect:"]
@@ -322,7 +324,7 @@ def curl_empty():
 
 
 def limited():
-    """With `--connections 3` the server ends after three of them, and reports."""
+    """With `--connections 3` the server ends after three connections, and reports."""
     with Server(program, "--connections", "3") as other:
         files, path = f"{other.url}/files/", f"{other.url}/files"
         status, fields, _ = reply("-X", "POST", "-H", VERSION, "-H", "Upload-Length: 3", files)
@@ -354,7 +356,7 @@ def events():
 
 
 def statuses():
-    """What the program says, and with which status it ends, where there is nothing to serve."""
+    """The program's messages and exit statuses if there is nothing to serve."""
     cases = [
         (["--help"], 2, "Usage: up <COMMAND>"),
         (["serve", "--lanes", "17"], 2, "--lanes <N>"),

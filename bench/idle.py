@@ -1,12 +1,13 @@
 #!/usr/bin/env python3
 """Times a server that has nothing to do, and how soon an event reaches its hook.
 
-    bench/idle [--seconds N]
+    bench/idle.py [--seconds N]
 
-A conversation with `up replay` makes an upload, and then its input waits N seconds (by default 10) for the next byte: the
-processor time of the whole run is to be less than a tenth of a second, so the lanes sleep. Then a conversation with
-`up_example`, whose post-hook tells on standard error of each upload that it scans, completes an upload and asks nothing more:
-the event is to reach the hook while the input waits. Where a goal is missed, the script ends with 1.
+A conversation with `up replay` makes an upload, and then its input waits N seconds (by default 10) for the next byte.
+The processor time of the whole run has to be less than a tenth of a second, which shows that the lanes sleep. Then a
+conversation with `up_example`, whose post-hook reports each upload that it scans on standard error, completes an upload
+and asks nothing more. The event has to reach the hook while the input waits. If a goal is missed, the script exits with
+status 1.
 """
 import argparse
 import os
@@ -16,28 +17,15 @@ import sys
 import time
 
 sys.path.insert(0, os.path.join(os.path.dirname(os.path.dirname(os.path.abspath(__file__))), "tests"))
-from serving import build  # noqa: E402
+from serving import build, head, patch, path_of  # noqa: E402
 
-PATH = f"/files/{1:032x}"
-
-# The most processor time of an idle run, and the most time in which an event is waited for, in seconds.
+# The most processor time of an idle run, and the most time to wait for an event, in seconds.
 MOST_WORK = 0.1
 MOST_WAIT = 10
 
 
 def post(length):
-    return (
-        "POST /files/ HTTP/1.1\r\nHost: a\r\nTus-Resumable: 1.0.0\r\n"
-        f"Upload-Metadata: filename d29ybGQucGRm\r\nUpload-Length: {length}\r\n\r\n"
-    ).encode()
-
-
-def patch(body):
-    return (
-        f"PATCH {PATH} HTTP/1.1\r\nHost: a\r\nTus-Resumable: 1.0.0\r\n"
-        "Content-Type: application/offset+octet-stream\r\n"
-        f"Upload-Offset: 0\r\nContent-Length: {len(body)}\r\n\r\n"
-    ).encode() + body
+    return head("POST", "/files/", {"Upload-Metadata": "filename d29ybGQucGRm", "Upload-Length": length})
 
 
 def start(words):
@@ -50,7 +38,7 @@ def ask(server, message):
 
 
 def read_until(stream, mark):
-    """What comes on a stream, up to the mark."""
+    """The bytes of a stream, up to the mark."""
     end = time.monotonic() + MOST_WAIT
     told = b""
     while mark not in told:
@@ -63,7 +51,7 @@ def read_until(stream, mark):
 
 
 def finish(server):
-    """The processor time of the server, whose input ends here."""
+    """Ends the server's input, and returns the server's processor time."""
     server.stdin.close()
     server.stdout.read()
     _, status, usage = os.wait4(server.pid, 0)
@@ -74,7 +62,7 @@ def finish(server):
 
 
 def idle(program, seconds):
-    """The processor time of a run whose input waits so long."""
+    """The processor time of a run whose input waits this many seconds."""
     server = start([program, "replay", "--lanes", "16"])
     ask(server, post(3))
     read_until(server.stdout, b"\r\n\r\n")
@@ -83,12 +71,12 @@ def idle(program, seconds):
 
 
 def reach(program):
-    """The seconds from the last byte of a request to the event that it makes, at its hook."""
+    """The seconds from the last byte of a request until its event reaches the hook."""
     server = start([program])
     ask(server, post(3))
     read_until(server.stdout, b"\r\n\r\n")
     begin = time.monotonic()
-    ask(server, patch(b"abc"))
+    ask(server, patch(path_of(1), 0, 3) + b"abc")
     read_until(server.stderr, b"scanned\n")
     taken = time.monotonic() - begin
     finish(server)

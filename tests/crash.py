@@ -1,20 +1,20 @@
 #!/usr/bin/env python3
-"""Kills, ends and restarts `up serve --store DIR`, cuts its log, and fills its disk, and holds what is there after
-that, and the events of all runs, to what was acknowledged.
+"""Kills, ends and restarts `up serve --store DIR`, cuts its log, and fills its disk. It compares what is there after
+that, and the events of all runs, with what was acknowledged.
 
-    tests/crash [--program PATH] [--rounds N] [NAME..]
+    tests/crash.py [--program PATH] [--rounds N] [NAME..]
 
-It needs nothing but Python 3 and Linux, and takes two minutes with twenty rounds, which is the default. What isn't
-there or isn't permitted (a mount, Debian's strace) is passed over.
+It needs only Python 3 and Linux, and takes two minutes with twenty rounds, which is the default. Cases are skipped if
+they need something that is missing or not permitted (a mount, Debian's strace).
 
 In each round sixteen clients create, append, declare lengths, concatenate and remove, and the server is killed at a
-random moment. After a restart on the same DIR each change that was acknowledged must be there, by HEAD and by the
-bytes of a GET; one that had no answer is there whole, or nothing of it is. The lines of `--events` of all runs
-together must be, for each upload, the events that its accepted changes define, each once and in order. At each kill
-the one event of each lane that was being handed over may come again, in the next run and first there.
+random moment. After a restart on the same DIR each change that was acknowledged must be there, by HEAD and by the bytes
+of a GET. A change without an answer is there as a whole, or not at all. The lines of `--events` of all runs together
+must be, for each upload, the events that its accepted changes define, each once and in order. At each kill, the one
+event of each lane that was being handed over may be repeated, as the first of its lane in the next run.
 
-A line for each case says whether it passed; the last line is `N passed, M failed`, and the exit status is 1 where one
-failed.
+For each case, one line says whether it passed. The last line is `N passed, M failed`, and the exit status is 1 if a
+case failed.
 """
 import argparse
 import os
@@ -34,23 +34,23 @@ from stored import (
     small_disk, store_of,
 )
 
-# How many clients there are, and the seconds of work before a kill.
+# The number of clients, and the seconds of work before a kill.
 CLIENTS, WORK = 16, (0.02, 0.3)
 
-# How many rounds the case has that ends servers in order.
+# The number of rounds in the case that ends servers in order.
 ENDS = 4
 
-# How many places of a log are cut at, of more, and how many servers try them at once.
+# The most places at which a log is cut, and the number of servers that try them at once.
 MOST_CUTS, AT_ONCE = 240, 4
 
 # The bytes of the bodies that fill a disk.
 BODY = 100_000
 
-# The uploads that are removed before a log is made shorter: how many, and with which bytes; and how often a server is
-# killed behind them.
+# The number of uploads that are removed before a log is made shorter, their bytes, and how often a server is killed
+# after that.
 HEAPED, PIECE, KILLS = 70, bytes(range(256)) * 4096, 5
 
-# What is in the folder of a store.
+# The files of a store.
 NAMES = {"heads", "log", "void", "spare", *(f"handed.{lane}" for lane in range(LANES))}
 
 
@@ -62,7 +62,7 @@ def new_clients():
 
 
 def together(clients, server, ending, work, beside=lambda: None):
-    """Has all clients do this with the server at once, and something beside them."""
+    """Has all clients do this work with the server at once, and runs `beside` meanwhile."""
     for client in clients:
         client.meet(server, ending)
     try:
@@ -73,7 +73,7 @@ def together(clients, server, ending, work, beside=lambda: None):
 
 
 def come_back(clients, server, told, everything=False):
-    """Has all clients look at what is there after a restart."""
+    """Has all clients check after a restart what is there."""
     never = threading.Event()
     together(clients, server, never, lambda client: client.come_back(everything))
     with Lone(server, clients[0]):
@@ -93,7 +93,7 @@ def work_until(clients, server, stop):
 
 
 def end_quietly(server, clients, told):
-    """Ends a server in order with which nobody is connected, and holds all events and the report to the count."""
+    """Ends a server in order while nobody is connected, and compares all events and the report with the count."""
     server.end()
     report = told.add(ended(server), is_killed=False)
     told.hold(clients, is_whole=True)
@@ -101,7 +101,7 @@ def end_quietly(server, clients, told):
 
 
 def accepted_by(clients):
-    """How many changes the clients know of that were accepted."""
+    """The number of accepted changes that the clients know of."""
     return sum(upload.changes for client in clients for upload in client.uploads.values())
 
 
@@ -111,8 +111,8 @@ def report_of(accepted, told):
 
 
 def told_by_now(client, server, told):
-    """What is told of by what the server has written so far, with all events of before: for each lane an upload more
-    is made, whose event comes behind them."""
+    """The events that the server has written so far, with all earlier ones. To wait for them, one more upload is made
+    in each lane, whose event comes last."""
     paths = []
     while {lane_of(path) for path in paths} != set(range(LANES)):
         paths.append(client.create(1))
@@ -123,7 +123,7 @@ def told_by_now(client, server, told):
 
 
 def last_runs(store, clients, told):
-    """Brings all uploads to their end, and sees after another restart that all is there, and told of once."""
+    """Completes all uploads, and checks after another restart that everything is there and was reported once."""
     with store.plain() as server:
         come_back(clients, server, told)
         together(clients, server, threading.Event(), Client.finish)
@@ -138,7 +138,7 @@ def last_runs(store, clients, told):
     same(told.counts(), before, "how many events each lane has handed over after a run without a change")
 
 
-# What is tried with many clients.
+# Cases with many clients.
 
 
 def by_kill():
@@ -160,7 +160,7 @@ def by_kill():
 
 
 def by_end():
-    """Ends in order lose nothing and repeat nothing; the reports count the changes and events of all runs."""
+    """Shutdowns in order lose nothing and repeat nothing; the reports count the changes and events of all runs."""
     clients, told = new_clients(), Told()
     with store_of(program) as store:
         for number in range(ENDS):
@@ -175,17 +175,17 @@ def by_end():
 
 
 def hold_report(report, clients, told):
-    """Holds a report to the count, where changes without an answer may be in it."""
+    """Compares a report with the count. The report may also count changes without an answer."""
     known, open_ones = accepted_by(clients), sum(bool(client.asked) + len(client.lost) for client in clients)
     may_be = [report_of(known + more, told) for more in range(open_ones + 1)]
     same(report in may_be, True, f"whether {report!r} is {may_be[0]!r}, with up to {open_ones} changes more")
 
 
-# What is tried with one client.
+# Cases with one client.
 
 
 class Lone:
-    """A client that meets a server for the time of a `with`; a new one unless it is given."""
+    """A client that is connected to a server for the time of a `with`; a new client unless one is given."""
 
     def __init__(self, server, client=None):
         self.client = client or Client(0)
@@ -199,7 +199,7 @@ class Lone:
 
 
 def small_changes(client):
-    """Makes changes one after another, each with a batch of its own; after each of them the uploads that there are."""
+    """Makes changes one after another, each in a batch of its own, and yields all uploads after each change."""
     first = client.create(5)
     yield dict(client.uploads)
     client.append(first, b"ab")
@@ -217,8 +217,8 @@ def small_changes(client):
 
 
 def made(store):
-    """Makes a store with the small changes. The client, and the uploads before and after each change, each with the
-    length that the log has then."""
+    """Makes a store with the small changes. Returns the client, and the uploads before and after each change, each with
+    the length of the log at that time."""
     with store.plain() as server:
         states = [({}, store.size_of_log())]
         with Lone(server) as client:
@@ -229,14 +229,15 @@ def made(store):
 
 
 def hold_there(store, client):
-    """Sees that all uploads of the client are there after a restart, and that more are made."""
+    """Checks that all uploads of the client are there after a restart, and that more can be made."""
     with store.kept() as server, Lone(server, client):
         client.come_back(everything=True)
         client.append(client.create(3), b"abc")
 
 
 def hold_copy(store, uploads, absent):
-    """Sees that a server has these uploads and not those, repeats no event, and makes changes that stay."""
+    """Checks that a server has these uploads and lacks the absent ones, repeats no event, and makes changes that
+    stay."""
     client = Client(0)
     client.uploads = dict(uploads)
     for _ in range(2):
@@ -252,7 +253,7 @@ def hold_copy(store, uploads, absent):
 
 
 def cases_of_cuts(states, log):
-    """The logs with a cut in their last two batches, and how many changes are left of each."""
+    """Logs with a cut in their last two batches, each with the number of changes left in it."""
     gates = gates_of(log)
     same([gate + 1 for gate in gates], [size for _, size in states], "how long the log was after each change")
     found = []
@@ -263,7 +264,7 @@ def cases_of_cuts(states, log):
 
 
 def cut_log():
-    """Logs as a crash may leave them, short at each byte of the last two batches, have all changes before these."""
+    """A log as a crash may leave it, cut at any byte of the last two batches, has all changes before the cut batch."""
     with store_of(program) as store:
         states, files = made(store)[1], store.files()
         cases, last = cases_of_cuts(states, files["log"]), states[-1][0]
@@ -281,11 +282,11 @@ def cut_log():
 
 
 def torn_log():
-    """A log that is cut behind an open gate, as no crash leaves it, isn't served; without its last gate it is whole."""
+    """A log that is cut after an open gate, as no crash leaves it, isn't served; without its last gate it is whole."""
     with store_of(program) as store:
         states, files = made(store)[1], store.files()
         log, gates = files["log"], gates_of(files["log"])
-        # A gate with nothing behind it counts as closed.
+        # A gate with nothing after it counts as closed.
         places = range(gates[-3] + 2, gates[-2])
         for cut in random.sample(places, min(20, len(places))):
             line = put_store(program, f"{store.folder}.{cut}", files, log[:cut], states[-3][0]).unread()
@@ -297,7 +298,8 @@ def torn_log():
 
 
 def heap(server, client, store):
-    """Has a client make large uploads, remove them and leave, so that the log may be made shorter. Its size before."""
+    """Has a client make large uploads and remove them, so that the log may be made shorter. Returns the log's size
+    before the client leaves."""
     with Lone(server, client):
         for _ in range(HEAPED):
             client.remove(client.append(client.create(len(PIECE)), PIECE))
@@ -305,7 +307,7 @@ def heap(server, client, store):
 
 
 def shorter_log():
-    """A log of over 64 MiB, most of which is of removed uploads, is made shorter, and kills meanwhile lose nothing."""
+    """A log of over 64 MiB, most of it from removed uploads, is made shorter, and kills meanwhile lose nothing."""
     clients, told = new_clients(), Told()
     generations = []
     with store_of(program) as store:
@@ -334,14 +336,14 @@ def shorter_log():
 
 
 def hold_lines(lines):
-    """Each line says that a log was made shorter by half, and there is one at least."""
+    """Checks that each line says that a log was made shorter by half, and that there is at least one."""
     found = [re.fullmatch(r"up_server: the log has (\d+) bytes instead of (\d+)", line) for line in lines]
     shorter = [found_one and 2 * int(found_one[1]) <= int(found_one[2]) for found_one in found]
     same(bool(shorter) and all(shorter), True, f"whether {lines} say so")
 
 
 def hold_shorter(store, clients, told):
-    """Sees that a server of a shorter log has all uploads, and hands over no event again."""
+    """Checks that a server of a shorter log has all uploads, and hands over no event again."""
     names = {name for name in store.files() if not name.endswith("-wal")}
     same(names, NAMES - {"log", "void"} | store.current(), "the files")
     before = told.counts()
@@ -356,11 +358,11 @@ def hold_shorter(store, clients, told):
     same(sum(told.counts()) - sum(before), 3, "how many events came in a run with three")
 
 
-# Starts that are refused, and what is in a folder.
+# Starts that are refused, and the files of a folder.
 
 
 def second_server():
-    """A second server of a store is refused while the first serves, which goes on."""
+    """A second server of a store is refused while the first serves, and the first continues."""
     with store_of(program) as store:
         with store.kept() as server, Lone(server) as client:
             list(small_changes(client))
@@ -391,7 +393,7 @@ def other_size():
 
 
 def no_log():
-    """A store whose log is some other file is refused, and stays as it is."""
+    """A store whose log is some other file is refused, and is left as it is."""
     magic = b"\1up log\r\n"
     version = magic + b"".join(number.to_bytes(8, "little") for number in (2, LANES, MAX_SIZE)) + b"\0"
     texts = [b"A text.\n", b"A text of several lines.\n" * 9, b"SQLite format 3\0" + bytes(84)]
@@ -417,7 +419,7 @@ def no_folder():
 
 
 def files_made():
-    """A store has its files and no others, and what locks them is empty."""
+    """A store has its files and no others, and its lock files are empty."""
     with store_of(program) as store:
         made(store)
         files = store.files()
@@ -439,13 +441,13 @@ class Elsewhere(Server):
         os.chdir(self.folder)
 
     def open_files(self):
-        """The files with a name that it has open, but for devices."""
+        """The open files that have a name, without devices."""
         places = [os.readlink(entry.path) for entry in os.scandir(f"/proc/{self.process.pid}/fd")]
         return [place for place in places if place.startswith("/") and not place.startswith("/dev/")]
 
 
 def no_store():
-    """Without a store no file is written, nor open."""
+    """Without a store no named file is written or open."""
     with tempfile.TemporaryDirectory() as folder:
         with Elsewhere(folder) as server, Lone(server) as client:
             list(small_changes(client))
@@ -458,7 +460,7 @@ def no_store():
 
 
 def fill(client, path, size):
-    """Appends bodies of this size until one is refused, and sees that others are refused as well."""
+    """Appends bodies of this size until one is refused, and checks that later ones are refused as well."""
     most = 2 * LIMIT // size
     same(any(status_of_append(client, path, size) == 503 for _ in range(most)), True, "whether the disk is ever full")
     for _ in range(3):
@@ -466,7 +468,7 @@ def fill(client, path, size):
 
 
 def status_of_append(client, path, size):
-    """The status of a PATCH of so many bytes, which is done or finds no room."""
+    """The status of a PATCH of this size, which is done or finds no room."""
     upload, piece = client.uploads[path], random.randbytes(size)
     reply = client.connection.append(path, len(upload.body), piece)
     same(reply.status in (204, 503), True, f"whether {reply.whole!r} says that it was done or that there is no room")
@@ -478,7 +480,7 @@ def status_of_append(client, path, size):
 
 
 def hold_again(client, path, gone):
-    """Sees that changes are made once there is room, and that each upload is what it is to be."""
+    """Checks that changes are made once there is room, and that each upload is as expected."""
     for _ in range(3):
         same(status_of_append(client, path, BODY), 204, "the status of a change once there is room")
     client.remove(gone)
@@ -486,13 +488,13 @@ def hold_again(client, path, gone):
 
 
 def lines_of(server):
-    """What the server has said on standard error since it listens, once it is killed."""
+    """Kills the server, and returns what it has written to standard error since it listened."""
     server.kill()
     return server.process.stderr.read().decode().splitlines()
 
 
 def full_file():
-    """Where a log can't grow changes are answered 503 until it can, reads go on, and a line says either."""
+    """If a log can't grow, changes are answered 503 until it can; reads continue, and a line reports each turn."""
     with store_of(program) as store:
         store.lanes = 1
         with store.kept(Limited) as server, Lone(server) as client:
@@ -509,7 +511,7 @@ def full_file():
 
 
 def full_disk():
-    """On a full disk changes are answered 503, reads go on and removals are done; all is done once there is room."""
+    """On a full disk changes are answered 503, reads continue and removals are done; all is done once there is room."""
     with small_disk() as disk:
         store = Store(program, os.path.join(disk, "store"), lanes=1)
         with store.kept() as server, Lone(server) as client:
@@ -530,15 +532,15 @@ def full_disk():
 
 
 def hold_turns(lines):
-    """A line says that there is no room, and one that there is, by turns."""
+    """Checks that a line that there is no room, and one that there is room again, alternate."""
     same(len(lines) >= 2 and len(lines) % 2 == 0, True, f"whether {lines} say both as often")
     same(lines, lines[:2] * (len(lines) // 2), "what the lines say")
     same(lines[0] == lines[1], False, "whether the same is said both times")
 
 
 def failed_syncs():
-    """While syncs fail, changes are answered 503, and reads go on; once they succeed a line says so by itself, changes
-    are made again, and nothing of those that were refused is there."""
+    """While syncs fail, changes are answered 503, and reads continue; once syncs succeed the server says so by itself,
+    changes are made again, and nothing of the refused ones is there."""
     with store_of(program) as store:
         store.lanes = 1
         with store.kept() as server, Lone(server) as client:

@@ -1,200 +1,62 @@
 #!/usr/bin/env python3
-"""Draws messages that break off anywhere, have a byte changed or are put together at random, and says what must come of each.
+"""Draws messages that break off anywhere, have one byte changed, or are put together at random, each with its expected
+result.
 
-    bench/messages [--seed N] [--drawn N]
-    bench/messages --hold FILE
+    tests/draw_rows.py [--seed N] [--drawn N]
+    tests/draw_rows.py --hold FILE
 
-The rows are printed as the program of crates/up_rows reads them. What is wanted comes from a plain reader in this file, which
-takes a whole input at once, line by line, and knows nothing of the server's code. With --hold the rows of a file that read
-messages are held to this reader, and those that it reads in another way are printed.
+The rows are printed in the form that the program of crates/up_rows reads. Without options they are
+crates/up_rows/data/drawn. The expected results come from the plain reader of tests/messages.py, which takes a whole
+input at once, line by line, and knows nothing of the server's code. With --hold the script compares the rows of a file
+that read messages with this reader, and prints those that the reader reads in another way.
 """
 import argparse
 import random
 import re
 import sys
 
-CRLF = b"\r\n"
+from messages import CRLF, MAX_HEAD, BrokenOff, Refused, escaped, escaped_line, read_message, unescaped
+
+# The most bytes of a body.
 LIMIT = 20
-MAX_HEAD = 16_384
-MAX_FIELDS = 64
-MAX_CHUNK_LINE = 256
+
 CONTINUE = b"HTTP/1.1 100 Continue\r\n\r\n"
 
-BAD_HEAD = "1 BadHead"
-HEAD_TOO_LARGE = "2 HeadTooLarge"
-BAD_FRAMING = "3 BadFraming"
-UNKNOWN_CODING = "4 UnknownCoding"
-BODY_TOO_LARGE = "5 BodyTooLarge"
+# Faults that only a failing source or sink causes.
 READ_FAILED = "6 ReadFailed"
 WRITE_FAILED = "8 WriteFailed"
 
-TOKEN = rb"[!#-'*+.0-9A-Z^-z|~-]"
-VALUE = rb"[\t -~\x80-\xff]"
-START = re.compile(rb"(%s+) ([!-~\x80-\xff]+) HTTP/1\.([01])\r?\n" % TOKEN)
-FIELD = re.compile(rb"(%s+):(%s*)\r?\n" % (TOKEN, VALUE))
-EMPTY = re.compile(rb"\r?\n")
-CHUNK = re.compile(rb"([0-9A-Fa-f]{1,16})[ \t]*(;[^\r\n]*)?\r\n")
+
+def words_of(message):
+    """A message that was read, in words."""
+    words = "cut " if message.cut else ""
+    words += f"{escaped(message.method)} {escaped(message.target)}"
+    words += "".join(f" {escaped(name)}: {escaped(value)};" for name, value in message.fields)
+    return words + f" [{escaped(message.body)}]" + marks_of(message, " close" * message.closes)
 
 
-def fronts_of(*parts):
-    """What a line can be that breaks off: some of the parts, in their order."""
-    text = b""
-    for part in reversed(parts):
-        text = b"(%s%s)?" % (part, text)
-    return re.compile(text)
-
-
-START_FRONT = fronts_of(TOKEN + b"+", b" ", rb"[!-~\x80-\xff]+", b" ", b"H", b"T", b"T", b"P", b"/", b"1", rb"\.", b"[01]", b"\r")
-FIELD_FRONT = fronts_of(TOKEN + b"+", b":", VALUE + b"*", b"\r")
-
-
-class Refused(Exception):
-    """Why no message is read."""
-
-
-class Head:
-    """A head: its first line, and its fields."""
-
-    def __init__(self, method, target, minor):
-        self.method, self.target, self.minor = method, target, minor
-        self.fields = []
-
-    def values(self, name):
-        return [value for field, value in self.fields if field.lower() == name]
-
-    @property
-    def closes(self):
-        tokens = b",".join(self.values(b"connection")).split(b",")
-        return self.minor == b"0" or b"close" in [token.strip(b" \t").lower() for token in tokens]
-
-
-def read_fields(data, place, add, is_judged=True):
-    """Takes lines of fields up to an empty one, and answers the place behind it; None where the bytes stop before that."""
-    count = 0
-    while not (empty := EMPTY.match(data, place)):
-        if b"\n" not in data[place:]:
-            if is_judged and not FIELD_FRONT.fullmatch(data[place:]) and data[place:] != b"\r":
-                raise Refused(BAD_HEAD)
-            return None
-        field = FIELD.match(data, place)
-        if field is None:
-            raise Refused(BAD_HEAD)
-        count += 1
-        if count > MAX_FIELDS:
-            raise Refused(HEAD_TOO_LARGE)
-        add.append((field[1], field[2].strip(b" \t")))
-        place = field.end()
-    return empty.end()
-
-
-def read_head(data):
-    """A head, and the bytes behind it; None where the bytes stop before its end, though they begin one."""
-    front, place = data[:MAX_HEAD], 0
-    while empty := EMPTY.match(front, place):
-        place = empty.end()
-    start = START.match(front, place)
-    if start is None:
-        if START_FRONT.fullmatch(front, place) or front[place:] == b"\r":
-            return None, b""
-        raise Refused(BAD_HEAD)
-    head = Head(*start.groups())
-    end = read_fields(front, start.end(), head.fields)
-    return (None, b"") if end is None else (head, data[end:])
-
-
-def size_of(head):
-    """How many bytes the body has; None where it comes in chunks."""
-    lengths, codings = head.values(b"content-length"), head.values(b"transfer-encoding")
-    if len(lengths) + len(codings) > 1:
-        raise Refused(BAD_FRAMING)
-    if codings:
-        if head.minor == b"0":
-            raise Refused(BAD_FRAMING)
-        if codings[0].lower() != b"chunked":
-            raise Refused(UNKNOWN_CODING)
-        return None
-    if not lengths:
-        return 0
-    if not re.fullmatch(rb"[0-9]+", lengths[0]):
-        raise Refused(BAD_FRAMING)
-    if int(lengths[0]) > LIMIT:
-        raise Refused(BODY_TOO_LARGE)
-    return int(lengths[0])
-
-
-def read_chunks(data):
-    """A body in chunks, and the bytes behind it, None where it is cut."""
-    body = b""
-    while b"\n" in data:
-        line = data[: data.index(b"\n") + 1]
-        size = CHUNK.fullmatch(line)
-        if size is None or len(line) > MAX_CHUNK_LINE:
-            raise Refused(BAD_FRAMING)
-        size, data = int(size[1], 16), data[len(line) :]
-        if size == 0:
-            return body, skip_trailers(data)
-        if len(body) + size > LIMIT:
-            raise Refused(BODY_TOO_LARGE)
-        body, data = body + data[:size], data[size:]
-        if data in (b"", b"\r"):
-            return body, None
-        if not data.startswith(CRLF):
-            raise Refused(BAD_FRAMING)
-        data = data[2:]
-    if len(data) >= MAX_CHUNK_LINE:
-        raise Refused(BAD_FRAMING)
-    return body, None
-
-
-def skip_trailers(data):
-    """The bytes behind trailers, None where these stop. A line that breaks off is not judged."""
-    try:
-        end = read_fields(data[:MAX_HEAD], 0, [], is_judged=False)
-    except Refused:
-        raise Refused(BAD_FRAMING) from None
-    if end is None and len(data) >= MAX_HEAD:
-        raise Refused(BAD_FRAMING)
-    return None if end is None else data[end:]
-
-
-def escaped(data):
-    """Bytes as Rust escapes them."""
-    named = {9: "\\t", 10: "\\n", 13: "\\r", 34: '\\"', 39: "\\'", 92: "\\\\"}
-    return "".join(named.get(byte) or (chr(byte) if 32 <= byte < 127 else f"\\x{byte:02x}") for byte in data)
-
-
-def words_of(head, body, asked, is_cut):
-    words = "cut " if is_cut else ""
-    words += f"{escaped(head.method)} {escaped(head.target)}"
-    words += "".join(f" {escaped(name)}: {escaped(value)};" for name, value in head.fields)
-    return words + f" [{escaped(body)}]" + " bare" * (head.method == b"HEAD") + " close" * head.closes + asked
+def marks_of(message, closes=""):
+    return " bare" * message.bare + closes + " asked" * message.continues
 
 
 def read(data, fails):
-    """What the next message of an input is, in words, and what is unread behind it; None where nothing more can be."""
+    """The next message of an input, in words, and the bytes after it, or None if nothing more can be read. If `fails`
+    is set, the input fails at its end."""
     try:
-        head, rest = read_head(data)
-    except Refused as refused:
-        return str(refused), None
-    if head is None:
+        message, rest = read_message(data, LIMIT)
+    except BrokenOff as broken:
         if len(data) >= MAX_HEAD:
-            return HEAD_TOO_LARGE, None
+            return broken.text, None
         if fails:
             return READ_FAILED, None
-        return ("end" if data == CRLF * (len(data) // 2) else BAD_HEAD), None
-    asked = ""
-    try:
-        size = size_of(head)
-        expects = [value.lower() for value in head.values(b"expect")]
-        asked = " asked" * (b"100-continue" in expects and size != 0 and head.minor == b"1")
-        body, rest = read_chunks(rest) if size is None else (rest[:size], rest[size:] if len(rest) >= size else None)
+        return ("end" if data == CRLF * (len(data) // 2) else broken.text), None
     except Refused as refused:
-        return f"{refused}" + " bare" * (head.method == b"HEAD") + asked, None
-    return words_of(head, body, asked, rest is None), rest
+        return refused.text + (marks_of(refused.message) if hasattr(refused, "message") else ""), None
+    return words_of(message), None if message.cut else rest
 
 
 def answer(data, fails=False, calls=1):
-    """What so many calls give."""
+    """The results of this many calls."""
     words, rest = [], data
     for _ in range(calls):
         if rest is None:
@@ -206,12 +68,11 @@ def answer(data, fails=False, calls=1):
 
 
 def row(mark, data, wanted):
-    text = escaped(data)
-    text = text[:-1] + "\\x20" if text.endswith(" ") else text
+    text = escaped_line(data)
     print(f"{mark} {text} => {wanted}" if text else f"{mark} => {wanted}")
 
 
-# What is drawn.
+# The drawn rows.
 
 SIZED = b"HEAD / HTTP/1.1\r\nContent-Length: 3\r\nExpect: 100-continue\r\n\r\nabcGET"
 CHUNKED = b"POST / HTTP/1.1\r\nTransfer-Encoding: chunked\r\n\r\n4\r\nabcd\r\n0\r\nX: 1\r\n\r\nGET"
@@ -227,8 +88,7 @@ REPLY = (
 )
 UPLOAD = "/files/0123456789abcdef0123456789abcdef"
 
-# What can be wrong with a POST, in the order in which it is looked for. A target that is unknown is no upload's, so these
-# two never meet.
+# The faults of a POST, in the order of the checks. An unknown target is no upload's, so these two never meet.
 WRONGS = [
     ("13 Repeated", "lines", ["X-HTTP-Method-Override: POST", "X-HTTP-Method-Override: POST"]),
     ("10 Version", "version", "0.2.2"),
@@ -277,7 +137,7 @@ def print_writes():
 
 
 def print_request(*wrongs):
-    """A POST with these things wrong; the lines of the first stand before those of the second."""
+    """A POST with these faults. The lines of the first come before those of the second."""
     parts = {"target": "/files", "version": "1.0.0", "length": "10"}
     parts.update({name: value for _, name, value in wrongs if name != "lines"})
     front, back = [[], [], *(value for _, name, value in wrongs if name == "lines")][-2:]
@@ -299,7 +159,7 @@ def print_wrongs():
 
 
 def draw(rng):
-    """A message of pieces that mostly fit."""
+    """A message made of pieces that mostly fit."""
     pick = rng.choice
     end = lambda: b"\n" if rng.randrange(8) == 0 else CRLF
     fields = rng.choices(
@@ -335,13 +195,8 @@ def print_drawn(rng, count):
 # Rows that others wrote.
 
 
-def unescaped(text):
-    return re.sub(rb"\\(x..|.)", lambda found: bytes([int(found[1][1:], 16)]) if found[1][0] == 120 else
-                  {b"r": b"\r", b"n": b"\n", b"t": b"\t"}.get(found[1], found[1]), text.encode())
-
-
 def hold(path):
-    """Prints the rows of a file that this reader reads in another way, and answers whether there are none."""
+    """Prints the rows of a file that this reader reads in another way, and returns whether there are none."""
     start, text, is_odd, held, well = b"", b"", False, 0, True
     for line in open(path, encoding="ascii").read().splitlines():
         line, _, wanted = line.partition(" => ")
@@ -376,6 +231,7 @@ def main():
     given = words.parse_args()
     if given.hold:
         sys.exit(0 if hold(given.hold) else 1)
+    # The stored file names the script like this in its first line.
     print(f"# What bench/messages drew: --seed {given.seed} --drawn {given.drawn}")
     print_fronts()
     print_changes()

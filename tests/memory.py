@@ -1,34 +1,35 @@
 #!/usr/bin/env python3
-"""Refuses `up` the memory it asks for, one request after another, and holds what it does then to a plain model of it.
+"""Refuses `up` memory, one request after another, and compares what it then does with a plain model of it.
 
-    tests/memory [--program PATH] [--refusals PATH] [NAME..]
+    tests/memory.py [--program PATH] [--refusals PATH] [NAME..]
 
-It needs Python 3 and a C compiler, for tests/memory.c, which is loaded with the program, counts its requests for
-memory and refuses those it is told to; where there is no compiler it says so, and all is passed over. It takes less
-than a minute. The gate, `.ci/run`, runs it with the programs that it has built.
+It needs Python 3 and a C compiler, for tests/memory.c. That library is loaded with the program, counts its requests for
+memory, and refuses those that it is told to refuse. If there is no compiler, the script says so and skips everything.
+It takes less than a minute. The gate, `.ci/run`, runs it with the programs that it has built.
 
-Each case but the last is a conversation. The program is run on it with all the memory it wants, then with its first
-request refused, then with its second, and so on until a run meets no refusal. The model (tests/model.py) takes the
-same messages, but those that were answered 503. In each run the program ends by itself, with status 0, or with 1 and
-`out of memory` or `a lane stopped`. Each reply is the model's to the byte, or an empty 503. The report has the
-model's number of changes, and of each upload's events a front; all of them where the lane drained. A refusal shows in
-one place at most: as a 503, a lane that stopped (of a server one that waited, and went on), a connection closed with
-no answer, or the end of the program.
+Each case but the last is a conversation. The program is run on it with all the memory it asks for, then with its first
+request refused, then with its second, and so on until a run meets no refusal. The model (tests/model.py) takes the same
+messages, except those that were answered 503. In each run the program must end by itself, with status 0, or with 1 and
+`out of memory` or `a lane stopped`. Each reply must be the model's to the byte, or an empty 503. The report must have
+the model's number of changes, and a prefix of each upload's events; all of them if the lane drained. A refusal may show
+in one place at most: as a 503, as a lane that stopped (or, in a server, one that waited and continued), as a connection
+closed without an answer, or as the end of the program.
 
-A 503 closes just where memory was wanting while its message was read, and a creation that was read has taken its id
-just where its request stood. On standard input the first thread serves, and asks for memory in the same order in each
-run: so while later and later requests are refused, a message's answers are first those that close, then those behind
-which no id was taken, then those behind which one was. A closing one ends the conversation, and the id of the next
-creation tells of the others. No lane's request is answered by a 503.
+A 503 closes exactly if memory ran out while its message was read. A creation that was read has taken its id exactly if
+its request was formed before memory ran out. On standard input the first thread serves, and asks for memory in the same
+order in each run. So while later and later requests are refused, the answers to a message are first those that close,
+then those after which no id was taken, then those after which an id was taken. An answer that closes ends the
+conversation, and the id of the next creation shows which of the other two it was. No request of a lane is answered by a
+503.
 
-In the last case `up_refusals` (crates/up_refusals) takes the place of `up`: it makes single calls and tells of each
-what stands before it, what it answers and what stands after it. Where no request is refused that is the stored
-`stdout`. Where some are, one, four in a row or all from some request on, it is still that, with calls between that
-were refused memory: each such call stands where the same one stands behind it, and leaves what stood before. The
-program may end there, with status 1 and `out of memory`.
+In the last case `up_refusals` (crates/up_refusals) replaces `up`. It makes single calls, and prints for each the state
+before it, its result, and the state after it. If no request is refused, that is the stored `stdout`. If requests are
+refused (one, four in a row, or all from some request on), it is still the same, with additional calls that ran out of
+memory: each of these comes before the same call as it is stored, and leaves the state as it was. The program may end
+there, with status 1 and `out of memory`.
 
-A line for each case says whether it passed, with how many runs; the last line is `N passed, M failed`, and the exit
-status is 1 where one failed.
+For each case, one line says whether it passed, and the number of runs. The last line is `N passed, M failed`, and the
+exit status is 1 if a case failed.
 """
 import collections
 import fcntl
@@ -45,57 +46,55 @@ import tempfile
 import termios
 import time
 
-from messages import id_text, write_response
+from messages import write_response
 from model import Rules
 from model import Server as Model
-from serving import MAX_SIZE, ROOT, Connection, Server, below, head, patch, same, soon, try_all, words_of
+from serving import (
+    AGAIN, MAX_SIZE, NO_THREAD, NOWHERE, ROOT, Connection, Server, below, head, patch, patch_in_chunks, path_of, same, soon,
+    try_all, words_of,
+)
 
 MIB = 1 << 20
 
 # Whose requests for memory are counted: those of all threads, of the first one, which serves standard input, or of all
-# others.
+# other threads.
 OF_ALL, OF_FIRST, OF_OTHERS = range(3)
 
-# What an answer for want of memory tells: it closes; or it doesn't, and no id was taken; or one was.
+# What an out-of-memory answer shows: it closes; or it doesn't close, and no id was taken; or an id was taken.
 CLOSES, TAKES_NONE, TAKES_ID = range(3)
 
 # The most seconds that a run may take.
 MOST_SECONDS = 10
 
-# The number of the last request there is.
+# The greatest number of a request.
 LAST = (1 << 64) - 1
 
-# What a server says of a lane on standard error.
+# What a server reports about a lane on standard error.
 OF_LANE = re.compile(r"up_server: lane (\d+) (waits for memory|goes on)\n")
 
-# What it says, asked by `--status`, of how it stands: that its only lane drains or stopped, and how many events wait.
+# The state that a server reports with `--status`: that its only lane drains or stopped, and how many events wait.
 OF_STATUS = re.compile(r"up_server: uploads \d+, .*, lane 0 (drains|stopped) \((\d+) waiting\)\n")
 
-# The fewest bytes by which a lane's report grows. Nothing else asks for so many at once, where bodies are small, but for
-# the journal's table of the ids that were ended, which is made at the start.
+# The fewest bytes by which a lane's report grows. If bodies are small, nothing else asks for so many at once, except
+# for the journal's table of ended ids, which is made at the start.
 REPORT_GROWTH = 80 << 10
 AT_START = 1
 
-# How many times a lane that waits is tried at the end, and how many seconds it waits after it was tried five times.
+# How often a lane that waits is tried at the end, and how many seconds it waits after five attempts.
 LAST_TRIES = 3
 PAUSE_AFTER_FIVE = 1.6
 
-# What a server may say beside its lanes and its fault: that no thread can be started, and that it can; and that a change
-# can't be written to the log, and that one was.
+# What a server may report besides its lanes and its fault: that it can't start a thread, and that it can again; and
+# that a change can't be written to the log, and that one was written again.
 MAY_BE_SAID = [
-    "up_server: no connection can be let in: no thread can be started\n",
-    "up_server: connections are let in again\n",
+    NO_THREAD,
+    AGAIN,
     "up_server: changes can't be stored, and are refused: out of memory\n",
     "up_server: changes are stored again\n",
 ]
 
-# The path of an upload that there never is.
-NOWHERE = "/files/" + 32 * "0"
-
 OUT_OF_MEMORY = "up_server: out of memory\n"
 LANE_STOPPED = "up_server: a lane stopped\n"
-NO_THREAD = "up_server: no connection can be let in: no thread can be started\n"
-AGAIN = "up_server: connections are let in again\n"
 
 HERE = os.path.dirname(os.path.abspath(__file__))
 
@@ -103,7 +102,7 @@ memory = None
 
 
 class Memory:
-    """What a program asks of memory, as tests/memory.c counts it, and what is refused."""
+    """The requests for memory of a program, as tests/memory.c counts them, and those that are refused."""
 
     def __init__(self, folder):
         path = os.path.join(folder, "control")
@@ -116,14 +115,15 @@ class Memory:
         self.environment = {**os.environ, "LD_PRELOAD": library, "MEMORY_CONTROL": path}
 
     def begin(self, first, last, whose=OF_ALL, least=0):
-        """Counts from 1 again, for a program that is started next: requests of these threads, for so many bytes."""
+        """Counts from 1 again, for a program that is started next: requests of these threads, for at least this many
+        bytes."""
         self.numbers[0] = self.numbers[1] = 0
         self.numbers[4] = whose
         self.numbers[5] = least
         self.refuse(first, last)
 
     def refuse(self, first, last):
-        """Refuses the requests of these numbers from now on."""
+        """From now on, refuses the requests with these numbers."""
         self.numbers[3] = 0
         self.numbers[2] = first
         self.numbers[3] = last
@@ -137,24 +137,24 @@ class Memory:
         return self.numbers[1]
 
 
-# What is held to the model.
+# What is compared with the model.
 
 
-# What is written where memory is wanting before a head is whole. A server that waits for a message may write it too,
-# for it asks for memory before the first byte comes.
+# What is written if memory runs out before a head is complete. A server that waits for a message may write it too,
+# since it asks for memory before the first byte comes.
 WANT_IN_HEAD = write_response(503, [], b"", False, True)
 
 
 def wants(message):
-    """What may be written to a message for want of memory."""
+    """The replies to a message if memory runs out."""
     bare = message.startswith(b"HEAD")
     return [*(write_response(503, [], b"", bare, closes) for closes in (False, True)), WANT_IN_HEAD]
 
 
 def follow(model, talk, replies, takes_id):
-    """Holds the replies of a conversation to the model, where a creation whose answer is for want of memory and doesn't
-    close has taken its id or not. Answers those that are for want of memory, each by its place and what it tells, and
-    what stands behind the last reply."""
+    """Compares the replies of a conversation with the model. `takes_id` says whether a creation that ran out of memory
+    and didn't close has taken its id. Returns the out-of-memory answers, each with its place and what it shows, and the
+    bytes after the last reply."""
     want = []
     for place, (message, status) in enumerate(talk):
         if model.closed:
@@ -176,7 +176,7 @@ def follow(model, talk, replies, takes_id):
 
 
 def by_upload(events):
-    """The events of each upload, in their order."""
+    """The events of each upload, in order."""
     found = {}
     for event in events:
         found.setdefault(event.split()[0], []).append(event)
@@ -184,7 +184,7 @@ def by_upload(events):
 
 
 def stopped_lanes(model, report):
-    """Holds a report to the model. Answers how many lanes stopped."""
+    """Compares a report with the model, and returns how many lanes stopped."""
     front = f"\naccepted {model.accepted}\n"
     same((report[: len(front)], report[-1:]), (front, "\n"), "the front and the end of the report")
     lines = report[len(front) :].splitlines()
@@ -205,7 +205,7 @@ def stopped_lanes(model, report):
 
 
 def check_end(model, status, fault, report):
-    """Holds the end of a run to the model. Answers whether memory was wanting for the report, and how many lanes
+    """Compares the end of a run with the model. Returns whether memory ran out for the report, and how many lanes
     stopped."""
     if (status, fault, report) == (1, OUT_OF_MEMORY, ""):
         return 1, 0
@@ -217,7 +217,7 @@ def check_end(model, status, fault, report):
 
 
 def count_places(tally, want, dropped, ended, lanes, of_lanes="with a stopped lane"):
-    """Counts a run. A refusal shows in one place at most."""
+    """Counts a run, and checks that no refusal shows in two places."""
     places = want + dropped + ended + lanes
     shown = f"{want} replies, {dropped} connections, {ended} ends and {lanes} lanes"
     same(places <= memory.refused, True, f"whether {memory.refused} refusals show in {shown}")
@@ -230,8 +230,8 @@ def count_places(tally, want, dropped, ended, lanes, of_lanes="with a stopped la
 
 
 def refuse_each(run):
-    """Runs with no refusal, which answers how many requests there are to refuse, then with each refused in turn, until
-    a run meets no refusal. Answers what was counted."""
+    """Runs without a refusal, which returns how many requests there are to refuse, and then with each request refused
+    in turn, until a run meets no refusal. Returns the counts."""
     tally = collections.Counter()
     for number in itertools.count():
         try:
@@ -247,15 +247,11 @@ def refuse_each(run):
 
 
 def told(tally):
-    """What was counted, in words."""
+    """The counts, in words."""
     return ", ".join(f"{count} {name}" for name, count in tally.items() if count)
 
 
-# Messages: functions of a list of paths, in which those of the uploads stand from place 1 on.
-
-
-def path_of(upload):
-    return f"/files/{id_text(upload).decode()}"
+# Messages: functions of a list of paths, which has those of the uploads from index 1 on.
 
 
 def create(length=None, **fields):
@@ -266,7 +262,7 @@ def create(length=None, **fields):
 
 
 def join(*parts):
-    """Makes a final upload of these."""
+    """Makes a final upload of these parts."""
     return lambda paths: create(upload_concat="final;" + " ".join("http://a" + paths[part] for part in parts))(paths)
 
 
@@ -275,9 +271,8 @@ def append(upload, offset, body):
 
 
 def declare(upload, offset, length, body):
-    """A PATCH that says the upload's length."""
-    fields = {"Content-Type": "application/offset+octet-stream", "Upload-Offset": offset, "Upload-Length": length}
-    return lambda paths: head("PATCH", paths[upload], {**fields, "Content-Length": len(body)}) + body
+    """A PATCH that declares the upload's length."""
+    return lambda paths: patch(paths[upload], offset, len(body), length) + body
 
 
 def ask(method, upload):
@@ -288,8 +283,8 @@ def ask(method, upload):
 
 
 def replay(rules, talk, whose, number, tally, answers):
-    """Runs a conversation with this request refused, of those of these threads, and holds what comes of it to the model.
-    Adds the answers that are for want of memory to a list."""
+    """Runs a conversation with this request of these threads refused, and compares the result with the model. Adds the
+    out-of-memory answers to a list."""
     memory.begin(number, number, whose)
     given = b"".join(message for message, _ in talk)
     words = [program, "replay", *rules.words().split()]
@@ -302,8 +297,8 @@ def replay(rules, talk, whose, number, tally, answers):
 
 
 def check_replay(rules, talk, told, fault, status):
-    """Holds a run to the model, which has a creation that wants memory take its id, or else not. Answers the replies that
-    are for want of memory, whether it ended so, and how many lanes stopped."""
+    """Compares a run with the model, both if a creation that runs out of memory takes its id and if it doesn't. Returns
+    the out-of-memory replies, whether the program ended because of the refusal, and how many lanes stopped."""
     found, faults = {}, []
     for takes_id in (False, True):
         try:
@@ -320,7 +315,7 @@ def check_replay(rules, talk, told, fault, status):
 
 
 def check_reading(rules, talk, takes_id, told, fault, status):
-    """Holds a run to the model, where a creation that wants memory takes its id or doesn't."""
+    """Compares a run with the model, for one of the two cases of `takes_id`."""
     if memory.refused and not told:
         same((status, fault), (1, OUT_OF_MEMORY), "the status and the fault of a run without a reply")
         return [], 1, 0
@@ -332,8 +327,8 @@ def check_reading(rules, talk, takes_id, told, fault, status):
 
 
 def told_apart(talk, answers):
-    """Holds the answers for want of memory, while later and later requests of the thread that serves are refused, to
-    their order: of the messages, and of each what closes, what took no id, and what took one."""
+    """Checks the order of the out-of-memory answers while later and later requests of the serving thread are refused:
+    by message, and for each message those that close, then those that took no id, then those that took one."""
     same(answers, sorted(answers), "the order of the answers for want of memory")
     for place, (message, _) in enumerate(talk[:-1]):
         wanted = {CLOSES, TAKES_ID if message.startswith(b"POST") else TAKES_NONE}
@@ -342,9 +337,9 @@ def told_apart(talk, answers):
 
 
 def replay_each(rules, talk):
-    """Refuses each request of a conversation in turn: first those of the thread that serves it, then those of the lanes.
-    The talk has each message with the status that is wanted, where memory isn't; the last one makes an upload, whose id
-    tells how many were taken before."""
+    """Refuses each request of a conversation in turn: first those of the thread that serves it, then those of the
+    lanes. The talk has each message with the status expected if memory suffices. Its last message makes an upload,
+    whose id shows how many ids were taken before."""
     paths = [path_of(number) for number in range(10)]
     talk = [(make(paths), status) for make, status in talk]
     answers, by_lanes = [], []
@@ -373,7 +368,7 @@ def two_patches():
 
 
 def final_upload():
-    """A final upload of two parts, one of which stands in it twice."""
+    """A final upload of two parts, one of which it contains twice."""
     talk = [
         (create(3, upload_concat="partial"), 201), (append(1, 0, b"abc"), 204),
         (create(4, upload_concat="partial"), 201), (append(2, 0, b"defg"), 204),
@@ -402,7 +397,7 @@ def required_key():
 
 
 def longest_upload():
-    """A server with a limit on what is made."""
+    """A server with a limit on the length of new uploads."""
     return told(replay_each(Rules(2, 16, MIB, max_length=4), [(create(4), 201), (create(5), 413), (create(3), 201)]))
 
 
@@ -425,7 +420,7 @@ def declared_length():
 
 
 def longest_to_finish():
-    """A server with a limit on what is complete."""
+    """A server with a limit on the length of complete uploads."""
     talk = [
         (create(4), 201), (append(1, 0, b"abc"), 204), (append(1, 3, b"d"), 422), (ask("HEAD", 1), 200),
         (append(1, 3, b""), 204), (create(0), 201),
@@ -433,19 +428,19 @@ def longest_to_finish():
     return told(replay_each(Rules(2, 16, MIB, max_finish=3), talk))
 
 
-# How many requests for memory a body of `LONG` bytes makes at least while it comes: its buffer doubles, from 8 KiB on.
+# The least number of requests for memory while a body of `LONG` bytes comes: its buffer doubles, from 8 KiB on.
 LONG = 40_000
 LEAST_GROWTHS = 3
 
 
 def is_asleep(process):
-    """Whether the first thread of a process waits."""
+    """Whether the first thread of a process is waiting."""
     with open(f"/proc/{process}/stat", encoding="ascii") as file:
         return file.read().rpartition(") ")[2].startswith("S")
 
 
 def quiet(server):
-    """Waits until a program has read what it was sent, and waits for more, or has ended."""
+    """Waits until a program has read its input and waits for more, or has ended."""
     before = None
     while server.poll() is None:
         unread = struct.unpack("i", fcntl.ioctl(server.stdin, termios.FIONREAD, bytes(4)))[0]
@@ -456,8 +451,8 @@ def quiet(server):
 
 
 def withhold(rules, talk, number, tally, answers):
-    """Runs a conversation of whose last message a byte is kept back until the server waits for it, with this request
-    refused. Answers how many requests are made until then."""
+    """Runs a conversation with this request refused, and withholds the last byte of its last message until the server
+    waits for it. Returns how many requests are made until then."""
     memory.begin(number, number, OF_FIRST)
     given = b"".join(message for message, _ in talk)
     words = [program, "replay", *rules.words().split()]
@@ -481,10 +476,9 @@ def withhold(rules, talk, number, tally, answers):
 
 
 def withheld():
-    """A message of which a byte is still to come: where memory is wanting, it is answered by a 503 that closes."""
+    """A message whose last byte is still to come: if memory runs out, the answer is a 503 that closes."""
     chunks = b"%x\r\n" % LONG + bytes(LONG) + b"\r\n0\r\n\r\n"
-    fields = {"Content-Type": "application/offset+octet-stream", "Upload-Offset": 0, "Transfer-Encoding": "chunked"}
-    talk = [(create(LONG)([]), 201), (head("PATCH", path_of(1), fields) + chunks, 204)]
+    talk = [(create(LONG)([]), 201), (patch_in_chunks(path_of(1)) + chunks, 204)]
     answers, tally, rules = [], collections.Counter(), Rules(2, 16, MIB)
     most = withhold(rules, talk, 0, tally, answers)
     for number in range(1, most + 1):
@@ -499,7 +493,8 @@ def withheld():
 
 
 class Visit:
-    """A connection that makes an upload and talks of it. A server that is gone is one that closes it."""
+    """A connection that makes an upload and sends requests about it. If the server is gone, it counts as one that
+    closes."""
 
     def __init__(self, server, model):
         self.model = model
@@ -516,7 +511,7 @@ class Visit:
         self.connection = None
 
     def end(self):
-        """Sends no more. Nothing is replied to that, unless memory was wanting while the server waited."""
+        """Stops sending. The server must reply nothing, unless memory ran out while it waited."""
         if self.connection:
             self.connection.socket.shutdown(socket.SHUT_WR)
             behind = self.connection.take(len(WANT_IN_HEAD) + 1)
@@ -532,7 +527,7 @@ class Visit:
             pass
 
     def reply(self):
-        """The next reply, or None where the server closes in place of one."""
+        """The next reply, or None if the server closes instead."""
         try:
             if self.connection.read or self.connection.more():
                 return self.connection.reply(self.message.startswith(b"HEAD"))
@@ -541,7 +536,7 @@ class Visit:
         return None
 
     def hear(self):
-        """Holds the next reply to the model."""
+        """Compares the next reply with the model."""
         reply = self.reply()
         if reply is None:
             same(self.heard, 0, "how many replies a connection had that was closed without one")
@@ -563,7 +558,7 @@ class Visit:
 
 
 def speak(*visits):
-    """Has these visits, each with its talk, say their messages at once, one from each at a time."""
+    """Has these visits, each with its talk, send their messages at once, one of each at a time."""
     for messages in itertools.zip_longest(*(talk for _, talk in visits)):
         spoken = [(visit, make) for (visit, _), make in zip(visits, messages) if make and visit.connection]
         for visit, make in spoken:
@@ -573,24 +568,25 @@ def speak(*visits):
 
 
 def first_half(body):
-    """A talk that makes an upload, and sends some of its bytes."""
+    """A talk that makes an upload and sends some of its bytes."""
     return [create(len(body), upload_metadata="filename d29ybGQucGRm"), append(1, 0, body[:6]), ask("HEAD", 1)]
 
 
 def second_half(body):
-    """A talk that sends the rest, first at a wrong offset, and fetches all."""
+    """A talk that sends the rest, first at a wrong offset, and fetches everything."""
     return [append(1, 5, body[6:]), append(1, 6, body[6:]), ask("GET", 1)]
 
 
 def served(connections, lanes=2, more=()):
-    """A server of so many lanes that ends after so many connections, with these words more, and the model of it."""
+    """A server with this number of lanes that ends after this number of connections, with `more` words, and its
+    model."""
     words = ["--connections", str(connections), "--lanes", str(lanes), *more]
     server = Server(program, *words, environment=memory.environment, may_fail=True)
     return server, Model(Rules(lanes, 16, MAX_SIZE), collections.Counter())
 
 
 def said_of_lanes(said):
-    """What a server says beside its lanes; how often a lane waited for memory; and which lanes wait still."""
+    """What a server reports besides its lanes, how often a lane waited for memory, and which lanes still wait."""
     waiting, waits = [], 0
     for lane, what in OF_LANE.findall(said):
         same(lane in waiting, what == "goes on", f"whether lane {lane} waits that {what}")
@@ -603,8 +599,8 @@ def said_of_lanes(said):
 
 
 def check_served(server, model, visits, tally, may_stop=False):
-    """Waits for the end of a server, and holds it to the model. No lane may stop, where that isn't said. Answers how
-    often a lane waited for memory, which lanes wait still, and what was said of how the server stood."""
+    """Waits for the end of a server, and compares it with the model. Unless `may_stop` is set, no lane may stop.
+    Returns how often a lane waited for memory, which lanes still wait, and the states that the server reported."""
     for visit in visits:
         visit.end()
     status = server.process.wait(MOST_SECONDS)
@@ -629,7 +625,7 @@ def check_served(server, model, visits, tally, may_stop=False):
 
 
 def serve_two(number, tally):
-    """Serves two connections at once with this request refused, and holds what comes of it to the model."""
+    """Serves two connections at once with this request refused, and compares the result with the model."""
     memory.begin(number, number)
     server, model = served(2)
     with server:
@@ -642,8 +638,9 @@ def serve_two(number, tally):
 
 
 def lane_in_want(is_over):
-    """Serves a connection while its lane's report can't grow. Once the lane was tried five times, it can, or else the
-    connection ends. Meanwhile it is said that the lane stopped, and how many events wait."""
+    """Serves a connection while its lane's report can't grow. After five attempts of the lane the report can grow if
+    `is_over` is set; otherwise the connection ends. Meanwhile the server must report that the lane stopped, and how
+    many events wait."""
     memory.begin(AT_START + 1, LAST, least=REPORT_GROWTH)
     server, model = served(1, lanes=1, more=["--status", "1"])
     with server:
@@ -666,7 +663,8 @@ def lane_in_want(is_over):
 
 
 def heard_waiting(*visits):
-    """Asks on connections on which the server waited while memory was wanting: each is served, or closed by a 503."""
+    """Sends requests on connections on which the server waited while memory ran out: each is served, or closed by a
+    503."""
     before = [visit.want for visit in visits]
     speak(*((visit, [ask("HEAD", 1)]) for visit in visits))
     for visit, want in zip(visits, before):
@@ -674,8 +672,8 @@ def heard_waiting(*visits):
 
 
 def serve_in_want(number, count, tally):
-    """Serves a connection; refuses so many requests from this one on, while it goes on and a second one comes; then
-    holds what both are told, and a third one, to the model."""
+    """Serves a connection. Refuses `count` requests from this one on while it continues and a second connection comes.
+    Then compares what both are told, and a third connection, with the model."""
     memory.begin(0, 0)
     server, model = served(3)
     with server:
@@ -707,7 +705,8 @@ def serve_in_want(number, count, tally):
 
 
 def run_stored(store, model, talk):
-    """Serves a connection with this talk over a store. The visit, the status, and what the server said and wrote."""
+    """Serves a connection with this talk over a store. Returns the visit, the status, what the server reported, and its
+    output."""
     words = ["--connections", "1", "--lanes", "1", "--events", "--store", store]
     with Server(program, *words, environment=memory.environment, may_fail=True) as server:
         visits = [Visit(server, model)] if server.port else []
@@ -720,7 +719,7 @@ def run_stored(store, model, talk):
 
 
 def check_stored(visits, status, said, tally):
-    """Holds the end of a run over a store to what a refusal may do."""
+    """Checks that the end of a run over a store is one that a refusal may cause."""
     said, waits, waiting = said_of_lanes(said)
     fault = "".join(line for line in said.splitlines(keepends=True) if line not in MAY_BE_SAID)
     ended = status != 0 and not waiting
@@ -734,8 +733,8 @@ def check_stored(visits, status, said, tally):
 
 
 def serve_stored(number, tally):
-    """Serves a connection over a store with this request refused. A second run has what was answered then and nothing
-    else, and hands over the events that the first did not."""
+    """Serves a connection over a store with this request refused. A second run must have exactly what was answered in
+    the first, and must hand over the events that the first didn't."""
     model, body = Model(Rules(1, 16, MAX_SIZE), collections.Counter()), b"hello world"
     talk = first_half(body) + second_half(body) + [create(4), append(1, 0, b"abcd"), ask("DELETE", 1), create(2)]
     with tempfile.TemporaryDirectory(prefix="up-memory-") as folder:
@@ -745,7 +744,7 @@ def serve_stored(number, tally):
         asked = memory.asked
         check_stored(visits, status, said, tally)
         memory.refuse(0, 0)
-        paths = ["/files/" + id_text(upload.number).decode() for upload in model.uploads]
+        paths = [path_of(upload.number) for upload in model.uploads]
         look = [lambda _, what=what, path=path: head(what, path, {}) for path in paths for what in ("HEAD", "GET")]
         visits, status, said, second = run_stored(store, model, look + first_half(body) + second_half(body))
     same((status, said), (0, ""), "how the second run ends")
@@ -758,7 +757,7 @@ def serve_stored(number, tally):
 
 
 def stored_changes():
-    """A server over a store, which is started again."""
+    """A server over a store, which is started a second time."""
     return told(refuse_each(serve_stored))
 
 
@@ -768,17 +767,18 @@ def two_connections():
 
 
 def lane_that_waits():
-    """A lane whose report can't grow waits and goes on; at the end it is tried three times more, and waits no longer."""
+    """A lane whose report can't grow waits and continues; at the end it is tried three more times, and waits no
+    longer."""
     return told(lane_in_want(True) + lane_in_want(False))
 
 
 def want_for_a_while():
-    """A server is refused all memory from some request on; once it gets memory again it serves as before."""
+    """A server is refused all memory from some request on; once it gets memory again, it serves as before."""
     return told(refuse_each(lambda number, tally: serve_in_want(number, LAST, tally)))
 
 
 def want_of_four():
-    """A server is refused four requests in a row, and serves as before behind them."""
+    """A server is refused four requests in a row, and then serves as before."""
     return told(refuse_each(lambda number, tally: serve_in_want(number, 4, tally)))
 
 
@@ -787,20 +787,20 @@ def want_of_four():
 
 Call = collections.namedtuple("Call", "before made name answer word after")
 
-# The lines that tell of a call.
+# The lines that report a call.
 CALL = re.compile(r"before: (.*)\n((.+?)\(.*\)) => (.*)\n(after|after, the same|after, not the same): (.*)\n")
 
-# The functions that are called.
+# The functions that must have been called.
 CALLED = {
     "lane_queue", "BoardParts::new", "Board::new", "plan", "commit", "note", "pairs_of", "request_of", "step", "finish",
 }
 
-# What a call answers that is refused memory.
+# The result of a call that runs out of memory.
 WANT = "out of memory"
 
 
 def calls_in(text):
-    """The calls that a text tells of."""
+    """The calls that a text reports."""
     lines = text.splitlines(keepends=True)
     found = [CALL.fullmatch("".join(lines[place : place + 3])) for place in range(0, len(lines), 3)]
     same(None in found, False, f"whether some lines of {text[-200:]!r} tell of no call")
@@ -808,8 +808,8 @@ def calls_in(text):
 
 
 def make_calls(number, count, tally, wanting):
-    """Makes the calls with so many requests refused from this one on, and holds what is told of them to what is stored.
-    Counts in `wanting` those that were refused memory."""
+    """Makes the calls with `count` requests refused from this one on, and compares them with the stored ones. Counts in
+    `wanting` the calls that ran out of memory."""
     memory.begin(number, number and min(number + count - 1, LAST))
     folder = os.path.join(ROOT, "crates", "up_refusals")
     with open(os.path.join(folder, "stdin"), "rb") as given, open(os.path.join(folder, "stdout")) as stored:
@@ -838,7 +838,7 @@ def make_calls(number, count, tally, wanting):
 
 
 def single_calls():
-    """Single calls: what stands before one that is refused memory stands after it, and the next one succeeds."""
+    """Single calls: one that runs out of memory leaves the state as it was, and the next one succeeds."""
     tally, wanting = collections.Counter(), collections.Counter()
     for count in (1, 4, LAST):
         tally += refuse_each(lambda number, tally: make_calls(number, count, tally, wanting))

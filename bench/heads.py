@@ -1,11 +1,11 @@
 #!/usr/bin/env python3
 """Times how messages are read: heads and trailers of many fields, metadata of many keys, and long chunk lines.
 
-    bench/heads [--runs N]
+    bench/heads.py [--runs N]
 
-Each figure is the time of one piece, the best of N runs (by default 5) over many copies of it, and how many times that of a
-plain pass over the same bytes it is, which adds them up. What it takes to copy them is timed too, and taken off. Some have
-a goal: where one is missed, the script ends with 1.
+Each figure is the time of one piece, the best of N runs (by default 5) over many copies of it, and how many times as
+long that is as a plain pass over the same bytes, which adds them up. The time to copy the pieces is measured too, and
+subtracted. Some figures have a goal; if one is missed, the script exits with status 1.
 """
 import argparse
 import os
@@ -13,19 +13,19 @@ import subprocess
 import sys
 import time
 
-ROOT = os.path.dirname(os.path.dirname(os.path.abspath(__file__)))
-FOLDER = os.path.join(ROOT, "crates", "up_rows")
-PROGRAM = os.path.join(FOLDER, "out", "up_rows")
+sys.path.insert(0, os.path.join(os.path.dirname(os.path.dirname(os.path.abspath(__file__))), "tests"))
+from messages import escaped  # noqa: E402
+from serving import build  # noqa: E402
 
-# The bytes that all copies have, about.
+# About how many bytes all copies have together.
 SIZE = 8 << 20
 
-# What a key may be made of.
+# The letters that a key may have.
 LETTERS = "abcdefghijklmnopqrstuvwxyzABCDEFGHIJKLMNOPQRSTUVWXYZ0123456789!#$%&'*+-.^_`|~"
 
 
 def fields(count, length=30):
-    """So many lines of fields, each with so many bytes."""
+    """This many lines of fields, each of this many bytes."""
     lines = []
     for number in range(count):
         name = f"X-Field-{number:02}: "
@@ -38,13 +38,13 @@ def head(lines):
 
 
 def metadata(count):
-    """So many keys, none twice, each of as few letters as there must be."""
+    """This many different keys, each as short as possible."""
     keys = [*LETTERS, *(a + b for a in LETTERS for b in LETTERS)][:count]
     return head(f"Upload-Metadata: {','.join(keys)}\r\n")
 
 
 def chunks(count):
-    """A message of so many chunks of one byte, each behind a line of 245 bytes."""
+    """A message of this many chunks of one byte, each after a line of 245 bytes."""
     line = "1;note=" + "n" * (245 - len("1;note=") - 2) + "\r\n"
     return head("Transfer-Encoding: chunked\r\n") + f"{line}x\r\n".encode() * count + b"0\r\n\r\n"
 
@@ -53,7 +53,8 @@ def trailers():
     return head("Transfer-Encoding: chunked\r\n") + f"0\r\n{fields(63, 258)}\r\n".encode()
 
 
-# What is timed: the message, how many pieces it has, what is told of a message, and the goal of a piece in microseconds.
+# What is timed: the message, its number of pieces, what is counted in a message, and the goal of a piece in
+# microseconds.
 CHUNKS = 100_000
 ROWS = [
     ("head of 6 fields", head(fields(6)), 1, (0, 0), None),
@@ -67,25 +68,13 @@ ROWS = [
 ]
 
 
-def build():
-    """The program is built anew, where its crates changed."""
-    done = subprocess.run(["rt", "run"], cwd=FOLDER, capture_output=True, text=True)
-    if done.returncode != 0:
-        sys.exit(f"bench: the program was not built\n{done.stdout}{done.stderr}")
-
-
-def escaped(message):
-    """The bytes as a row has them."""
-    return message.decode().replace("\\", "\\\\").replace("\r", "\\r").replace("\n", "\\n")
-
-
-def best_of(runs, text, row, count):
-    """The best seconds of so many runs over a text that each of so many rows has anew."""
+def best_of(program, runs, text, row, count):
+    """The best seconds of this many runs of the program, over a text that each of `count` rows has for itself."""
     given = f"start {text}\n" + f"{row}\n" * count
     best = None
     for _ in range(runs):
         start = time.monotonic()
-        done = subprocess.run([PROGRAM], input=given, capture_output=True, text=True, check=True)
+        done = subprocess.run([program], input=given, capture_output=True, text=True, check=True)
         seconds = time.monotonic() - start
         if done.stdout != f"{count} rows, of which 0 differ\n":
             sys.exit(f"bench: {row}: {done.stdout!r}")
@@ -93,24 +82,23 @@ def best_of(runs, text, row, count):
     return best
 
 
-def seconds_of(runs, text, row):
-    """The seconds of a row over this text, by what eight rows more take."""
-    return (best_of(runs, text, row, 9) - best_of(runs, text, row, 1)) / 8
+def seconds_of(program, runs, text, row):
+    """The seconds of a row over this text, from the difference that eight more rows make."""
+    return (best_of(program, runs, text, row, 9) - best_of(program, runs, text, row, 1)) / 8
 
 
 def main():
     words = argparse.ArgumentParser()
     words.add_argument("--runs", type=int, default=5, help="how many runs, 1 or more")
     runs = words.parse_args().runs
-    build()
-    missed = []
+    program, missed = build("up_rows"), []
     for name, message, pieces, (bytes_told, pairs), goal in ROWS:
         copies = max(1, SIZE // len(message))
-        text = escaped(message) * copies
-        idle = seconds_of(runs, text, "pieces held => []")
+        text = escaped(message, quotes=False) * copies
+        idle = seconds_of(program, runs, text, "pieces held => []")
         counted = f"{copies} {copies * bytes_told} {copies * pairs}"
-        seconds = seconds_of(runs, text, f"count => {counted}") - idle
-        plain = seconds_of(runs, text, f"pass => {sum(message) * copies}") - idle
+        seconds = seconds_of(program, runs, text, f"count => {counted}") - idle
+        plain = seconds_of(program, runs, text, f"pass => {sum(message) * copies}") - idle
         each = seconds / (copies * pieces) * 1e6
         wanted = "" if goal is None else f" (goal: under {goal:,} us)"
         print(f"{name}: {each:.2f} us, {seconds / max(plain, 1e-6):.1f} times a pass{wanted}", flush=True)

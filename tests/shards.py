@@ -1,16 +1,18 @@
 #!/usr/bin/env python3
-"""Runs four shards, processes of `up serve --shard K`, behind each of the proxies of examples/shards, and holds what clients
-are answered and what the shards tell by `--events` to what docs/RUNNING.md says of shards.
+"""Runs four shards, processes of `up serve --shard K`, behind each of the proxies of examples/shards, and compares the
+replies to clients, and the events that the shards write by `--events`, with what docs/RUNNING.md says about shards.
 
-    tests/shards [--program PATH] [NAME..]
+    tests/shards.py [--program PATH] [NAME..]
 
-It needs Python 3, Linux, and Debian's `nginx-light` and `haproxy`; what isn't there is passed over, with its cases. All is on
-the loopback, where each client has an address of its own, and takes a minute.
+It needs Python 3, Linux, and Debian's `nginx-light` and `haproxy`. If a proxy is missing, its cases are skipped.
+Everything is on the loopback, where each client has an address of its own. It takes a minute.
 
-Where events are read, those of all shards together must be the ones that the clients were acknowledged of: each upload's, in
-order, each once, all of them told by the shard that its id names. Of a change without an answer there are all or none.
+If events are read, those of all shards together must be exactly the acknowledged ones: those of each upload, in order,
+each once, and all from the shard that the upload's id names. Of a change without an answer there are all events or
+none.
 
-A line for each case says whether it passed; the last line is `N passed, M failed`, and the exit status is 1 where one failed.
+For each case, one line says whether it passed. The last line is `N passed, M failed`, and the exit status is 1 if a
+case failed.
 """
 import contextlib
 import functools
@@ -24,25 +26,25 @@ import types
 from serving import Connection, at_once, below, same, soon, try_all, words_of
 from sharded import SHARDS, Client, HaproxyOfShards, NginxOfShards, Shards, hold, shard_of
 
-# How many files there are, how many clients bring them, and of how many parts each is, if it has any.
+# The number of files, of clients that upload them, and of parts of a file that has parts.
 FILES, CLIENTS, PARTS = 200, 20, 3
 
-# How many clients work while shards end, and how many seconds between one end and the next.
+# The number of clients that work while shards end, and the seconds between one end and the next.
 BUSY, PAUSE = 12, 1.5
 
-# How many clients are looked at where a shard is added.
+# The number of clients that are compared when a shard is added.
 MANY = 100
 
-# The shard that is to end while it still has events to hand over, and how many uploads each of eight clients makes for that:
-# together some 140,000 bytes of lines, of which a pipe holds 65,536.
+# The shard that has to end while it still has events to hand over, and the number of uploads that each of eight clients
+# makes for that: together some 140,000 bytes of lines, of which a pipe holds 65,536.
 ENDING, CROWD = 1, 300
 
-# What an upload is that nobody looks into.
+# The content of an upload if it doesn't matter.
 SMALL = b"hello world"
 
 
 def on_each(front):
-    """Clients, one of each shard, whose creations go there."""
+    """Clients, one for each shard, whose creations go to that shard."""
     found = {}
     for number in range(8 * SHARDS):
         client = Client(front, 100 + number)
@@ -63,14 +65,14 @@ class Behind:
     def both(self, *words, changes=()):
         """Four shards that write events, with these words, and the proxy in front of them, with these changes."""
         with Shards(program, "--events", *words) as shards, self.kind(shards, *changes) as front:
-            # A proxy that asks shards whether they are well has done so.
+            # By the time both hold, a proxy that checks the health of shards has done so.
             probe = Client(front, 99)
             soon(lambda: probe.status("/files", "OPTIONS") == 204, "the proxy finds a shard")
             soon(lambda: {probe.status(f"/files/{number:02x}{0:030x}") for number in range(SHARDS)} == {404}, "and each")
             yield shards, front
 
     def files(self):
-        """200 files, of which half come in parts, arrive whole at the shards of their clients."""
+        """200 files, half of which come in parts, arrive complete at the shards of their clients."""
         with self.both() as (shards, front):
             clients = [Client(front, number) for number in range(CLIENTS)]
 
@@ -98,7 +100,7 @@ class Behind:
 
     @staticmethod
     def in_parts(client, body):
-        """The path of a final upload of these bytes, whose parts are brought one after another."""
+        """The path of a final upload with these bytes, whose parts are uploaded one after another."""
         size = -(-len(body) // PARTS)
         pieces = [body[start : start + size] for start in range(0, len(body), size)]
         parts = [client.fill(piece, upload_concat="partial") for piece in pieces]
@@ -106,7 +108,8 @@ class Behind:
         return client.path
 
     def portal(self):
-        """Creations go by the field of a portal where there is one, and a final upload to its first part, from anywhere."""
+        """Creations go by the field of a portal if there is one, and a final upload goes to its first part, from
+        anywhere."""
         with self.both() as (shards, front):
             alike = [Client(front, number, X_Upload_Client="one") for number in range(8)]
             same(len({shard_of(client.make(3)) for client in alike}), 1, "how many shards one name has")
@@ -125,7 +128,8 @@ class Behind:
             same(hold(shards.end_all(), [*alike, *names, *ones]), 0, "how many uploads nobody knows")
 
     def grows(self):
-        """Where a shard is added, creations go where they went, or a few to the new one; behind a second proxy, to the same."""
+        """If a shard is added, creations go where they went, or a few to the new one; with a second proxy, to the
+        same."""
         with Shards(program) as shards:
             went = []
             for count in (SHARDS - 1, SHARDS, SHARDS):
@@ -138,7 +142,8 @@ class Behind:
         return f"{len(moved)} of {MANY} clients"
 
     def killed(self):
-        """The uploads of a shard that is killed are answered 502 until it is there; others go on, and creations don't fail."""
+        """The uploads of a killed shard are answered 502 until it is back; others continue, and creations don't
+        fail."""
         with self.both() as (shards, front):
             ones = on_each(front)
             paths = [client.make(len(SMALL)) for client in ones]
@@ -165,8 +170,8 @@ class Behind:
 
     @contextlib.contextmanager
     def ending(self, *changes):
-        """Four shards, the proxy with these changes, and a client of each shard, of which shard 1 is told to end. Nobody reads
-        its events meanwhile, so that it doesn't."""
+        """Four shards, the proxy with these changes, and a client of each shard. Shard 1 is told to end, but its events
+        aren't read meanwhile, so that it doesn't end yet."""
         with self.both("--grace", "60", changes=changes) as (shards, front):
             ones = on_each(front)
             shards.end(ENDING)
@@ -200,9 +205,9 @@ class Behind:
                 direct.make(3)
 
     def drains(self):
-        """A shard that ends gets no creation, its uploads are served, and changes of these are refused by itself."""
+        """A shard that is ending gets no creation, its uploads are served, and it refuses changes of these itself."""
         with self.ending() as one:
-            # Longer than nginx leaves it alone.
+            # This takes longer than nginx leaves the shard alone.
             for _ in range(60):
                 same(shard_of(one.make(3)) == ENDING, False, "whether a creation went to the shard that ends")
                 one.holds(one.whole, SMALL)
@@ -211,7 +216,7 @@ class Behind:
                 time.sleep(0.1)
 
     def asks(self):
-        """What haproxy asks shards tells it that one ends: soon creations go elsewhere, where none is sent to another again."""
+        """haproxy's health checks show that a shard is ending: soon creations go elsewhere, even without retries."""
         with self.ending(("retry-on conn-failure empty-response response-timeout 503", "retry-on none")) as one:
             soon(lambda: one.change("POST", None, "post-create 0/3", upload_length=3) == 201, "a creation is taken")
             for _ in range(30):
@@ -220,7 +225,8 @@ class Behind:
                 time.sleep(0.1)
 
     def rolls(self):
-        """Each shard in turn is ended in order and started anew while clients work: no creation fails, and no event is lost."""
+        """Each shard in turn is ended in order and restarted while clients work: no creation fails, and no event is
+        lost."""
         with self.both() as (shards, front):
             over = threading.Event()
             clients = [Client(front, number) for number in range(BUSY)]
@@ -253,7 +259,7 @@ class Behind:
 
     @staticmethod
     def one_file(client, ended):
-        """Makes an upload and brings it to its end, as long as its shard takes it."""
+        """Makes an upload and completes it, as long as its shard takes it."""
         path = client.make(len(SMALL))
         for offset, body in ((0, SMALL[:6]), (6, SMALL[6:])):
             status = client.append(path, offset, body, len(SMALL))
@@ -271,13 +277,13 @@ class Behind:
 
 
 def read_all(reader):
-    """What comes out of a pipe until its end."""
+    """Reads a pipe until its end."""
     with open(reader, encoding="ascii") as file:
         return file.read()
 
 
 def cases_of(kind):
-    """The cases with one kind of proxy, named by it."""
+    """The cases with one kind of proxy, with its name in theirs."""
     for case in Behind.CASES + (kind is HaproxyOfShards) * Behind.OF_HAPROXY:
         bound = functools.partial(case, Behind(kind))
         bound.__name__, bound.__doc__ = f"{kind.name}_{case.__name__}", case.__doc__

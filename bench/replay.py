@@ -1,55 +1,45 @@
 #!/usr/bin/env python3
 """Times the server on made-up conversations: how many MB and messages a second it serves, and how much memory it takes.
 
-    bench/replay [--mib N] [--messages N]
+    bench/replay.py [--mib N] [--messages N]
 
-The first conversation makes one upload, appends N MiB (by default 1024) to it, 1 MiB at a time, and gets it back; the second
-is of N small messages (by default 10,000); the third makes 64 parts of 1 MiB, joins them, and gets the final upload back. All
-come from a file, and the replies are checked. Then a book alone is given uploads, 1,000 to 100,000 of them: each is made,
-appended to and asked for, and the time of a request is to grow by no more than the logarithm of their number. At last 100,000
-uploads are made on one, each removed before the next: what is kept of them is their history alone.
+The first conversation makes one upload, appends N MiB (by default 1024) to it, 1 MiB at a time, and fetches it. The
+second one has N small messages (by default 10,000). The third one makes 64 parts of 1 MiB, joins them, and fetches the
+final upload. All come from a file, and the replies are checked. Then a book alone gets 1,000 to 100,000 uploads: each
+is made, appended to and asked for, and the time of a request must not grow faster than the logarithm of their number.
+At last 100,000 uploads are made on one book, each removed before the next, so that only their history is kept.
 """
 import argparse
 import os
-import resource
 import subprocess
 import sys
 import tempfile
 import time
 
+sys.path.insert(0, os.path.join(os.path.dirname(os.path.dirname(os.path.abspath(__file__))), "tests"))
+from serving import ROOT, build, head, patch, path_of  # noqa: E402
+
 MIB = 1 << 20
-ROOT = os.path.dirname(os.path.dirname(os.path.abspath(__file__)))
 PARTS = 64
 
-
-def path_of(number):
-    return f"/files/{number:032x}"
+# The script that runs the server with the settings of the C library that users have.
+SCRIPT = os.path.join(ROOT, "packaging", "up")
 
 
 def get(number=1):
-    return f"GET {path_of(number)} HTTP/1.1\r\nHost: a\r\n\r\n".encode()
+    return head("GET", path_of(number), {})
 
 
-def post(length, fields=""):
-    return (
-        "POST /files/ HTTP/1.1\r\nHost: a\r\nTus-Resumable: 1.0.0\r\n"
-        f"Upload-Length: {length}\r\n{fields}\r\n"
-    ).encode()
-
-
-def patch(offset, count, number=1):
-    return (
-        f"PATCH {path_of(number)} HTTP/1.1\r\nHost: a\r\nTus-Resumable: 1.0.0\r\n"
-        "Content-Type: application/offset+octet-stream\r\n"
-        f"Upload-Offset: {offset}\r\nContent-Length: {count}\r\n\r\n"
-    ).encode()
+def post(length, **fields):
+    named = {name.replace("_", "-"): value for name, value in fields.items()}
+    return head("POST", "/files/", {"Upload-Length": length, **named})
 
 
 def long_talk(file, mib):
     file.write(post(mib * MIB))
     body = bytes(range(256)) * (MIB // 256)
     for part in range(mib):
-        file.write(patch(part * MIB, MIB))
+        file.write(patch(path_of(1), part * MIB, MIB))
         file.write(body)
     file.write(get())
 
@@ -57,28 +47,28 @@ def long_talk(file, mib):
 def small_talk(file, messages):
     file.write(post(messages))
     for offset in range(messages - 1):
-        file.write(patch(offset, 1))
+        file.write(patch(path_of(1), offset, 1))
         file.write(b"x")
 
 
 def joined_talk(file):
     body = bytes(range(256)) * (MIB // 256)
     for part in range(1, PARTS + 1):
-        file.write(post(MIB, "Upload-Concat: partial\r\n"))
-        file.write(patch(0, MIB, part))
+        file.write(post(MIB, Upload_Concat="partial"))
+        file.write(patch(path_of(part), 0, MIB))
         file.write(body)
     urls = " ".join(path_of(part) for part in range(1, PARTS + 1))
-    file.write(post(0, f"Upload-Concat: final;{urls}\r\n"))
+    file.write(post(0, Upload_Concat=f"final;{urls}"))
     file.write(get(PARTS + 1))
 
 
-def run(path):
-    """A file of the replies, the seconds that the server took, and its peak memory in bytes."""
-    replies = tempfile.TemporaryFile()
+def run(program, path):
+    """A file with the replies, the seconds that the server took, and its peak memory in bytes."""
+    replies, environment = tempfile.TemporaryFile(), {**os.environ, "UP_PROGRAM": program}
     with open(path, "rb") as given:
         start = time.monotonic()
         server = subprocess.Popen(
-            [os.path.join(ROOT, "up"), "replay", "--max-size", str(1 << 30)], stdin=given, stdout=replies
+            [SCRIPT, "replay", "--max-size", str(1 << 30)], stdin=given, stdout=replies, env=environment
         )
         _, status, usage = os.wait4(server.pid, 0)
         seconds = time.monotonic() - start
@@ -87,12 +77,8 @@ def run(path):
     return replies, seconds, usage.ru_maxrss * 1024
 
 
-def work_once(row, changes):
-    """The seconds that a book takes for this row, which makes so many changes, and the peak memory in bytes."""
-    folder = os.path.join(ROOT, "crates", "up_rows")
-    program = os.path.join(folder, "out", "up_rows")
-    if not os.path.exists(program):
-        subprocess.run(["rt", "run"], cwd=folder, stdout=subprocess.DEVNULL, stderr=subprocess.DEVNULL)
+def work_once(program, row, changes):
+    """The seconds that a book takes for this row, which makes this many changes, and the peak memory in bytes."""
     with tempfile.TemporaryFile() as given, tempfile.TemporaryFile() as told:
         given.write(f"{row} => {changes}\n".encode())
         given.seek(0)
@@ -106,21 +92,22 @@ def work_once(row, changes):
     return seconds, usage.ru_maxrss * 1024
 
 
-def work(uploads):
-    """The microseconds of a request on a book of so many uploads, the best of three runs."""
-    best = min(work_once(f"fill {uploads}", 2 * uploads)[0] for _ in range(3))
+def work(program, uploads):
+    """The microseconds of a request to a book of this many uploads, the best of three runs."""
+    best = min(work_once(program, f"fill {uploads}", 2 * uploads)[0] for _ in range(3))
     return best / (3 * uploads) * 1e6
 
 
-def removals(uploads):
-    """The microseconds of a request that makes or removes an upload, and the bytes that are kept of one that was removed."""
-    _, few = work_once("removals 1000", 2000)
-    seconds, peak = work_once(f"removals {uploads}", 2 * uploads)
+def removals(program, uploads):
+    """The microseconds of a request that makes or removes an upload, the bytes that are kept of a removed one, and the
+    peak memory."""
+    _, few = work_once(program, "removals 1000", 2000)
+    seconds, peak = work_once(program, f"removals {uploads}", 2 * uploads)
     return seconds / (2 * uploads) * 1e6, (peak - few) / (uploads - 1000), peak
 
 
 def check(replies, accepted):
-    """The end of the replies has the report, behind as many bytes as there must be."""
+    """Checks that the replies end with the report, and returns their size."""
     replies.seek(0, os.SEEK_END)
     size = replies.tell()
     replies.seek(max(0, size - (1 << 22)))
@@ -134,12 +121,12 @@ def main():
     words.add_argument("--mib", type=int, default=1024, help="how much is appended, 1 to 1024")
     words.add_argument("--messages", type=int, default=10_000, help="how many small messages, 1 to 10000")
     given = words.parse_args()
-    subprocess.run([os.path.join(ROOT, "up"), "--help"], stdin=subprocess.DEVNULL, stderr=subprocess.DEVNULL)
+    program, rows = build(), build("up_rows")
     with tempfile.TemporaryDirectory() as folder:
         path = os.path.join(folder, "talk")
         with open(path, "wb") as file:
             long_talk(file, given.mib)
-        replies, seconds, peak = run(path)
+        replies, seconds, peak = run(program, path)
         stored = given.mib * MIB
         if check(replies, given.mib + 1) < stored:
             sys.exit("bench: the upload did not come back")
@@ -149,7 +136,7 @@ def main():
         )
         with open(path, "wb") as file:
             small_talk(file, given.messages)
-        replies, seconds, peak = run(path)
+        replies, seconds, peak = run(program, path)
         check(replies, given.messages)
         print(
             f"{given.messages} small messages: {seconds:.3f} s, {given.messages / seconds:.0f} messages/s, "
@@ -157,7 +144,7 @@ def main():
         )
         with open(path, "wb") as file:
             joined_talk(file)
-        replies, seconds, peak = run(path)
+        replies, seconds, peak = run(program, path)
         stored = 2 * PARTS * MIB
         if check(replies, 2 * PARTS + 1) < PARTS * MIB:
             sys.exit("bench: the final upload did not come back")
@@ -166,8 +153,8 @@ def main():
             f"{(peak - MIB) / stored:.2f} times the bytes stored, and one body"
         )
     for uploads in (1_000, 10_000, 100_000):
-        print(f"{uploads} uploads: {work(uploads):.2f} us a request")
-    each, kept, peak = removals(100_000)
+        print(f"{uploads} uploads: {work(rows, uploads):.2f} us a request")
+    each, kept, peak = removals(rows, 100_000)
     print(f"100000 uploads made and removed: {each:.2f} us a request, peak {peak / MIB:.0f} MiB, {kept:.0f} bytes for each")
 
 

@@ -1,33 +1,36 @@
 #!/usr/bin/env python3
-"""Times `up serve` beside nginx, by turns, and measures what it holds in memory.
+"""Times `up serve` next to nginx, in turn, and measures what it holds in memory.
 
-    bench/serve [--program NAME=PATH[@GLIBC_TUNABLES]].. [--rounds N] [--touch MIB] [--slow PATH] [NAME..]
+    bench/serve.py [--program NAME=PATH[@GLIBC_TUNABLES]].. [--rounds N] [--touch MIB] [--slow PATH] [NAME..]
 
-It needs a C compiler, for its client (bench/serve.c), and Debian's `nginx-light`; where nginx isn't there it says so, and
-measures `up` alone. All servers are on the loopback. nginx takes the same bytes by PUT (WebDAV) into files in memory, with two
-workers. Without `--program` it measures the program of this tree, as the script `up` starts it. The word may stand several
-times: for an older program and a newer one, or for one under several settings of the C library.
+It needs a C compiler, for its client (bench/serve.c), and Debian's `nginx-light`. Without nginx it says so, and
+measures `up` alone. All servers are on the loopback. nginx takes the same bytes by PUT (WebDAV) into files in memory,
+with two workers. Without `--program` it measures the program of this tree, as the script `up` starts it. The option may
+be repeated: for an older program and a newer one, or for one under several settings of the C library.
 
-In each of N rounds (by default 7) each work is done with each contender, by turns, and each run has a fresh server. With
-`--touch` a process writes to so much memory before each run, and ends: memory that a guest of another machine touches for the
-first time would else count against whoever comes first.
+In each of N rounds (by default 7) each work is done with each contender, in turn, and each run has a new server. With
+`--touch` a process writes to that much memory before each run, and ends: on a virtual machine, memory that is touched
+for the first time would otherwise count against whoever comes first.
 
-The first table has a line for each work and contender: the median, least and most of the rate, the medians of the processor
-time of the server, all its processes and threads, and of the client; and the ratios to nginx, of the rates' medians and of the
-processor times', which are above 1 where `up` is the better. The goals, which stand behind the ratios, are 1.5 in both, and 1.2
-for short connections. A GET is to be as fast as nginx's, and a small request beside a large one to wait no longer.
+The first table has a line for each work and contender: the median, least and most of the rate, and the medians of the
+processor time of the server, with all its processes and threads, and of the client. Then come the ratios to nginx, of
+the medians of the rates and of the processor times, which are above 1 if `up` is better. The goals, after the ratios,
+are 1.5 in both, and 1.2 for short connections. A GET has to be as fast as nginx's, and a small request next to a large
+one must wait no longer.
 
-The second table is of `up` alone: by how much its memory (`VmRSS`) grew with the bytes of an upload, and how many times these
-bytes that is. The server has taken 64 KiB in such bodies before: its first connection and upload cost some hundred KiB once.
-The goals: at most 1.1 times the bytes, in bodies of any size and chunked; a final upload takes none of its own; 1,000 idle
-connections take 24 MiB, with the server and all, and 32 where each has made an upload of 1 KiB, and less than a tenth of a
-second of processor time in ten seconds.
+The second table is of `up` alone: by how much its memory (`VmRSS`) grew with the bytes of an upload, and how many times
+these bytes that is. The server has taken 64 KiB in such bodies before, since its first connection and upload cost some
+hundred KiB once. The goals: at most 1.1 times the bytes, in bodies of any size and chunked; a final upload takes no
+bytes of its own; 1,000 idle connections take 24 MiB, including the server, and 32 if each has made an upload of 1 KiB,
+and less than a tenth of a second of processor time in ten seconds.
 
-`slow_hook`, which is measured where it is named or `--slow` gives its program, times small requests for uploads of one lane
-while the post-hook of the other takes 50 ms for each event. Its program is `up` but for that, proved and built in a copy of the
-crates, which takes some minutes; the goal is that the requests take as long as without these events, but for a tenth.
+`slow_hook`, which is measured if it is named or if `--slow` gives its program, times small requests for uploads of one
+lane while the post-hook of the other takes 50 ms for each event. Its program is `up` except for that, proved and built
+in a copy of the crates, which takes some minutes. The goal is that the requests take at most a tenth longer than
+without these events.
 
-Where a goal is missed the line says so, and the exit status is 1. NAME is a work's or a figure's name, to measure it alone.
+If a goal is missed, the line says so, and the exit status is 1. NAME is a work's or a figure's name, to measure only
+that one.
 """
 import argparse
 import os
@@ -81,13 +84,13 @@ def beside(client):
 
 
 class Work:
-    """What is timed, and the least ratios to nginx that it is to have: of the rate and of the processor time."""
+    """What is timed, and the least ratios to nginx that it must have: of the rate and of the processor time."""
 
     def __init__(self, do, title, rate=1.5, time=1.5, less=False):
         self.do, self.title, self.goals, self.less = do, title, (rate, time), less
 
     def ratios(self, ours, theirs):
-        """Of the rate and of the processor time, above 1 where ours are better."""
+        """The ratios of the rate and of the processor time, above 1 if ours are better."""
         rates, times = ((of_median(ours, at), of_median(theirs, at)) for at in (0, 1))
         return (rates[1] / rates[0] if self.less else rates[0] / rates[1]), times[1] / times[0]
 
@@ -124,7 +127,7 @@ def rate(value):
 
 
 def compared(work, ours, theirs):
-    """The cells of the ratios, and whether one misses its goal."""
+    """The cells of the ratios, and whether one of them misses its goal."""
     cells, mark = [], ""
     for ratio, goal in zip(work.ratios(ours, theirs), work.goals):
         cells.append(f"{ratio:.2f} of {goal}" if goal else f"{ratio:.2f}")
@@ -141,7 +144,7 @@ def line(work, contender, runs, theirs):
 
 
 def time_works(contenders, works, path, rounds, mebibytes):
-    """Does the works by turns, and prints their table; whether all goals are met."""
+    """Does the works in turn, and prints their table. Returns whether all goals are met."""
     came = {(work, contender): [] for work in works for contender in contenders}
     for number in range(rounds):
         print(f"round {number + 1} of {rounds}", file=sys.stderr, flush=True)
@@ -157,7 +160,7 @@ def time_works(contenders, works, path, rounds, mebibytes):
 
 
 def weigh(contenders, figures, path):
-    """Measures the memory of each program, and prints the table; whether all goals are met."""
+    """Measures the memory of each program, and prints the table. Returns whether all goals are met."""
     rows = []
     for figure in figures:
         for contender in contenders:
@@ -185,7 +188,7 @@ def words_given():
 
 
 def measure(given, programs, folder):
-    """Measures what is asked for; whether all goals are met."""
+    """Measures what is asked for. Returns whether all goals are met."""
     met, path = True, compiled("serve", folder)
     contenders = [Nginx(), *programs] if shutil.which("nginx") else programs
     works = [work for work in WORKS if not given.names or work.do.__name__ in given.names]

@@ -1,19 +1,20 @@
 #!/usr/bin/env python3
-"""Ends `up serve` in order, by signals to the script that runs it and by its standard input, and holds what is told of
-uploads to what was acknowledged.
+"""Ends `up serve` in order, by signals to the script that runs it and by its standard input, and compares the events of
+uploads with what was acknowledged.
 
-    tests/ending [--program PATH] [--rounds N] [NAME..]
+    tests/ending.py [--program PATH] [--rounds N] [NAME..]
 
-It needs nothing but Python 3 and Linux, and takes half a minute with three rounds, which is the default. What isn't there
-or isn't permitted (`unshare`, `systemd-analyze`) is passed over.
+It needs only Python 3 and Linux, and takes half a minute with three rounds, which is the default. Cases are skipped if
+they need something that is missing or not permitted (`unshare`, `systemd-analyze`).
 
-In each round sixteen clients make uploads as fast as they can, and the server is told to end meanwhile. Each change that
-was acknowledged must have its lines of `--events`, each once and in order; one that had no answer has all of its lines or
-none; there are no others. Behind the signal a change is done, or answered by `503` and `20 Closed`, or its connection ends,
-and what a GET brings is right. The status must be 0, and the report must have the counts of the lines.
+In each round sixteen clients make uploads as fast as they can, and the server is told to end meanwhile. Each change
+that was acknowledged must have its lines of `--events`, each once and in order. A change without an answer has all of
+its lines or none. There are no other lines. After the signal a change is done, or is answered by `503` and `20 Closed`,
+or its connection ends; a GET still returns the right bytes. The status must be 0, and the report must have the counts
+of the lines.
 
-A line for each case says whether it passed; the last line is `N passed, M failed`, and the exit status is 1 where one
-failed.
+For each case, one line says whether it passed. The last line is `N passed, M failed`, and the exit status is 1 if a
+case failed.
 """
 import argparse
 import contextlib
@@ -34,16 +35,18 @@ import time
 
 import endings
 from endings import MOST_BUSY, MOST_IDLE, SCRIPT, child_of, ended
-from serving import ROOT, Connection, Server, at_once, below, build, events_of, head, patch, same, soon, try_all
+from serving import (
+    NOWHERE, ROOT, Connection, Server, at_once, below, build, events_of, head, numbered, patch, same, soon, try_all,
+)
 
 UNIT = os.path.join(ROOT, "packaging", "up.service")
 
-# How many clients there are, how many lanes hand events over, and what each client puts into an upload, in two parts.
+# The number of clients, the number of lanes, and what each client puts into an upload, in two parts.
 CLIENTS, LANES = 16, 3
 PARTS = [b"hello ", b"world"]
 WHOLE = b"".join(PARTS)
 
-# What a report says where nothing was done.
+# The report of a server that did nothing.
 NOTHING = "\naccepted 0\n" + "".join(f"lane {lane} drained 0\n" for lane in range(LANES))
 
 
@@ -51,14 +54,14 @@ NOTHING = "\naccepted 0\n" + "".join(f"lane {lane} drained 0\n" for lane in rang
 
 
 class Script(endings.Script):
-    """A server that the script runs, which writes events and has these words too."""
+    """A server that the script runs, with `--events` and these words."""
 
     def __init__(self, *words, **how):
         super().__init__(program, "--events", "--lanes", str(LANES), *words, **how)
 
 
 class Plain(endings.Plain):
-    """A server without the script, which writes events and has these words too."""
+    """A server without the script, with `--events` and these words."""
 
     def __init__(self, *words, **how):
         super().__init__(program, "--events", "--lanes", str(LANES), *words, **how)
@@ -68,12 +71,12 @@ class Plain(endings.Plain):
 
 
 class Ended(Exception):
-    """The connection has ended, where it may."""
+    """The connection has ended, as it may."""
 
 
 class Client(Connection):
-    """A client that notes which events it was acknowledged of its uploads, and those of a change without an answer. Once
-    the ending is set its changes may be refused, and its connection may end."""
+    """A client that notes which events of its uploads were acknowledged, and those of a change without an answer. Once
+    `ending` is set, its changes may be refused, and its connection may end."""
 
     def __init__(self, server, ending):
         self.ending = ending
@@ -94,7 +97,7 @@ class Client(Connection):
         raise Ended
 
     def change(self, message, path, *events):
-        """The reply to a change of this upload, or of none yet; None where changes are refused."""
+        """The reply to a change of this upload, or to a creation if the path is None; None if changes are refused."""
         self.asked = path, list(events)
         reply = self.hear(message)
         self.asked = None, []
@@ -106,7 +109,7 @@ class Client(Connection):
         return reply
 
     def upload(self):
-        """Makes an upload, brings it to its end and gets it; whether that was taken."""
+        """Makes an upload, completes it and fetches it. Returns whether all changes were accepted."""
         size = len(WHOLE)
         made = self.change(head("POST", "/files/", {"Upload-Length": size}), None, f"post-create 0/{size}")
         if not made:
@@ -123,13 +126,13 @@ class Client(Connection):
         return True
 
     def fetch(self):
-        """Gets the last upload that came to its end, or sees that there is none."""
-        reply = self.hear(head("GET", self.whole or "/files/" + 32 * "0", {}))
+        """Fetches the last complete upload, or checks that there is none."""
+        reply = self.hear(head("GET", self.whole or NOWHERE, {}))
         wanted = (200, WHOLE) if self.whole else (404, b"21 NotFound\n")
         same((reply.status, reply.body), wanted, "the reply to a GET")
 
     def work(self):
-        """Makes uploads until changes are refused, and then gets the last until the connection ends."""
+        """Makes uploads until changes are refused, and then fetches the last one until the connection ends."""
         with contextlib.suppress(Ended):
             while self.upload():
                 pass
@@ -138,13 +141,8 @@ class Client(Connection):
                 time.sleep(0.01)
 
 
-def numbered(events):
-    """The events of an upload as lines tell of them."""
-    return [f"{number} {event} done" for number, event in enumerate(events, 1)]
-
-
 def hold_events(events, clients):
-    """Holds the events of all uploads to what the clients were told."""
+    """Compares the events of all uploads with what the clients were told."""
     events, made = dict(events), []
     for client in clients:
         path, maybe = client.asked
@@ -160,7 +158,8 @@ def hold_events(events, clients):
 
 
 def hold(output, clients):
-    """Holds what a server has written to what the clients were told, and its report to a count of its lines."""
+    """Compares the output of a server with what the clients were told, and its report with a count of its lines.
+    Returns the number of accepted changes."""
     lines, _, report = output.partition("\n\n") if not output.startswith("\n") else ("", "", output[1:])
     events = events_of(lines)
     same(sum(map(len, events.values())), len(lines.splitlines()), "how many lines are events")
@@ -172,11 +171,12 @@ def hold(output, clients):
     return len(changes)
 
 
-# What is tried.
+# The cases.
 
 
 def until_end(server, before=lambda: None, during=lambda clients, ending: None):
-    """Has many clients work until the server is told to end; these. Something may be done before that, and after it."""
+    """Has many clients work until the server is told to end, and returns them. `before` runs before the end, and
+    `during` after it."""
     ending = threading.Event()
     clients = [Client(server, ending) for _ in range(CLIENTS)]
 
@@ -196,7 +196,7 @@ def until_end(server, before=lambda: None, during=lambda clients, ending: None):
 
 
 def rounds_of(server_of):
-    """Ends servers that are busy, one in each round; how many changes were accepted in all."""
+    """Ends servers that are busy, one in each round, and returns how many changes were accepted in total."""
     accepted = 0
     for _ in range(rounds):
         with server_of() as server:
@@ -221,7 +221,7 @@ def as_first():
 
 
 class SlowReader(threading.Thread):
-    """Reads a small pipe slowly, and not at all while it is held up. `sink` is the pipe's other end."""
+    """A thread that reads a small pipe slowly, and not at all while it is held up. `sink` is the pipe's other end."""
 
     def __init__(self):
         super().__init__()
@@ -238,7 +238,7 @@ class SlowReader(threading.Thread):
             self.goes_on.wait()
 
     def hold_up(self):
-        """Reads no more, and waits until the pipe is full, while clients work."""
+        """Stops reading, and waits until the pipe is full, while clients work."""
         self.goes_on.clear()
         soon(self.is_full, "the pipe is full")
 
@@ -249,18 +249,18 @@ class SlowReader(threading.Thread):
         return self.waiting() == waiting > 0
 
     def waiting(self):
-        """How many bytes are in the pipe."""
+        """The number of bytes in the pipe."""
         return struct.unpack("i", fcntl.ioctl(self.reader, termios.FIONREAD, bytes(4)))[0]
 
     def output(self):
-        """What it has read at the end."""
+        """What the thread has read, at its end."""
         self.join(MOST_BUSY)
         os.close(self.reader)
         return self.text.decode()
 
 
 def look_meanwhile(server, reader, clients, ending):
-    """Sees that a server which is ending, and has events to hand over, serves what changes nothing."""
+    """Checks that a server which is ending, and still has events to hand over, serves requests that change nothing."""
     with Client(server, ending) as late:
         soon(lambda: not late.upload(), "changes are refused")
         clients.append(late)
@@ -276,7 +276,8 @@ def look_meanwhile(server, reader, clients, ending):
 
 
 def slow_reader():
-    """The same where the events are read slowly, and not at all for a while: what changes nothing is served till then."""
+    """The same is true if the events are read slowly, and not at all for a while: requests that change nothing are
+    served."""
     accepted = 0
     for _ in range(rounds):
         reader = SlowReader()
@@ -293,7 +294,8 @@ def slow_reader():
 
 
 def stuck(server, reader):
-    """Makes so many changes that the lanes of the server wait for the reader, which doesn't read; the client."""
+    """Returns a client that has made so many changes that the server's lanes wait for the reader, which doesn't
+    read."""
     client = Client(server, threading.Event())
     for _ in range(100):
         client.upload()
@@ -302,7 +304,8 @@ def stuck(server, reader):
 
 
 def grace():
-    """Where the events aren't read, connections end after the grace; the report waits for the reader, and has them all."""
+    """If the events aren't read, connections end after the grace; the report waits for the reader, and has all
+    events."""
     reader = SlowReader()
     with Plain("--grace", "1", sink=reader.sink) as server:
         os.close(reader.sink)
@@ -319,7 +322,7 @@ def grace():
 
 
 def twice():
-    """A second TERM ends a server at once whose events nobody reads; TERM that comes twice at a time is one."""
+    """A second TERM ends a server at once even if nobody reads its events; two TERMs at a time count as one."""
     reader = SlowReader()
     with Script(sink=reader.sink) as server:
         os.close(reader.sink)
@@ -339,7 +342,7 @@ def twice():
 
 
 def idle():
-    """Without a connection each signal ends it soon, also where the program gets it too; the report says nothing was done."""
+    """Without a connection each signal ends the server soon, also if the program gets it too; the report is empty."""
     for number in (signal.SIGTERM, signal.SIGINT, signal.SIGHUP):
         for kill in (os.kill, os.killpg):
             with Script() as server:
@@ -348,7 +351,7 @@ def idle():
 
 
 def terminal():
-    """^C on a terminal ends it in order."""
+    """^C on a terminal ends the server in order."""
     master, slave = pty.openpty()
     with Script(terminal=slave) as server:
         os.close(slave)
@@ -361,7 +364,8 @@ def terminal():
 
 
 def under_way():
-    """A body, a head and a connection that are under way hold nothing up; what came of the body is told of, or isn't."""
+    """A body, a head and a connection that are under way delay nothing; the bytes that came of the body may have an
+    event."""
     ending = threading.Event()
     with Plain() as server, Client(server, ending) as body, Client(server, ending) as begun, Client(server, ending) as silent:
         path = body.make(10)
@@ -378,7 +382,7 @@ def under_way():
 
 
 def dropped_input():
-    """What comes on standard input is dropped, and an input that has ended before ends the server at once."""
+    """Data on standard input is dropped, and an input that has ended before ends the server at once."""
     with Plain() as server:
         os.write(server.writer, b"x" * 50_000)
         time.sleep(0.3)
@@ -402,7 +406,7 @@ def by_itself():
 
 
 def installed():
-    """`./up install` puts the program and the script where they find each other, also by another name."""
+    """`./up install` puts the program and the script where they find each other, also under another name."""
     with tempfile.TemporaryDirectory() as folder:
         environment = {**os.environ, "UP_PROGRAM": program, "DESTDIR": folder}
         told = subprocess.run([os.path.join(ROOT, "up"), "install", "/opt"], env=environment, capture_output=True)
@@ -418,7 +422,7 @@ def installed():
 
 
 def unit():
-    """systemd takes the unit, whose C library is told what the script tells it."""
+    """systemd accepts the unit, which has the same settings of the C library as the script."""
     with open(UNIT, encoding="ascii") as file, open(SCRIPT, encoding="ascii") as script:
         text = file.read()
         memory = re.search(r"(?m)^memory=(.*)$", script.read())[1]
@@ -432,7 +436,7 @@ def unit():
 
 
 def namespace():
-    """The words before those of a first process of a pid namespace; None where it isn't permitted."""
+    """The words that start a command as the first process of a pid namespace, or None if that isn't permitted."""
     for words in (["unshare", "-pf"], ["unshare", "-Urpf"]):
         with contextlib.suppress(OSError):
             if subprocess.run([*words, "true"], capture_output=True).returncode == 0:

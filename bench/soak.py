@@ -1,31 +1,31 @@
 #!/usr/bin/env python3
-"""Has 64 connections change the uploads of a server for long, and measures what it keeps of that.
+"""Has 64 connections change the uploads of a server for long, and measures what the server keeps of that.
 
-    bench/soak [--program NAME=PATH[@GLIBC_TUNABLES]].. [--changes N] [--limit KIB] [NAME..]
+    bench/soak.py [--program NAME=PATH[@GLIBC_TUNABLES]].. [--changes N] [--limit KIB] [NAME..]
 
-It needs a C compiler, for its client (bench/soak.c), and Linux. A server has no end and runs with `--events`, whose
-lines the client reads meanwhile. In `cycles` each connection makes uploads of a byte, 16 at a time, appends that byte,
-and removes them, for N changes in all (by default 1,000,000). Then, in `appends`, it appends byte after byte, 256 to
-an upload before that is removed, for half as many changes. Up to 16 requests are sent before their replies are read,
-and after 10,000 the connection is made anew. While 10,000 events wait for their line to be read no request is sent,
-since clients that are faster than the lanes would have the server hold ever more of them. `--limit` has the server run
-under a limit of addresses, as `ulimit -v KIB` does.
+It needs a C compiler, for its client (bench/soak.c), and Linux. The server runs with `--events`, whose lines the client
+reads meanwhile, and without a number of connections. In `cycles` each connection makes uploads of a byte, 16 at a time,
+appends that byte, and removes them, for N changes in all (by default 1,000,000). Then, in `appends`, it appends byte
+after byte, 256 to an upload before that is removed, for half as many changes. Up to 16 requests are sent before their
+replies are read, and after 10,000 the connection is replaced. While 10,000 events wait for their line to be read no
+request is sent, since clients that are faster than the lanes would make the server hold more and more of them.
+`--limit` runs the server under a limit of addresses, as `ulimit -v KIB` does.
 
-The works go by steps of N / 10 changes, or of a million where that is less. Behind each step no upload is left, the
-events of all that was acknowledged have been read, and the server has nothing to do. The first table has a line for
-each step: the changes so far; the memory of the server (`VmRSS`), and without the 20 bytes that it keeps of each id
-ever given; by how many bytes a change it grew in this step, and without those of ids; how long a connection waited at
-most for its next reply; how many events waited at most for their line to be read; and the changes a second. The times
-are those of a machine that the client takes half of, so they have no goal: `bench/lock` measures waits.
+The works are done in steps of N / 10 changes, or of a million if that is less. After each step no upload is left, the
+events of all acknowledged changes have been read, and the server has nothing to do. The first table has a line for each
+step: the changes so far; the memory of the server (`VmRSS`), and the same without the 20 bytes that it keeps of each id
+ever given; by how many bytes a change it grew in this step, and the same without those of ids; how long a connection
+waited at most for its next reply; how many events waited at most for their line to be read; and the changes a second.
+The times are those of a machine of which the client takes half, so they have no goal: `bench/lock.py` measures waits.
 
-The second table has the goals. No request is refused. Without the ids the memory behind the last step is at most 1.2
-times that behind the first; the line behind says what all that it grew by comes to for each id, which has no goal. The
-few steps of a small N say little, since memory comes by pages of 2 MiB. There are as many events as those of the
-acknowledged requests: for each upload 1, 2, 3, .., each once and in order, each at the offset where it should be, none
-behind its removal, and as many as it had acknowledged.
+The second table has the goals. No request is refused. Without the ids, the memory after the last step is at most 1.2
+times that after the first. The next line has the growth for each id, including everything, which has no goal. The few
+steps of a small N say little, since memory comes in pages of 2 MiB. There are as many events as those of the
+acknowledged requests: for each upload 1, 2, 3, .., each once and in order, each at the right offset, none after its
+removal, and as many as it had acknowledged.
 
-Where a goal is missed the line says so, and the exit status is 1. Without `--program` the program of this tree is
-measured, as the script `up` starts it; the word may stand several times. NAME is a work's name, to have it alone.
+If a goal is missed, the line says so, and the exit status is 1. Without `--program` the program of this tree is
+measured, as the script `up` starts it; the option may be repeated. NAME is a work's name, to do only that one.
 """
 import argparse
 import contextlib
@@ -39,18 +39,18 @@ from serving import settled
 
 CONNECTIONS = 64
 
-# What the server keeps of each id that it ever gave, in bytes.
+# The bytes that the server keeps of each id that it ever gave.
 OF_ID = 20
 
-# The most memory at the end, of that after the first step, without that of the ids.
+# The most memory at the end, in multiples of that after the first step, both without that of the ids.
 MOST_GROWTH = 1.2
 
-# A step has this part of all changes, and at most so many.
+# A step has this fraction of all changes, and at most this many.
 PART, MOST_CHANGES = 10, 1_000_000
 
 
 class Work:
-    """What the connections do: so many uploads are made together, and have so many bytes, each of an append."""
+    """What the connections do: how many uploads are made together, and how many bytes each gets, one per append."""
 
     def __init__(self, name, together, size, share):
         self.name, self.together, self.size, self.share = name, together, size, share
@@ -61,7 +61,7 @@ class Work:
         return [step] * -(-int(changes * self.share) // step)
 
     def most_uploads(self, changes):
-        """How many uploads these steps make at most."""
+        """The most uploads that these steps make."""
         return sum(step // (self.size + 2) + self.together for step in self.steps(changes))
 
 
@@ -69,7 +69,7 @@ WORKS = [Work("cycles", 16, 1, 1), Work("appends", 1, 256, 0.5)]
 
 
 class Step:
-    """How a server stands behind some changes, and what the client says of those of the last step."""
+    """The state of a server after some changes, and what the client reports of those of the last step."""
 
     def __init__(self, title, memory, said=("0",) * 6):
         self.title, self.memory = title, memory
@@ -78,7 +78,7 @@ class Step:
         self.aside = memory - OF_ID * self.ids
 
     def cells(self, name, before):
-        """The cells of its line, where the server stood so before."""
+        """The cells of its line, given the step before."""
         made = self.changes - before.changes
         each = [(self.memory - before.memory) / made, (self.aside - before.aside) / made] if made else [0, 0]
         memory = [f"{it / MIB:.1f}" for it in (self.memory, self.aside)]
@@ -87,14 +87,14 @@ class Step:
 
 
 class Soaked:
-    """A server's steps, of which the first is its start, and what the client says of the events."""
+    """A server's steps, the first of which is its start, and what the client reports of the events."""
 
     def __init__(self):
         self.steps = []
         self.heard = self.expected = self.astray = self.others = 0
 
     def goals(self):
-        """Each figure, what it came to, its goal, and whether that is met."""
+        """Each figure, its result, its goal, and whether the goal is met."""
         first, last = self.steps[1], self.steps[-1]
         ratio = last.aside / first.aside
         grown = f"{last.aside / MIB:.1f} MiB of {first.aside / MIB:.1f}: {ratio:.3f}"
@@ -112,7 +112,7 @@ class Soaked:
 
 @contextlib.contextmanager
 def client_of(path, server, lines, uploads):
-    """The client, to which steps are told. At the end the server is killed, so that its events have an end."""
+    """The client, which is told the steps. At the end the server is killed, so that its events end."""
     words = [path, *map(str, (server.port, lines, CONNECTIONS, uploads))]
     pipe = subprocess.PIPE
     with subprocess.Popen(words, stdin=pipe, stdout=pipe, text=True, pass_fds=[lines]) as client:
@@ -124,7 +124,7 @@ def client_of(path, server, lines, uploads):
 
 
 def memory_of(server):
-    """The memory of a server that has nothing to do."""
+    """The memory of a server once it has nothing to do."""
     if server.process.poll() is not None:
         said = server.process.stderr.read().decode()
         sys.exit(f"bench: the server ended with {server.process.returncode}, and said {said!r}")
@@ -173,7 +173,7 @@ GOALS = ["figure", "program", "came to", "goal", ""]
 
 
 def soak_all(contenders, path, given):
-    """Soaks the programs one after another, and prints their tables; whether all goals are met."""
+    """Soaks the programs one after another, and prints their tables. Returns whether all goals are met."""
     steps, goals = [], []
     for contender in contenders:
         soaked = soak(contender, path, given)
