@@ -59,7 +59,7 @@ trait Tended {
     fn stop_tending(&self);
 }
 
-impl<D: Disk + Drop, N: StoreNotices + LogFile<D>, F: Folder<D>> Tended for Keeping<'_, D, N, F> {
+impl<D: Disk + Drop, N: StoreNotices + LogFile<D>, F: Folder<D>> Tended for Keeping<D, N, F> {
     fn tend<R: Wait>(&self, rt: &R, alloc: Global) {
         Keeping::tend(self, rt, alloc);
     }
@@ -282,10 +282,13 @@ fn run_stored<
     let host = folder.rt;
     let lines = StoreLines::new(host, folder.path_of("log")?, spare);
     let ended = EndedUploads::new(rt.alloc());
-    let notes = EndedNotes { rt, ended: &ended };
-    let post_hooks = continue_each(rt.alloc(), tellers, counts, notes)?;
-    let shortening = Shortening::new(current, &ended, folder, settings.lanes, LEAST_LOG);
+    let shortening = Shortening::new(current, ended, folder, settings.lanes, LEAST_LOG);
     let keeping = Keeping::new(rt.alloc(), changes, voids, &lines, shortening)?;
+    let notes = EndedNotes {
+        rt,
+        ended: keeping.ended(),
+    };
+    let post_hooks = continue_each(rt.alloc(), tellers, counts, notes)?;
     run_kept(rt, beside, listener, hooks, post_hooks, &keeping)?;
     if lines.is_unread() {
         return Err(Fault::Told);

@@ -5,6 +5,7 @@ ghost use Rattle.up_dispatch.specs.Answering.{Serves, course};
 ghost use Rattle.up_dispatch.specs.Turn.{Converses, stand};
 ghost use Rattle.up_store.specs.StoredCommits.{by_stored_seat};
 
+use crate::ended::EndedUploads;
 use crate::folder::Folder;
 use crate::held::LogFile;
 use crate::notices::StoreNotices;
@@ -24,16 +25,16 @@ use up_wire::{Sink, Source};
 
 /// A store, from before its logs are read on.
 #[derive(Drop)]
-pub struct Keeping<'a, D: Disk, N, F> {
+pub struct Keeping<D: Disk, N, F> {
     /// The log of the changes, and that of the voids, until they are read.
     readers: Mutex<Option<(LogReader<D>, LogReader<D>)>>,
     pub(crate) store: Store<D, N>,
-    pub(crate) shortening: Shortening<'a, D, F>,
+    pub(crate) shortening: Shortening<D, F>,
     /// 1 once nobody tends the store any more. Who tends it sleeps on this.
     pub(crate) is_over: AtomicU64,
 }
 
-impl<'a, D: Disk, N, F> Keeping<'a, D, N, F> {
+impl<D: Disk, N, F> Keeping<D, N, F> {
     /// Over the log of the changes and that of the voids, of which nothing is read yet, and with what makes it shorter.
     /// An error is want of memory.
     pub fn new(
@@ -41,8 +42,8 @@ impl<'a, D: Disk, N, F> Keeping<'a, D, N, F> {
         changes: LogReader<D>,
         voids: LogReader<D>,
         notices: N,
-        shortening: Shortening<'a, D, F>,
-    ) -> Result<Keeping<'a, D, N, F>, AllocError>
+        shortening: Shortening<D, F>,
+    ) -> Result<Keeping<D, N, F>, AllocError>
     where
         D: Drop,
         N: Drop,
@@ -54,6 +55,11 @@ impl<'a, D: Disk, N, F> Keeping<'a, D, N, F> {
             shortening,
             is_over: AtomicU64::new(0),
         })
+    }
+
+    /// The uploads that have ended, which whoever hands events over adds to.
+    pub fn ended(&self) -> &EndedUploads {
+        &self.shortening.ended
     }
 }
 
@@ -92,7 +98,7 @@ impl<
     D: Disk + Drop + Send,
     N: StoreNotices + LogFile<D> + Drop + Send + Sync,
     F: Folder<D> + Drop + Sync,
-> Service for Keeping<'_, D, N, F> {
+> Service for Keeping<D, N, F> {
     /// Carries out the changes of the log again, and opens the store. If that fails the notices are told why.
     fn begin<B: Naming, T: Wait>(
         &self,

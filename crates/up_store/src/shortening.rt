@@ -27,10 +27,10 @@ pub struct Current<D: Disk> {
 
 /// What makes the log of a store shorter.
 #[derive(Drop)]
-pub struct Shortening<'a, D: Disk, F> {
+pub struct Shortening<D: Disk, F> {
     /// None while a shorter log is written.
     current: Mutex<Option<Current<D>>>,
-    ended: &'a EndedUploads,
+    pub(crate) ended: EndedUploads,
     folder: F,
     lanes: u64,
     /// How many bytes a log has, at the least, that is made shorter.
@@ -39,15 +39,15 @@ pub struct Shortening<'a, D: Disk, F> {
     next: AtomicU64,
 }
 
-impl<'a, D: Disk, F> Shortening<'a, D, F> {
+impl<D: Disk, F> Shortening<D, F> {
     /// For the store of so many lanes that has these heads, once its log has at least so many bytes.
     pub fn new(
         current: Current<D>,
-        ended: &'a EndedUploads,
+        ended: EndedUploads,
         folder: F,
         lanes: u64,
         least: u64,
-    ) -> Shortening<'a, D, F> {
+    ) -> Shortening<D, F> {
         Shortening {
             current: Mutex::new(Some(current)),
             ended,
@@ -94,7 +94,7 @@ impl<'a, D: Disk, F> Shortening<'a, D, F> {
     }
 }
 
-impl<D: Disk + Drop, F: Folder<D>> Shortening<'_, D, F> {
+impl<D: Disk + Drop, F: Folder<D>> Shortening<D, F> {
     /// Puts a shorter log in the place of a store's, if that is due and nobody is at it. Changes are made meanwhile, but
     /// for a moment at the end. If it fails the store goes on with the log that it has.
     pub fn shorten<N: StoreNotices, R: Wait>(&self, rt: &R, alloc: Global, store: &Store<D, N>) {

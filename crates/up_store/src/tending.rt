@@ -26,7 +26,7 @@ impl<D: Disk + Drop, N: StoreNotices + LogFile<D>> Store<D, N> {
     }
 }
 
-impl<D: Disk + Drop, N: StoreNotices + LogFile<D>, F: Folder<D>> Keeping<'_, D, N, F> {
+impl<D: Disk + Drop, N: StoreNotices + LogFile<D>, F: Folder<D>> Keeping<D, N, F> {
     /// Tends the store each second, until `stop_tending` is called: opens its log again if a call on it failed, and makes it
     /// shorter if that is due.
     pub fn tend<R: Wait>(&self, rt: &R, alloc: Global) {

@@ -122,7 +122,7 @@ fn shorten_by<B: Naming, R: Wait>(
         alloc,
         calls: calls.shorter,
     };
-    let shortening = Shortening::new(current(alloc, calls.heads)?, &ended, folder, 2, 0);
+    let shortening = Shortening::new(current(alloc, calls.heads)?, ended, folder, 2, 0);
     shortening.shorten(rt, alloc, &store);
     let told = change(
         alloc,
