@@ -232,7 +232,7 @@ def main():
     if given.hold:
         sys.exit(0 if hold(given.hold) else 1)
     # The stored file names the script like this in its first line.
-    print(f"# What bench/messages drew: --seed {given.seed} --drawn {given.drawn}")
+    print(f"# What tests/draw_rows.py drew: --seed {given.seed} --drawn {given.drawn}")
     print_fronts()
     print_changes()
     print_writes()

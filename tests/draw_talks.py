@@ -548,7 +548,7 @@ def main():
     rng = random.Random(given.seed)
     kinds = collections.Counter()
     # The stored file names the script like this in its first line.
-    print(f"# Conversations that bench/drawn drew: --seed {given.seed} --talks {given.talks} --messages {given.messages}")
+    print(f"# Conversations that tests/draw_talks.py drew: --seed {given.seed} --talks {given.talks} --messages {given.messages}")
     for place in range(given.talks):
         print(f"\ntalk drawn {given.seed}.{place + 1}")
         for line in draw_talk(rng, place, given.messages, kinds):

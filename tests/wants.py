@@ -48,7 +48,7 @@ class Watched(Server):
         super().__init__(program, *words, **others)
         self.rest = b""
 
-    def line(self, seconds):
+    def line(self, seconds=MOST_WAIT):
         """The next line, if it comes within this many seconds."""
         end = time.monotonic() + seconds
         while b"\n" not in self.rest:
