@@ -254,6 +254,27 @@ fn run_kept<
     )
 }
 
+/// The same. For the prover: that threads may share a store is shown here of any files, before the types of these are known.
+fn run_tended<
+    H: Shown + Drop,
+    D: Disk + Drop + Send,
+    N: StoreNotices + LogFile<D> + Drop + Send + Sync,
+    F: Folder<D> + Drop + Sync,
+    R: Print + Eprint + AllocGlobal + Clock + RandomSource + Threads + Wait + Sync,
+>(
+    rt: &R,
+    beside: &Beside<'_, R>,
+    listener: TcpListener,
+    hooks: PreHooks,
+    post_hooks: Vec<H>,
+    keeping: &Keeping<D, N, F>,
+) -> Result<(), Fault>
+    requires one_for_each { length post_hooks.items ≡ beside.now.settings.lanes }
+    requires new { All (λ h. H.is_sound h × (H.handed h ≡ [])) post_hooks.items }
+{
+    run_kept(rt, beside, listener, hooks, post_hooks, keeping)
+}
+
 /// Serves what the listener accepts, over the files of a store.
 fn run_stored<
     F: Fn(&Event) -> Outcome + Send + Drop,
@@ -284,12 +305,9 @@ fn run_stored<
     let ended = EndedUploads::new(rt.alloc());
     let shortening = Shortening::new(current, ended, folder, settings.lanes, LEAST_LOG);
     let keeping = Keeping::new(rt.alloc(), changes, voids, &lines, shortening)?;
-    let notes = EndedNotes {
-        rt,
-        ended: keeping.ended(),
-    };
+    let notes = EndedNotes::new(rt, keeping.ended());
     let post_hooks = continue_each(rt.alloc(), tellers, counts, notes)?;
-    run_kept(rt, beside, listener, hooks, post_hooks, &keeping)?;
+    run_tended(rt, beside, listener, hooks, post_hooks, &keeping)?;
     if lines.is_unread() {
         return Err(Fault::Told);
     }

@@ -82,20 +82,27 @@ impl Folder<StoreFile> for StoreFolder<'_> {
 }
 
 /// Notes uploads that have ended, for a log that is to leave them out.
-pub struct EndedNotes<'a, R> {
-    pub rt: &'a R,
-    pub ended: &'a EndedUploads,
+pub struct EndedNotes<'a, 'b, R> {
+    rt: &'a R,
+    ended: &'b EndedUploads,
 }
 
-impl<R> Clone for EndedNotes<'_, R> {
+impl<'a, 'b, R> EndedNotes<'a, 'b, R> {
+    /// Adds to these uploads.
+    pub fn new(rt: &'a R, ended: &'b EndedUploads) -> EndedNotes<'a, 'b, R> {
+        EndedNotes { rt, ended }
+    }
+}
+
+impl<R> Clone for EndedNotes<'_, '_, R> {
     fn clone(&self) -> Result<Self, AllocError> {
         Ok(*self)
     }
 }
 
-impl<R> Copy for EndedNotes<'_, R> {}
+impl<R> Copy for EndedNotes<'_, '_, R> {}
 
-impl<R: Wait + Sync> Endings for EndedNotes<'_, R> {
+impl<R: Wait + Sync> Endings for EndedNotes<'_, '_, R> {
     fn note(&self, upload: EndedUpload) {
         self.ended.note(self.rt, upload);
     }

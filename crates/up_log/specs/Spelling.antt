@@ -12,6 +12,11 @@ use Rattle.up_log.specs.declared.entry.Consent.{Consent}
 use Rattle.up_log.specs.declared.entry.Consent.TheVariants.{Skipped, Allowed, AllowedFinish}
 use Rattle.up_log.specs.declared.entry.Entry.{Entry}
 
+-- the first of these entries; of none it is one that asks for nothing
+abbrev pub first_entry : List Entry → Entry
+first_entry [] = record { id = 0; consent = Skipped; request = request.Options }
+first_entry (x ∷ entries) = x
+
 -- a number in eight cells, the lowest first. Below 2^64 each cell is a byte; the last cell takes everything above, so
 -- that no two numbers have the same encoding
 unfoldable pub word : ℕ → List ℕ

@@ -6,26 +6,26 @@ use crate::entry::Entry;
 use crate::writing::{put_entry, room_of};
 use std::alloc::{AllocError, Global};
 use std::marker::Model;
-use std::snapshot::Snapshot;
+use up_events::Trace;
 
 /// An entry that is already encoded, so that a batch is put together by copying bytes. Contracts describe it as the
 /// entry.
 #[derive(Drop)]
 pub struct Spelled {
     bytes: Vec<u8>,
-    of: Snapshot<Entry>,
+    of: Trace<Entry>,
 }
 
 impl Model for Spelled {
     ghost use Rattle.std.specs.Prelude.{◌≡◌};
-    ghost use Rattle.up_log.specs.Spelling.{entry};
+    ghost use Rattle.up_log.specs.Spelling.{entry, first_entry};
     ghost use Rattle.up_log.specs.declared.entry.Entry.{Entry as Logged};
 
     ghost Value = { Logged };
 
-    ghost view = { λ s. s.of.value };
+    ghost view = { λ s. first_entry s.of.items };
 
-    ghost invariant = { λ s. s.bytes.items ≡ entry s.of.value };
+    ghost invariant = { λ s. s.bytes.items ≡ entry (first_entry s.of.items) };
 }
 
 impl Spelled {
@@ -35,10 +35,9 @@ impl Spelled {
     {
         let mut bytes = Vec::with_capacity(alloc, room_of(logged))?;
         put_entry(&mut bytes, logged)?;
-        Ok(Spelled {
-            bytes,
-            of: Snapshot::of(logged),
-        })
+        let mut of = Trace::new();
+        of.push(logged);
+        Ok(Spelled { bytes, of })
     }
 
     /// The encoding of the entry.

@@ -15,8 +15,9 @@ invariant_of-self g c =
     let whole = c.self.invariant.0 in
     let going = rw (← c.self.view_is) at c.requires.going in
     let answer = subst (λ (asked : Asked). Answers done.result.0 (decide inside.inside.book entry.request entry.id asked)) c.asked_of.ensures done.ensures.answer in
-    let follows = has_ended inside.followed _ _ entry (not wants.result) c.begin.ensures c.end.ensures in
-    (ended inside.followed _ entry (not wants.result) whole follows,
-    λ tied. subst (λ (f : Following). IsBookOf N.lanes N.max_size f done.new.self.book) (sym follows)
-    (tied_on c.books_follow.ensures.carried c.books_follow.ensures.passed N.lanes N.max_size inside.followed inside.inside done.new.self c.args.seat.now done.new.seat entry done.result.0 wants.result
-    whole (c.self.invariant.1 tied) going answer done.ensures.leaves wants.ensures.0 wants.ensures.1))
+    let follows = has_ended inside.followed _ _ entry (not wants.result) c.begin.ensures c.end.ensures in (
+      ended inside.followed _ entry (not wants.result) whole follows,
+      λ tied. subst (λ (f : Following). IsBookOf N.lanes N.max_size f done.new.self.book) (sym follows)
+          (tied_on c.books_follow.ensures.carried c.books_follow.ensures.passed N.lanes N.max_size inside.followed inside.inside done.new.self c.args.seat.now done.new.seat entry done.result.0 wants.result
+          whole (c.self.invariant.1 tied) going answer done.ensures.leaves wants.ensures.0 wants.ensures.1),
+    )
