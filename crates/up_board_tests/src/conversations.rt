@@ -8,7 +8,8 @@ use std::process::Abort;
 use std::sync::{Mutex, Wait};
 use std::test::Fail;
 use up_dispatch::{
-    Board, BoardParts, Counting, Ended, Ids, Keeper, Lent, Naming, Seated, SharedIds, converse,
+    Board, BoardParts, Counting, Ended, Exchange, Ids, Keeper, Lent, Naming, Seated, SharedIds,
+    converse,
 };
 use up_events::Id;
 use up_hooks::PreHooks;
@@ -43,7 +44,12 @@ pub fn talk<K: Keeper, I: Ids>(
 ) -> (Ended, Vec<u8>) {
     let mut source = Input::new(asked);
     let mut sink = Output::new(Vec::new(alloc));
-    let ended = converse(alloc, keeper, hooks, ids, MAX_SIZE, &mut source, &mut sink);
+    let mut exchange = Exchange {
+        ids,
+        source: &mut source,
+        sink: &mut sink,
+    };
+    let ended = converse(alloc, keeper, hooks, MAX_SIZE, &mut exchange);
     (ended, sink.into_inner())
 }
 

@@ -1,10 +1,12 @@
 //! What is said of how a server stands.
+ghost use Rattle.std.specs.Prelude.{IfOk};
+
 use crate::runner::{OnStderr, Runner};
 use std::alloc::AllocError;
-use std::fmt;
 use std::marker::{Send, Sync};
 use std::sync::Wait;
 use std::thread::{Scope, Threads};
+use std::{fmt, thread};
 use up_connections::{Watch, milliseconds};
 use up_dispatch::{Counts, Naming};
 
@@ -44,7 +46,7 @@ impl fmt::Display for Status {
 }
 
 /// Says on standard error how the server stands, if somebody watches it.
-pub fn say<B: Naming + Send + Sync, T: Eprint + Wait + Sync>(
+fn say<B: Naming + Send + Sync, T: Eprint + Wait + Sync>(
     rt: &T,
     runner: &Runner<'_, B, OnStderr<'_, T>>,
     watch: Option<&Watch>,
@@ -80,7 +82,7 @@ fn say_each<B: Naming + Send + Sync, T: Eprint + Wait + Sync>(
 }
 
 /// Starts a thread that says it each so many seconds, until the board is closed, if somebody watches the server.
-pub fn start_saying<'s, E, B: Naming + Send + Sync, T: Threads + Eprint + Wait + Sync>(
+fn start_saying<'s, E, B: Naming + Send + Sync, T: Threads + Eprint + Wait + Sync>(
     scope: &Scope<'s, E>,
     rt: &'s T,
     runner: &'s Runner<'s, B, OnStderr<'s, T>>,
@@ -90,4 +92,36 @@ pub fn start_saying<'s, E, B: Naming + Send + Sync, T: Threads + Eprint + Wait +
         scope.spawn(move || say_each(rt, runner, watch))?;
     }
     Ok(())
+}
+
+/// Does the work while a thread says how the server stands, if somebody watches it, and says it once more at the end.
+/// The thread ends when the board is closed, so the work closes it.
+pub fn say_beside<
+    'x,
+    B: Naming + Send + Sync,
+    T: Threads + Eprint + Wait + Sync,
+    F: FnOnce() -> X + Drop,
+    X: Drop,
+>(
+    rt: &'x T,
+    runner: &'x Runner<'x, B, OnStderr<'x, T>>,
+    watch: Option<&'x Watch>,
+    work: F,
+) -> Result<X, AllocError>
+    requires callable { F.pre work }
+    ensures done { IfOk result (λ done. F.post work done) }
+{
+    let done = thread::scope(
+        thread::scope_env(),
+        rt,
+        move |scope| -> Result<X, AllocError>
+            requires callable { F.pre work }
+            ensures done { IfOk result (λ done. F.post work done) }
+        {
+            start_saying(scope, rt, runner, watch)?;
+            Ok(work())
+        },
+    );
+    say(rt, runner, watch);
+    done
 }
