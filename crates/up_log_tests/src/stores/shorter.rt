@@ -171,20 +171,26 @@ fn a_shorter_log_takes_the_place(rt: HostRuntime) -> Result<(), Fail> {
         heads: u64::MAX,
         shorter: u64::MAX,
     };
-    let after = shorten(&rt, alloc, calls, &tally)?;
+    let After {
+        told,
+        seen: before,
+        logs,
+        current,
+    } = shorten(&rt, alloc, calls, &tally)?;
     assert_eq!(rt; (tally.switches(), tally.counts()), ([1, 0], [0; 3]));
-    for told in after.told.iter() {
+    for told in told.iter() {
         assert!(rt; told.is_ok());
     }
     // Two of the entries stayed, and three were appended after them.
-    assert_eq!(rt; after.logs.count, 5);
-    let head = head_left(alloc, after.current.heads)?;
+    assert_eq!(rt; logs.count, 5);
+    let Current { heads, .. } = current;
+    let head = head_left(alloc, heads)?;
     assert_eq!(rt; (head.generation, head.entries), (1, 2));
     let left_out = [4u64, 4];
     assert_eq!(rt; head.left_out.as_slice(), left_out.as_slice());
-    let (seen, count) = left(&rt, alloc, after.logs)?;
+    let (seen, count) = left(&rt, alloc, logs)?;
     assert_eq!(rt; count, 5);
-    assert!(rt; seen == after.seen);
+    assert!(rt; seen == before);
     Ok(())
 }
 
@@ -199,21 +205,26 @@ fn hold<R: Wait + Abort>(
     if current(alloc, calls.heads).is_err() {
         return Ok(None);
     }
-    let after = shorten(rt, alloc, calls, &tally)?;
+    let After {
+        told,
+        seen: before,
+        logs,
+        current,
+    } = shorten(rt, alloc, calls, &tally)?;
     let [shorter, _] = tally.switches();
     let [_, _, stops] = tally.counts();
-    let generation = after.current.head.generation;
-    assert_eq!(rt; (generation, after.told.len()), (shorter, 3));
-    let head = head_left(alloc, after.current.heads)?;
-    for told in after.told.iter() {
+    let Current { heads, head: held } = current;
+    assert_eq!(rt; (held.generation, told.len()), (shorter, 3));
+    let head = head_left(alloc, heads)?;
+    for told in told.iter() {
         assert_eq!(rt; told.is_ok(), stops == 0);
     }
     if stops == 0 {
-        assert_eq!(rt; head.generation, generation);
+        assert_eq!(rt; head.generation, held.generation);
     }
-    let (seen, count) = left(rt, alloc, after.logs)?;
-    assert!(rt; count >= after.current.head.entries);
-    assert!(rt; seen == after.seen);
+    let (seen, count) = left(rt, alloc, logs)?;
+    assert!(rt; count >= held.entries);
+    assert!(rt; seen == before);
     Ok(Some((shorter == 1, stops == 0)))
 }
 
@@ -231,7 +242,7 @@ fn a_switch_is_made_or_not(rt: HostRuntime) -> Result<(), Fail> {
             Some((false, true)) => 1,
             Some((true, _)) => 2,
         };
-        counts[place] += 1;
+        counts[place] = counts[place].saturating_add(1);
     }
     // A disk that fails for good accepts no second head, so that it is not known which head is the current one.
     assert!(rt; counts[0] > 0 && counts[2] > 0, "{counts:?}");
