@@ -725,8 +725,7 @@ def check_stored(visits, status, said, tally):
     ended = status != 0 and not waiting
     faults = [OUT_OF_MEMORY, "up_server: cannot read the store: out of memory\n"] if ended else [""]
     faults += [LANE_STOPPED] if waiting else []
-    # Some refusals come out as a fault of the disk, though `open_file` promises `Memory`: to be mended in the program.
-    opening = re.fullmatch(r'up_server: cannot open the store at "[^"]*": (the disk failed: )?out of memory\n', fault)
+    opening = re.fullmatch(r'up_server: cannot open the store at "[^"]*": out of memory\n', fault)
     same(fault in faults or (ended and opening is not None), True, f"whether {fault!r} is the fault, with status {status}")
     same(status, int(ended or bool(waiting)), "the status")
     want, dropped = sum(visit.want for visit in visits), sum(visit.dropped for visit in visits)

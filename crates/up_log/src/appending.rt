@@ -53,14 +53,15 @@ impl<D: Disk> Log<D> {
         if self.is_broken {
             return Err(LogFault::Broken);
         }
-        let bytes = closed_body(alloc, entries)?;
+        let mut room = Vec::new(alloc);
+        let bytes = closed_body(entries, &mut room)?;
         let Some(start) = self.gate.checked_add(1) else {
             return Err(LogFault::Broken);
         };
         let Some(end) = self.gate.checked_add(bytes.len()) else {
             return Err(LogFault::Broken);
         };
-        let (staged, is_settled) = write_settled(&mut self.device, start, &bytes);
+        let (staged, is_settled) = write_settled(&mut self.device, start, bytes);
         self.is_broken = !is_settled;
         staged?;
         self.is_broken = true;

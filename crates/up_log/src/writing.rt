@@ -1,5 +1,5 @@
 //! Encoding entries.
-ghost use Rattle.std.specs.Prelude.{◌≡◌, ◌≤◌, ◌++◌, ◌∷◌, [], length, drop, IfOk, OnOk};
+ghost use Rattle.std.specs.Prelude.{◌≡◌, ◌≤◌, ◌-◌, ◌++◌, ◌∷◌, [], length, drop, IfOk, OnOk};
 ghost use Rattle.std.specs.Option.{option_map};
 ghost use Rattle.up_log.specs.Blocks.{body};
 ghost use Rattle.up_log.specs.Spelling.{word, id, text, maybe, many, flag, kind, consent, declared, pair, new_upload, patch, asked_for, entry, batch};
@@ -223,7 +223,7 @@ fn put_batch(out: &mut Vec<u8>, entries: &[Spelled]) -> Result<(), AllocError>
 /// encoded.
 pub(crate) fn room_of(logged: &Entry) -> usize {
     match &logged.request {
-        Request::Patch(sent) => sent.bytes.len().saturating_add(64),
+        Request::Patch(sent) => sent.bytes.len().saturating_add(81),
         _ => 256,
     }
 }
@@ -245,15 +245,44 @@ fn put_front(bytes: &mut [u8], front: &[u8])
     bytes[..front.len()].copy_from_slice(front);
 }
 
-/// The body of a block, followed by the next gate, which is closed.
-pub(crate) fn closed_body(alloc: Global, entries: &[Spelled]) -> Result<Vec<u8>, AllocError>
-    ensures { IfOk result (λ bytes. bytes.items ≡ body entries.now ++ 0 ∷ []) }
+/// Puts the size of a batch in front of it, where 8 bytes were left free, and a closed gate after it.
+fn close(out: &mut Vec<u8>) -> Result<(), AllocError>
+    requires free { 8 ≤ length out.old.items }
+    ensures { OnOk result (out.new.items
+        ≡ word (length out.old.items - 8) ++ drop 8 out.old.items ++ 0 ∷ []) }
 {
-    let mut out = Vec::with_capacity(alloc, room_for(entries))?;
-    out.extend_from_slice(&[0; 8])?;
-    put_batch(&mut out, entries)?;
     let size = out.len() - 8;
-    put_front(&mut out, &word_of(size as u64));
-    out.push(0)?;
+    put_front(out, &word_of(size as u64));
+    Ok(out.push(0)?)
+}
+
+/// The body of a block of one entry, followed by the next gate, which is closed.
+pub(crate) fn closed_entry(alloc: Global, logged: &Entry) -> Result<Vec<u8>, AllocError>
+    ensures { IfOk result (λ bytes. bytes.items ≡ body (logged.now ∷ []) ++ 0 ∷ []) }
+{
+    let mut out = Vec::with_capacity(alloc, room_of(logged))?;
+    out.extend_from_slice(&[0; 8])?;
+    put_word(&mut out, 1)?;
+    put_entry(&mut out, logged)?;
+    close(&mut out)?;
     Ok(out)
+}
+
+/// The body of a block, followed by the next gate, which is closed. That of one entry is there already. That of several
+/// is put together in `room`.
+pub(crate) fn closed_body<'a>(
+    entries: &'a [Spelled],
+    room: &'a mut Vec<u8>,
+) -> Result<&'a [u8], AllocError>
+    requires empty { room.old.items ≡ [] }
+    ensures { IfOk result (λ bytes. bytes.now ≡ body entries.now ++ 0 ∷ []) }
+{
+    if let [one] = entries {
+        return Ok(one.closed_body());
+    }
+    room.reserve(room_for(entries))?;
+    room.extend_from_slice(&[0; 8])?;
+    put_batch(room, entries)?;
+    close(room)?;
+    Ok(room)
 }
