@@ -1,6 +1,7 @@
 //! The order of changes.
-ghost use Rattle.std.specs.Prelude.{◌≡◌, ◌<◌, ◌++◌, IfOk, OnErr, false};
-ghost use Rattle.up_store.specs.Lines.{IsLost, IsTurn, Takes, has_drawn, has_had_turn, has_lost_rest};
+ghost use Rattle.std.specs.Prelude.{◌≡◌, ◌⊎◌, ◌<◌, ◌↔◌, ◌++◌, [], IfOk, IsErr, OnErr, IsTrue, true, false, min, vec_len, ◌+◌};
+ghost use Rattle.up_store.specs.Lines.{IsLost, IsTurn, MayWrite, Takes};
+ghost use Rattle.up_store.specs.Lines.{has_drawn, has_had_turn, has_lost_rest};
 ghost use Rattle.up_store.specs.declared.line.Next.TheVariants.{Commit, Refuse, Wait, Write};
 
 use std::alloc::{AllocError, Global};
@@ -18,54 +19,67 @@ const MOST_BYTES: usize = 1 << 23;
 /// What comes next for a change that was drawn.
 #[derive(Drop)]
 pub enum Next {
-    /// Others come first.
+    /// Other changes come first.
     Wait,
-    /// These changes are to be written to the log. How that ended is to be told by `note_written`.
+    /// These changes are to be written to the log. `note_written` then takes them back, with how that ended.
     Write(Vec<Spelled>),
-    /// It is on the disk, and each change before it has had its turn.
+    /// It is on the disk, and all changes before it had their turn.
     Commit,
-    /// It could not be written, and each change before it has had its turn.
+    /// It could not be written, or no change is made any more. All changes before it had their turn.
     Refuse,
 }
 
-/// The changes in the order in which they were drawn: in this order they are written to the log, and then made.
+/// The changes in the order in which they were drawn. In this order they are written to the log, and then made.
 #[derive(Drop)]
 pub struct Line {
-    /// Those that nobody has begun to write.
+    /// The changes that nobody has begun to write.
     waiting: VecDeque<Spelled>,
     /// Room for a batch, while none is being written.
     room: Vec<Spelled>,
     is_writing: bool,
-    /// Whether nobody is to begin to write.
+    /// Whether nobody may begin to write.
     is_held: bool,
     /// Whether no change is made any more.
     is_over: bool,
+    /// The number of changes that were drawn.
     drawn: u64,
-    /// Of how many it is known whether they are on the disk.
+    /// The number of changes that are known to be on the disk or lost.
     known: u64,
-    /// How many had their turn.
+    /// The number of changes that had their turn.
     done: u64,
-    /// The first of those that could not be written, and the first behind these.
+    /// The first of the changes that could not be written, and the first after these.
     lost: u64,
     kept: u64,
-    /// How many entries of the log had their turn: the place there of the next.
+    /// The number of entries of the log that had their turn, which is the place of the next.
     place: u64,
-    /// How many entries had their turn in this run, with those that were read at its start.
+    /// The number of entries that had their turn in this run, with those that were read at its start.
     decided: u64,
 }
 
 impl Model for Line {
     ghost use Rattle.std.specs.Prelude.{◌≤◌};
-    ghost use Rattle.up_store.specs.Lines.{Progress, progress};
+    ghost use Rattle.up_store.specs.Lines.{Progress};
 
     ghost Value = { Progress };
 
-    ghost view = { λ l. progress l.drawn l.known l.done l.lost l.kept l.waiting.items };
+    ghost view = { λ l. record {
+      drawn = l.drawn;
+      known = l.known;
+      done = l.done;
+      lost = l.lost;
+      kept = l.kept;
+      waiting = l.waiting.items;
+      is_writing = l.is_writing;
+      is_held = l.is_held;
+      is_over = l.is_over;
+      place = l.place;
+      decided = l.decided;
+    } };
 
     ghost invariant = { λ l. (l.done ≤ l.known) × (l.known ≤ l.drawn) };
 }
 
-/// Moves the first of those that wait behind the batch, as long as it has room.
+/// Moves the first of those that wait to the end of the batch, as long as it has room.
 fn fill(waiting: &mut VecDeque<Spelled>, batch: &mut Vec<Spelled>)
     ensures { batch.new.items ++ waiting.new.items ≡ batch.old.items ++ waiting.old.items }
 {
@@ -90,9 +104,13 @@ fn fill(waiting: &mut VecDeque<Spelled>, batch: &mut Vec<Spelled>)
 }
 
 impl Line {
-    /// No change was drawn, and the log has so many entries.
+    /// A line from which no change was drawn, over a log with `place` entries. `AllocError` if memory runs out.
     pub fn new(alloc: Global, place: u64) -> Result<Line, AllocError>
-        ensures new { IfOk result (λ line. (line.drawn ≡ 0) × (line.known ≡ 0) × (line.done ≡ 0)) }
+        ensures empty { IfOk result (λ l. (l.drawn ≡ 0) × (l.known ≡ 0) × (l.done ≡ 0)
+            × (l.waiting ≡ [])) }
+        ensures open { IfOk result (λ l. (l.is_writing ≡ false) × (l.is_held ≡ false)
+            × (l.is_over ≡ false)) }
+        ensures place { IfOk result (λ l. (l.place ≡ place) × (l.decided ≡ place)) }
     {
         Ok(Line {
             waiting: VecDeque::new(alloc),
@@ -110,26 +128,27 @@ impl Line {
         })
     }
 
-    /// The log has so many entries, which were read and had their turn before any was drawn here.
+    /// The log has `place` entries, which were read and had their turn before any change was drawn here.
     pub fn begin_at(&mut self, place: u64)
-        ensures { self.new ≡ self.old }
+        ensures { self.new ≡ record self.old { place = place; decided = place } }
     {
         self.place = place;
         self.decided = place;
     }
 
-    /// A shorter log took the place of the log, and has so many entries.
+    /// A shorter log took the place of the log, and has `place` entries.
     pub fn go_over(&mut self, place: u64)
-        ensures { self.new ≡ self.old }
+        ensures { self.new ≡ record self.old { place = place } }
     {
         self.place = place;
     }
 
-    /// Draws the next number for a change. The error is want of memory, or that no change is made any more; no number was
-    /// drawn then.
+    /// Draws the next number for a change. `AllocError` if memory runs out, or if no change is made any more. No number
+    /// was drawn then.
     pub fn draw(&mut self, change: Spelled) -> Result<u64, AllocError>
         ensures drawn { IfOk result (λ number. (number ≡ self.old.drawn)
             × (self.new ≡ has_drawn self.old change)) }
+        ensures over { self.old.is_over ≡ true → IsErr result }
         ensures none { OnErr result (self.new ≡ self.old) }
     {
         if self.is_over {
@@ -147,10 +166,12 @@ impl Line {
     /// What comes next for the change of this number.
     pub fn next(&mut self, alloc: Global, number: u64) -> Next
         ensures wait { result ≡ Wait → self.new ≡ self.old }
-        ensures write { (batch : _) → result ≡ Write batch → Takes self.old self.new batch.items }
+        ensures write { (batch : _) → result ≡ Write batch → Takes self.old self.new batch.items
+            × MayWrite self.old }
         ensures commit { result ≡ Commit → (self.new ≡ self.old) × IsTurn self.old number
-            × ¬ IsLost self.old number }
-        ensures refuse { result ≡ Refuse → (self.new ≡ self.old) × IsTurn self.old number }
+            × (¬ IsLost self.old number) × (self.old.is_over ≡ false) }
+        ensures refuse { result ≡ Refuse → (self.new ≡ self.old) × IsTurn self.old number
+            × ((self.old.is_over ≡ true) ⊎ IsLost self.old number) }
     {
         if self.done == number && number < self.known {
             if self.is_over || (self.lost <= number && number < self.kept) {
@@ -165,38 +186,45 @@ impl Line {
     }
 
     /// Whether the change of this number has to wait.
-    pub fn is_waiting(&self, number: u64) -> bool {
+    pub fn is_waiting(&self, number: u64) -> bool
+        ensures { IsTurn self.now number → result ≡ false }
+    {
         !(self.done == number && number < self.known) && !self.may_write()
     }
 
-    /// Whether there is something to write, which nobody writes, and no change that could not be written waits for its
-    /// turn.
-    fn may_write(&self) -> bool {
+    /// Whether there is something to write, somebody may begin to, and no change that was lost waits for its turn.
+    fn may_write(&self) -> bool
+        ensures { IsTrue result → MayWrite self.now }
+    {
         !self.is_writing && !self.is_held && !self.waiting.is_empty() && self.kept <= self.done
     }
 
-    /// Nobody begins to write until it is let go.
+    /// Nobody may begin to write until `let_go` is called.
     pub fn hold(&mut self)
-        ensures { self.new ≡ self.old }
+        ensures { self.new ≡ record self.old { is_held = true } }
     {
         self.is_held = true;
     }
 
-    /// Those that wait may be written again.
+    /// The changes that wait may be written again.
     pub fn let_go(&mut self)
-        ensures { self.new ≡ self.old }
+        ensures { self.new ≡ record self.old { is_held = false } }
     {
         self.is_held = false;
     }
 
-    /// Whether nothing is being written, and each change of which it is known whether it is on the disk had its turn.
-    pub fn is_still(&self) -> bool {
+    /// Whether nothing is being written, and all changes that are known to be on the disk or lost had their turn.
+    pub fn is_still(&self) -> bool
+        ensures { IsTrue result
+            ↔ (self.now.is_writing ≡ false) × (self.now.done ≡ self.now.known) }
+    {
         !self.is_writing && self.done == self.known
     }
 
     /// No change is made from now on: those that were drawn are refused, and no other is drawn.
     pub fn stop(&mut self)
-        ensures { (self.new.done ≡ self.old.done) × (self.new.drawn ≡ self.old.drawn) }
+        ensures over { self.new.is_over ≡ true }
+        ensures same { (self.new.done ≡ self.old.done) × (self.new.drawn ≡ self.old.drawn) }
     {
         self.is_over = true;
         if !self.is_writing {
@@ -214,8 +242,9 @@ impl Line {
         self.known = self.drawn;
     }
 
-    /// Takes the first of those that wait.
+    /// Takes the first of those that wait, and notes that they are being written.
     fn begin_batch(&mut self, alloc: Global) -> Vec<Spelled>
+        requires { MayWrite self.old }
         ensures { Takes self.old self.new result.items }
     {
         let mut batch = mem::replace(&mut self.room, Vec::new(alloc));
@@ -225,11 +254,16 @@ impl Line {
         batch
     }
 
-    /// A batch was written, or could not be. Then none of those that wait are written either, so that each is answered
-    /// before others are drawn behind them.
+    /// A batch was written, or could not be. If it could not be, none of those that wait are written either, so that each
+    /// is answered before others are drawn after them.
     pub fn note_written(&mut self, batch: Vec<Spelled>, is_on_disk: bool)
         ensures done { self.new.done ≡ self.old.done }
-        ensures lost { is_on_disk ≡ false → self.new ≡ has_lost_rest self.old }
+        ensures known { is_on_disk ≡ true → self.old.is_over ≡ false
+            → self.new ≡ record self.old {
+                known = min self.old.drawn (self.old.known + vec_len batch);
+                is_writing = false } }
+        ensures lost { is_on_disk ≡ false
+            → self.new ≡ record has_lost_rest self.old { is_writing = false } }
     {
         let mut batch = batch;
         if is_on_disk {
@@ -244,9 +278,9 @@ impl Line {
         self.is_writing = false;
     }
 
-    /// The change whose turn it was has had it. It has a place in the log, or it could not be written.
+    /// The turn of the change whose turn it was is over. The change has a place in the log, or it could not be written.
     pub fn end_turn(&mut self, is_on_disk: bool)
-        ensures { self.old.done < self.old.known → self.new ≡ has_had_turn self.old }
+        ensures { self.old.done < self.old.known → self.new ≡ has_had_turn self.old is_on_disk }
     {
         if self.done < self.known {
             self.done += 1;
@@ -258,19 +292,24 @@ impl Line {
     }
 
     /// The place in the log of the change whose turn it is, if it is on the disk.
-    pub fn place(&self) -> u64 {
+    pub fn place(&self) -> u64
+        ensures { result ≡ self.now.place }
+    {
         self.place
     }
 
-    /// How many entries had their turn in this run, those of its start included. A log that becomes shorter changes the
-    /// places, but not this.
-    pub fn decided(&self) -> u64 {
+    /// The number of entries that had their turn in this run, with those that were read at its start. A log that becomes
+    /// shorter changes the places, but not this number.
+    pub fn decided(&self) -> u64
+        ensures { result ≡ self.now.decided }
+    {
         self.decided
     }
 
-    /// The number of the change whose turn comes next, and of the first of which it isn't known whether it is on the
-    /// disk.
-    pub fn first_two(&self) -> (u64, u64) {
+    /// The number of the change whose turn comes next, and of the first that isn't known to be on the disk or lost.
+    pub fn first_two(&self) -> (u64, u64)
+        ensures { result ≡ (self.now.done, self.now.known) }
+    {
         (self.done, self.known)
     }
 }
