@@ -7,7 +7,8 @@ use up_dispatch::{Board, Naming, Seat};
 
 /// Puts a seat behind the others. Where there is room it takes no memory; elsewhere the seat is lost if memory is wanting.
 fn put<B: Naming>(seats: &mut Vec<Seat<B>>, seat: Seat<B>)
-    ensures { vec_len seats.old < vec_capacity seats.old → seats.new.items ≡ seats.old.items ++ seat ∷ [] }
+    ensures { vec_len seats.old < vec_capacity seats.old
+        → seats.new.items ≡ seats.old.items ++ seat ∷ [] }
 {
     if seats.len() < seats.capacity() {
         seats.push_reserved(seat);

@@ -1,5 +1,6 @@
 //! The end of a board, and what it reports.
-ghost use Rattle.std.specs.Prelude.{◌≡◌, ◌≢◌, Some, IfNone, ℕ, ◌-◌, ◌<◌, ◌≤◌, slice_index_or, vec_capacity, length, sum, All, IfOk, IfErr, IsTrue, ◌↔◌, vec_len, []};
+ghost use Rattle.std.specs.Prelude.{◌≡◌, ◌≢◌, ◌-◌, ◌<◌, ◌≤◌, ◌↔◌, [], Some, IfNone, ℕ, slice_index_or};
+ghost use Rattle.std.specs.Prelude.{vec_capacity, length, sum, All, IfOk, IfErr, IsTrue, vec_len};
 ghost use Rattle.up_events.specs.History.{IsLegal};
 ghost use Rattle.up_events.specs.Records.{lane_log};
 ghost use Rattle.up_lanes.specs.HowOf.{is_drained};
@@ -67,9 +68,11 @@ pub struct Report<H> {
 
 // What a lane handed over, by its queue's two ends.
 fn report_of<H: PostHook + Drop>(book: &Book, feed: Feed, end: LaneEnd<H>) -> LaneReport<H>
-    requires fed { IsFed end.take_end.queue (lane_log book.now.journal end.lane) book.now.closed feed }
+    requires fed { IsFed end.take_end.queue (lane_log book.now.journal end.lane)
+        book.now.closed feed }
     ensures same { (result.lane ≡ end.lane) × (result.hook ≡ end.hook) × (result.how ≡ end.how) }
-    ensures handed { IsHandedOver (lane_log book.now.journal end.lane) (H.handed result.hook) (is_drained result.how) result.left }
+    ensures handed { IsHandedOver (lane_log book.now.journal end.lane) (H.handed result.hook)
+        (is_drained result.how) result.left }
 {
     let LaneEnd {
         lane,
@@ -104,12 +107,17 @@ fn settle<H: PostHook + Drop>(
 ) -> Vec<LaneReport<H>>
     requires none { reports.items ≡ [] }
     requires room { vec_len lanes ≤ vec_capacity reports }
-    requires counts { (vec_len feeds ≡ book.now.journal.lanes) × (vec_len lanes ≡ book.now.journal.lanes) }
+    requires counts { (vec_len feeds ≡ book.now.journal.lanes)
+        × (vec_len lanes ≡ book.now.journal.lanes) }
     requires order { EachAt (λ k e. e.lane ≡ k) lanes.items }
-    requires fed { (k : ℕ) (f : _) (e : _) → k < vec_len lanes → IsFed (slice_index_or lanes.items k e).take_end.queue (lane_log book.now.journal k) book.now.closed (slice_index_or feeds.items k f) }
+    requires fed { (k : ℕ) (f : _) (e : _) → k < vec_len lanes
+        → IsFed (slice_index_or lanes.items k e).take_end.queue (lane_log book.now.journal k)
+        book.now.closed (slice_index_or feeds.items k f) }
     ensures count { vec_len result ≡ vec_len lanes }
-    ensures same { EachPair (λ e x. (x.lane ≡ e.lane) × (x.hook ≡ e.hook) × (x.how ≡ e.how)) lanes.items result.items }
-    ensures handed { EachAt (λ k r. IsHandedOver (lane_log book.now.journal k) (H.handed r.hook) (is_drained r.how) r.left) result.items }
+    ensures same { EachPair (λ e x. (x.lane ≡ e.lane) × (x.hook ≡ e.hook) × (x.how ≡ e.how))
+        lanes.items result.items }
+    ensures handed { EachAt (λ k r. IsHandedOver (lane_log book.now.journal k)
+        (H.handed r.hook) (is_drained r.how) r.left) result.items }
 {
     for (feed, end) in feeds.into_iter().zip(lanes) {
         reports.push_reserved(report_of(book, feed, end));
@@ -188,7 +196,8 @@ impl<B: Naming> Inside<B> {
         lanes: &[LaneEnd<H>],
     ) -> Result<Vec<LaneReport<H>>, FinishFault>
         ensures room { IfOk result (λ r. (r.items ≡ []) × (length lanes.now ≤ vec_capacity r)) }
-        ensures all_seats { IfOk result (λ r. length self.now.book.journal.accepted ≤ sum seats.now) }
+        ensures all_seats { IfOk result (λ r.
+            length self.now.book.journal.accepted ≤ sum seats.now) }
         ensures all_lanes { IfOk result (λ r. IsInOrder (λ e. e.lane) B.lanes lanes.now) }
         ensures seats_out { IfErr result (λ fault. fault ≡ FinishFault.SeatsOut
             → sum seats.now < length self.now.book.journal.accepted) }
@@ -253,7 +262,8 @@ impl<B: Naming> Inside<B> {
         lanes: Vec<LaneEnd<H>>,
     ) -> Result<Report<H>, Unfinished<Inside<B>, B, H>>
         requires { All (λ e. e.take_end.queue ≡ B.queue e.lane) lanes.items }
-        ensures back { IfErr result (λ u. (u.board ≡ self) × (u.seats ≡ seats) × (u.lanes ≡ lanes)) }
+        ensures back { IfErr result (λ u.
+            (u.board ≡ self) × (u.seats ≡ seats) × (u.lanes ≡ lanes)) }
         ensures seats_out { IfErr result (λ u. u.fault ≡ FinishFault.SeatsOut
             → sum seats.items < length self.book.journal.accepted) }
         ensures lanes_out { IfErr result (λ u. u.fault ≡ FinishFault.LanesOut
@@ -302,7 +312,8 @@ impl<B: Naming> Board<B> {
     ) -> Result<Report<H>, Unfinished<Board<B>, B, H>>
         requires { All (λ e. e.take_end.queue ≡ B.queue e.lane) lanes.items }
         ensures back { IfErr result (λ u. (u.seats ≡ seats) × (u.lanes ≡ lanes)) }
-        ensures refused { IfErr result (λ u. (s : Standing) × IsLawfulStanding B.queue B.lanes B.max_size s
+        ensures refused { IfErr result (λ u. (s : Standing)
+            × IsLawfulStanding B.queue B.lanes B.max_size s
             × IsRefusedFor u.fault (length s.book.journal.accepted) (sum seats.items)
             (IsInOrder (λ e. e.lane) B.lanes lanes.items)) }
         ensures all_lanes { IfOk result (λ r. IsInOrder (λ e. e.lane) B.lanes lanes.items) }

@@ -1,5 +1,6 @@
 //! What lies under the board's lock.
-ghost use Rattle.std.specs.Prelude.{◌≡◌, ℕ, ◌+◌, ◌<◌, ◌≤◌, ◌^◌, [], length, IfOk, OnOk, OnErr, IsErr, IfSome, IfNone, true, false, IsTrue, ◌↔◌};
+ghost use Rattle.std.specs.Prelude.{◌≡◌, ◌+◌, ◌<◌, ◌≤◌, ◌^◌, ◌↔◌, []};
+ghost use Rattle.std.specs.Prelude.{ℕ, length, IfOk, OnOk, OnErr, IsErr, IfSome, IfNone, true, false, IsTrue};
 ghost use Rattle.up_events.specs.Records.{empty_records, lane_log};
 ghost use Rattle.up_queue.specs.Line.{items_if};
 ghost use Rattle.up_queue.specs.Sides.{MayBeFull};
@@ -98,7 +99,8 @@ impl<B: Naming> Inside<B> {
     fn over(book: Book, parts: BoardParts) -> (Inside<B>, Vec<TakeEnd>)
         requires named { IsNamed B.name B.parts B.queue B.lanes parts }
         requires some_lane { 0 < length parts.queues }
-        requires new { book.journal ≡ record (empty_records (length parts.queues)) { keeps = book.journal.keeps } }
+        requires new { book.journal
+            ≡ record (empty_records (length parts.queues)) { keeps = book.journal.keeps } }
         requires going { book.closed ≡ false }
         requires sized { book.max_size ≡ B.max_size }
         ensures book { result.0.book ≡ book }
@@ -240,9 +242,12 @@ impl<B: Naming> Inside<B> {
     ) -> Result<Done, Refusal>
         requires bounded { FitsWithin MOST_BYTES request }
         ensures answer { Answers result (decide self.old.book request id asked.now) }
-        ensures ok { IfOk result (λ done. (self.new ≡ noted_in self.old request id done.change) × (seat.new ≡ seat.old + changed done.change)) }
+        ensures ok { IfOk result (λ done.
+            (self.new ≡ noted_in self.old request id done.change)
+            × (seat.new ≡ seat.old + changed done.change)) }
         ensures err { OnErr result ((self.new ≡ self.old) × (seat.new ≡ seat.old)) }
-        ensures closure_refuses { is_asked request ≡ true → is_refusal asked.now ≡ true → IsErr result × (self.new ≡ self.old) }
+        ensures closure_refuses { is_asked request ≡ true → is_refusal asked.now ≡ true
+            → IsErr result × (self.new ≡ self.old) }
     {
         let Inside { book, total, .. } = self;
         let Seat { share, count } = seat;
@@ -286,9 +291,14 @@ impl<B: Naming> Inside<B> {
 
     /// Accepts no change from now on, and puts what the queues have room for.
     pub fn close<R: Wait>(&mut self, rt: &R)
-        ensures book { self.new ≡ record self.old { book = record self.old.book { closed = true }; ends = self.new.ends } }
-        ensures extends { (lane : ℕ) → Extends (end_at self.old.ends lane) (end_at self.new.ends lane) }
-        ensures filled { (lane : ℕ) → lane < self.old.book.journal.lanes → IsFilled self.new.book lane (end_at self.new.ends lane) }
+        ensures book { self.new ≡ record self.old {
+          book = record self.old.book { closed = true };
+          ends = self.new.ends;
+        } }
+        ensures extends { (lane : ℕ)
+            → Extends (end_at self.old.ends lane) (end_at self.new.ends lane) }
+        ensures filled { (lane : ℕ) → lane < self.old.book.journal.lanes
+            → IsFilled self.new.book lane (end_at self.new.ends lane) }
     {
         self.book.close();
         for lane in 0..self.lanes() {
@@ -298,7 +308,8 @@ impl<B: Naming> Inside<B> {
 
     /// The next seat, unless all were given out.
     pub fn seat(&mut self) -> Option<Seat<B>>
-        ensures given { IfSome result (λ s. (s ≡ 0) × (self.new ≡ record self.old { given = self.old.given + 1 })) }
+        ensures given { IfSome result (λ s.
+            (s ≡ 0) × (self.new ≡ record self.old { given = self.old.given + 1 })) }
         ensures none { IfNone result ((self.old.given ≡ MOST_SEATS) × (self.new ≡ self.old)) }
     {
         if self.given >= MOST_SEATS {

@@ -1,7 +1,8 @@
 //! What is answered where a message or a request is refused.
 ghost use Rattle.std.specs.Prelude.{◌≡◌, IfOk};
 ghost use Rattle.up_machine.specs.Refusals.{response_of};
-ghost use Rattle.up_dispatch.specs.Replies.{IsReply, method_refused_with, reply_to_header_fault, reply_to_wire_fault, version_refused_with};
+ghost use Rattle.up_dispatch.specs.Replies.{IsReply, method_refused_with, reply_to_header_fault};
+ghost use Rattle.up_dispatch.specs.Replies.{reply_to_wire_fault, version_refused_with};
 
 use std::alloc::{AllocError, Global};
 use up_headers::HeaderFault;

@@ -16,8 +16,11 @@ use up_wire::Sink;
 /// Writes the event as a line in the form of the report, and has the sink send it on.
 fn write_line<W: Sink>(sink: &mut W, event: &Event) -> Outcome
     ensures code { IsTrue (has_code result) }
-    ensures written { result ≡ Done → Appends (W.device sink.old).bytes (W.device sink.new).bytes (event_line (event.now, Done)) }
-    ensures failed { result ≢ Done → (result ≡ Failed 1) × GaveUp (W.device sink.new) (W.device sink.new).interruptions }
+    ensures written { result ≡ Done
+        → Appends (W.device sink.old).bytes (W.device sink.new).bytes
+        (event_line (event.now, Done)) }
+    ensures failed { result ≢ Done
+        → (result ≡ Failed 1) × GaveUp (W.device sink.new) (W.device sink.new).interruptions }
 {
     match write_told(sink, &(*event, Outcome::Done)) {
         Ok(()) => Outcome::Done,

@@ -2,7 +2,8 @@
 ghost use Rattle.std.specs.Prelude.{◌≡◌, flat_map, OnErr};
 ghost use Rattle.up_wire.specs.Device.{GaveUp};
 ghost use Rattle.up_wire.specs.Response.{Writes};
-ghost use Rattle.up_server.specs.ReportText.{count_line, event_line, event_text, lane_line, lane_text, lanes_text, report_by, how_of, length_text, outcome_of};
+ghost use Rattle.up_server.specs.ReportText.{count_line, event_line, event_text, lane_line, lane_text};
+ghost use Rattle.up_server.specs.ReportText.{lanes_text, report_by, how_of, length_text, outcome_of};
 
 use crate::shown::Shown;
 use itoa::Buffer;

@@ -29,7 +29,8 @@ pub trait Shown: PostHook {
     fn write_text<W: Sink>(&self, sink: &mut W) -> Result<(), WriteFailed>
         ensures written { Writes (W.device sink.old).bytes (W.device sink.new).bytes
             (text self.now) result }
-        ensures failed { OnErr result (GaveUp (W.device sink.new) (W.device sink.new).interruptions) };
+        ensures failed { OnErr result
+            (GaveUp (W.device sink.new) (W.device sink.new).interruptions) };
 }
 
 impl<F: Fn(&Event) -> Outcome + Send> Shown for Recorder<F> {

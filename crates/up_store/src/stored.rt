@@ -58,7 +58,8 @@ impl<'a, B: Naming, D: Disk + Drop, N: StoreNotices + LogFile<D>, R: Wait> Store
         seat: &'a mut Seat<B>,
     ) -> Stored<'a, B, D, N, R>
         ensures state { ⟦<Stored<'a, B, D, N, R> as Keeper>⟧.state result ≡ seat.old }
-        ensures lender { ⟦<Stored<'a, B, D, N, R> as Keeper>⟧.lender result ≡ seat.entry.ghost_name }
+        ensures lender { ⟦<Stored<'a, B, D, N, R> as Keeper>⟧.lender result
+            ≡ seat.entry.ghost_name }
     {
         Stored {
             rt,
