@@ -1,4 +1,4 @@
--- The value behind the board's lock: a board, and how far its book follows a log.
+-- The value under the board's lock: a board, and how far its book follows a log.
 use Rattle.std.specs.Prelude.{◌≡◌, ℕ, Bool, true, false, List, Result, length}
 use Rattle.up_commits.specs.Follows.{Following, IsBookAfter, IsBookOf, new_book}
 use Rattle.up_log.specs.declared.entry.Entry.{Entry}
@@ -24,11 +24,11 @@ abbrev pub IsTied : ℕ → ℕ → Standing → Following → Bool → Type 0
 IsTied lanes max_size board follows is_tied =
     (length follows.carried ≡ length follows.entries) × (is_tied ≡ true → IsBookOf lanes max_size follows board.book)
 
--- nothing was done in the book yet
+-- nothing has changed in the book yet
 abbrev pub IsNewBook : ℕ → ℕ → State → Type 0
 IsNewBook lanes max_size book = (keeps : Bool) × (book ≡ new_book keeps lanes max_size)
 
--- unless the board was closed its book was the one that as many entries define as stand before this place
+-- unless the board was closed, its book was the one that the entries before this place define
 abbrev pub IsDecidedAt : ℕ → ℕ → ℕ → State → Type 0
 IsDecidedAt lanes max_size place book =
     book.closed ≡ false → (before : List Entry) × (length before ≡ place) × IsBookAfter lanes max_size before book

@@ -28,18 +28,18 @@ use up_queue::compare;
 /// Why a board was not finished.
 #[derive(Clone, Copy, Debug, PartialEq, Eq, Error)]
 pub enum FinishFault {
-    /// The seats that came made fewer changes than were accepted.
+    /// The seats that came back made fewer changes than were accepted.
     #[error("a seat is missing")]
     SeatsOut,
-    /// Not each lane came once, in ascending order.
+    /// The lanes are not all there, each once and in ascending order.
     #[error("the lanes are not all there, each once and in order")]
     LanesOut,
-    /// Memory for the report was refused.
+    /// Memory for the report ran out.
     #[error("out of memory")]
     NoMemory,
 }
 
-/// All that was given, and why it comes back.
+/// A board that was not finished, with the reason: everything that was given comes back.
 #[derive(Drop)]
 pub struct Unfinished<T, B: Naming, H: PostHook> {
     pub fault: FinishFault,
@@ -48,10 +48,10 @@ pub struct Unfinished<T, B: Naming, H: PostHook> {
     pub lanes: Vec<LaneEnd<H>>,
 }
 
-/// What a lane handed over.
+/// The report of a lane: what it handed over.
 #[derive(Drop)]
 pub struct LaneReport<H> {
-    /// The lane, from 0 on.
+    /// The lane. The first lane is 0.
     pub lane: u64,
     pub hook: H,
     pub how: How,
@@ -59,14 +59,15 @@ pub struct LaneReport<H> {
     pub left: u64,
 }
 
-/// The accepted changes in order, kept or counted, and what each lane handed over of them, in the order of the lanes.
+/// The accepted changes in their order, kept or only counted, and for each lane, in the order of the lanes, what it
+/// handed over.
 #[derive(Drop)]
 pub struct Report<H> {
     pub accepted: Changes,
     pub lanes: Vec<LaneReport<H>>,
 }
 
-// What a lane handed over, by its queue's two ends.
+/// The report of a lane, from the two ends of its queue.
 fn report_of<H: PostHook + Drop>(book: &Book, feed: Feed, end: LaneEnd<H>) -> LaneReport<H>
     requires fed { IsFed end.take_end.queue (lane_log book.now.journal end.lane)
         book.now.closed feed }
@@ -98,7 +99,7 @@ fn report_of<H: PostHook + Drop>(book: &Book, feed: Feed, end: LaneEnd<H>) -> La
     }
 }
 
-// What each lane handed over, in the order of the lanes.
+/// The report of each lane, in the order of the lanes.
 fn settle<H: PostHook + Drop>(
     book: &Book,
     mut reports: Vec<LaneReport<H>>,
@@ -125,7 +126,7 @@ fn settle<H: PostHook + Drop>(
     reports
 }
 
-// How many of the changes were made from no seat that came.
+/// How many of `changes` were made from none of these seats.
 fn missing<B: Naming>(changes: u64, seats: &[Seat<B>]) -> u64
     ensures { result ≡ changes - sum seats.now }
 {
@@ -136,7 +137,7 @@ fn missing<B: Naming>(changes: u64, seats: &[Seat<B>]) -> u64
     missing
 }
 
-// The shares of all seats, put together.
+/// The shares of all seats, merged.
 fn gathered<B: Naming>(mut all: Share<B>, seats: Vec<Seat<B>>) -> Share<B>
     requires { all.amount ≡ 0 }
     ensures { result.amount ≡ sum seats.items }
@@ -148,7 +149,7 @@ fn gathered<B: Naming>(mut all: Share<B>, seats: Vec<Seat<B>>) -> Share<B>
     all
 }
 
-// Whether each lane came once, in ascending order.
+/// Whether the lanes are all there, each once and in ascending order.
 fn in_order<H: PostHook + Drop>(lanes: &[LaneEnd<H>], count: usize) -> bool
     ensures { IsTrue result ↔ IsInOrder (λ e. e.lane) count lanes.now }
 {
@@ -164,7 +165,7 @@ fn in_order<H: PostHook + Drop>(lanes: &[LaneEnd<H>], count: usize) -> bool
 }
 
 impl<B: Naming> Inside<B> {
-    // What keeps the board from being finished with these.
+    /// Why the board can't be finished with these seats and lanes, if there is a reason. It is never `NoMemory`.
     fn fault<H: PostHook + Drop>(
         &self,
         seats: &[Seat<B>],
@@ -188,7 +189,8 @@ impl<B: Naming> Inside<B> {
         None
     }
 
-    // Room for the reports of all lanes, unless something keeps the board from being finished with these.
+    /// Room for the reports of all lanes. The error is the reason why the board can't be finished, or that memory ran
+    /// out.
     fn begun<H: PostHook + Drop>(
         &self,
         alloc: Global,
@@ -217,7 +219,7 @@ impl<B: Naming> Inside<B> {
         }
     }
 
-    // The report with what each lane handed over.
+    /// The report of a board that can be finished.
     fn completed<H: PostHook + Drop>(
         self,
         reports: Vec<LaneReport<H>>,
@@ -298,12 +300,13 @@ impl<B: Naming> Inside<B> {
 }
 
 impl<B: Naming> Board<B> {
-    /// Ends the board, once all its seats and the ends of its lanes are brought back, and reports. What a lane's post-hook was handed is the
-    /// first of the lane's log of the accepted changes: of each upload the first of its events, each once and in order, and none
-    /// after its end; all of them where the lane is drained. If something is missing, or memory is, all that was given comes
-    /// back with the reason, the first that holds in the order of `FinishFault`. `LanesOut` is exact. For `SeatsOut` the contract
-    /// asks no more than that some lawful board of this name has more changes than the seats made, and tests hold it to this
-    /// board. It waits for nobody.
+    /// Ends the board and reports, after all seats and the ends of all lanes were brought back. Waits for nothing.
+    /// What the post-hook of a lane was handed is a prefix of the lane's log of the accepted changes: of each upload
+    /// its first events, each once and in order, and none after its end. If the lane is drained, it is the whole log.
+    /// If a seat or a lane is missing, or if memory runs out, everything that was given comes back with the reason, the
+    /// first one in the order of `FinishFault`. `LanesOut` comes only if a lane is missing, and then there is never a
+    /// report. For `SeatsOut` the contract only says that some lawful board of this name has more changes than the
+    /// seats made; tests check that it is this board.
     pub fn finish<H: PostHook + Drop>(
         self,
         alloc: Global,
