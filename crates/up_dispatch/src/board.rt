@@ -47,7 +47,7 @@ fn new_bells(alloc: Global, count: usize) -> Result<Vec<Condvar>, NoMemory>
 
 impl<B: Naming> Board<B> {
     /// A new board without uploads, and for each lane the end at which its items are taken. An upload may have at most
-    /// `max_size` bytes. The board keeps every accepted change until it is finished. `NoMemory` if memory runs out.
+    /// `max_size` bytes. The board keeps every accepted change until its end. `NoMemory` if memory runs out.
     pub fn new(
         alloc: Global,
         parts: BoardParts,

@@ -1,4 +1,4 @@
-//! That the limits in the code are those of the definitions.
+//! The limits in the code are those of the definitions.
 ghost use Rattle.std.specs.Prelude.{◌≡◌};
 ghost use Rattle.up_dispatch.specs.Limits.{most_messages, most_seats};
 
