@@ -9,48 +9,51 @@ use std::marker::Model;
 use std::mem;
 use up_log::Spelled;
 
-/// How many changes a batch has, at most.
+/// The most changes of a batch.
 const MOST_CHANGES: usize = 64;
 
-/// How many bytes a batch takes, at most, unless its first change alone takes more.
+/// The most bytes of a batch, unless its first change alone has more.
 const MOST_BYTES: usize = 1 << 23;
 
-/// What comes next for a change that was drawn.
+/// What to do next for a change that has a number.
 #[derive(Drop)]
 pub enum Next {
-    /// Others come first.
+    /// Wait, because other changes come first.
     Wait,
-    /// These changes are to be written to the log. How that ended is to be told by `note_written`.
+    /// Write these changes to the log, and report the result with `note_written`.
     Write(Vec<Spelled>),
-    /// It is on the disk, and each change before it has had its turn.
+    /// Make the change. It is on the disk, and every change before it has had its turn.
     Commit,
-    /// It could not be written, and each change before it has had its turn.
+    /// Refuse the change: it could not be written, or no change is made any more. Every change before it has had its
+    /// turn.
     Refuse,
 }
 
-/// The changes in the order in which they were drawn: in this order they are written to the log, and then made.
+/// The changes in the order of their numbers. In this order they are written to the log, and then made.
 #[derive(Drop)]
 pub struct Line {
-    /// Those that nobody has begun to write.
+    /// The changes that nobody has begun to write.
     waiting: VecDeque<Spelled>,
     /// Room for a batch, while none is being written.
     room: Vec<Spelled>,
+    /// Whether a batch is being written.
     is_writing: bool,
-    /// Whether nobody is to begin to write.
+    /// Whether no batch may be begun.
     is_held: bool,
     /// Whether no change is made any more.
     is_over: bool,
+    /// How many numbers were drawn.
     drawn: u64,
-    /// Of how many it is known whether they are on the disk.
+    /// For how many changes it is known whether they are on the disk.
     known: u64,
-    /// How many had their turn.
+    /// How many changes have had their turn.
     done: u64,
-    /// The first of those that could not be written, and the first behind these.
+    /// The number of the first change that could not be written, and the number after the last one.
     lost: u64,
     kept: u64,
-    /// How many entries of the log had their turn: the place there of the next.
+    /// How many entries of the log have had their turn, which is the place of the next one.
     place: u64,
-    /// How many entries had their turn in this run, with those that were read at its start.
+    /// How many entries have had their turn in this run, including those that were read at its start.
     decided: u64,
 }
 
@@ -65,7 +68,7 @@ impl Model for Line {
     ghost invariant = { λ l. (l.done ≤ l.known) × (l.known ≤ l.drawn) };
 }
 
-/// Moves the first of those that wait behind the batch, as long as it has room.
+/// Moves changes from the start of those that wait to the end of the batch, as long as it has room.
 fn fill(waiting: &mut VecDeque<Spelled>, batch: &mut Vec<Spelled>)
     ensures { batch.new.items ++ waiting.new.items ≡ batch.old.items ++ waiting.old.items }
 {
@@ -90,7 +93,7 @@ fn fill(waiting: &mut VecDeque<Spelled>, batch: &mut Vec<Spelled>)
 }
 
 impl Line {
-    /// No change was drawn, and the log has so many entries.
+    /// A line in which no number was drawn, for a log with `place` entries. The error is that memory ran out.
     pub fn new(alloc: Global, place: u64) -> Result<Line, AllocError>
         ensures new { IfOk result (λ line. (line.drawn ≡ 0) × (line.known ≡ 0) × (line.done ≡ 0)) }
     {
@@ -110,7 +113,7 @@ impl Line {
         })
     }
 
-    /// The log has so many entries, which were read and had their turn before any was drawn here.
+    /// The log has `place` entries, which were read and had their turn before any number was drawn.
     pub fn begin_at(&mut self, place: u64)
         ensures { self.new ≡ self.old }
     {
@@ -118,15 +121,15 @@ impl Line {
         self.decided = place;
     }
 
-    /// A shorter log took the place of the log, and has so many entries.
+    /// A shorter log, with `place` entries, replaced the log.
     pub fn go_over(&mut self, place: u64)
         ensures { self.new ≡ self.old }
     {
         self.place = place;
     }
 
-    /// Draws the next number for a change. The error is want of memory, or that no change is made any more; no number was
-    /// drawn then.
+    /// Draws the next number for a change. The error is that memory or the numbers ran out, or that no change is made
+    /// any more; no number was drawn then.
     pub fn draw(&mut self, change: Spelled) -> Result<u64, AllocError>
         ensures drawn { IfOk result (λ number. (number ≡ self.old.drawn)
             × (self.new ≡ has_drawn self.old change)) }
@@ -144,7 +147,7 @@ impl Line {
         Ok(number)
     }
 
-    /// What comes next for the change of this number.
+    /// What to do next for the change with this number.
     pub fn next(&mut self, alloc: Global, number: u64) -> Next
         ensures wait { result ≡ Wait → self.new ≡ self.old }
         ensures write { (batch : _) → result ≡ Write batch → Takes self.old self.new batch.items }
@@ -164,37 +167,38 @@ impl Line {
         Next::Wait
     }
 
-    /// Whether the change of this number has to wait.
+    /// Whether the change with this number has to wait.
     pub fn is_waiting(&self, number: u64) -> bool {
         !(self.done == number && number < self.known) && !self.may_write()
     }
 
-    /// Whether there is something to write, which nobody writes, and no change that could not be written waits for its
-    /// turn.
+    /// Whether a batch may be begun: changes wait, nobody writes, nobody holds up the line, and no change that could
+    /// not be written still waits for its turn.
     fn may_write(&self) -> bool {
         !self.is_writing && !self.is_held && !self.waiting.is_empty() && self.kept <= self.done
     }
 
-    /// Nobody begins to write until it is let go.
+    /// No batch is begun until `let_go`.
     pub fn hold(&mut self)
         ensures { self.new ≡ self.old }
     {
         self.is_held = true;
     }
 
-    /// Those that wait may be written again.
+    /// Batches may be begun again.
     pub fn let_go(&mut self)
         ensures { self.new ≡ self.old }
     {
         self.is_held = false;
     }
 
-    /// Whether nothing is being written, and each change of which it is known whether it is on the disk had its turn.
+    /// Whether nothing is being written, and every change of which it is known whether it is on the disk has had its
+    /// turn.
     pub fn is_still(&self) -> bool {
         !self.is_writing && self.done == self.known
     }
 
-    /// No change is made from now on: those that were drawn are refused, and no other is drawn.
+    /// Makes no change from now on: those that have a number are refused, and no further number is drawn.
     pub fn stop(&mut self)
         ensures { (self.new.done ≡ self.old.done) × (self.new.drawn ≡ self.old.drawn) }
     {
@@ -204,7 +208,7 @@ impl Line {
         }
     }
 
-    /// None of those that wait is going to be written.
+    /// Gives up the changes that wait: none of them is going to be written.
     fn lose_rest(&mut self)
         ensures { self.new ≡ has_lost_rest self.old }
     {
@@ -214,7 +218,7 @@ impl Line {
         self.known = self.drawn;
     }
 
-    /// Takes the first of those that wait.
+    /// Takes a batch from the start of the changes that wait.
     fn begin_batch(&mut self, alloc: Global) -> Vec<Spelled>
         ensures { Takes self.old self.new result.items }
     {
@@ -225,8 +229,8 @@ impl Line {
         batch
     }
 
-    /// A batch was written, or could not be. Then none of those that wait are written either, so that each is answered
-    /// before others are drawn behind them.
+    /// A batch was written, or could not be. If it could not, the changes that wait are not written either, so that all
+    /// of these are answered before a later change is written.
     pub fn note_written(&mut self, batch: Vec<Spelled>, is_on_disk: bool)
         ensures done { self.new.done ≡ self.old.done }
         ensures lost { is_on_disk ≡ false → self.new ≡ has_lost_rest self.old }
@@ -244,7 +248,7 @@ impl Line {
         self.is_writing = false;
     }
 
-    /// The change whose turn it was has had it. It has a place in the log, or it could not be written.
+    /// The change whose turn it was has had it. `is_on_disk` says whether it has a place in the log.
     pub fn end_turn(&mut self, is_on_disk: bool)
         ensures { self.old.done < self.old.known → self.new ≡ has_had_turn self.old }
     {
@@ -262,14 +266,14 @@ impl Line {
         self.place
     }
 
-    /// How many entries had their turn in this run, those of its start included. A log that becomes shorter changes the
-    /// places, but not this.
+    /// How many entries have had their turn in this run, including those that were read at its start. A shorter log
+    /// changes the places, but not this number.
     pub fn decided(&self) -> u64 {
         self.decided
     }
 
-    /// The number of the change whose turn comes next, and of the first of which it isn't known whether it is on the
-    /// disk.
+    /// The number of the change whose turn is next, and that of the first change of which it is not known whether it is
+    /// on the disk.
     pub fn first_two(&self) -> (u64, u64) {
         (self.done, self.known)
     }
