@@ -12,8 +12,8 @@ use up_hooks::PostHook;
 use up_lanes::{Lane, LaneEnd};
 use up_words::Settings;
 
-/// A new board of these parts and of this size, which counts the changes and doesn't keep them, and a lane over each of its queues, with the
-/// post-hook at its place.
+/// A new board of these parts, with these settings, which counts the changes but does not keep them, and a lane over
+/// each of its queues, with the post-hook at the same place. `NoMemory` if memory runs out.
 pub fn open<B: Naming, H: PostHook + Drop>(
     alloc: Global,
     parts: BoardParts,
@@ -34,7 +34,8 @@ pub fn open<B: Naming, H: PostHook + Drop>(
     Ok((board, lanes))
 }
 
-/// Ends the board, and reports. An error is want of memory, or a seat that isn't among these and from which changes were made.
+/// Ends the board, and reports. The error is that memory ran out, or that a seat is missing from which changes were
+/// made.
 pub fn finish<B: Naming, H: PostHook + Drop>(
     alloc: Global,
     board: Board<B>,
