@@ -31,7 +31,7 @@ pub enum Fault {
     /// An argument can't be read as text.
     #[error("an argument is not UTF-8")]
     NoText,
-    /// `clap` refuses the words, or was asked for help.
+    /// `clap` refused the arguments, or was asked for help.
     #[error(transparent)]
     Words(clap::Error),
     /// The server can't listen at the address.
@@ -93,7 +93,7 @@ impl Fault {
         };
     }
 
-    /// The exit status: 2 if the arguments were refused (`NoText`, `Words`), else 1.
+    /// The exit status: 2 for `NoText` and `Words`, else 1.
     pub fn status(&self) -> ExitCode {
         match self {
             Fault::NoText | Fault::Words(_) => ExitCode::from(2),

@@ -10,7 +10,7 @@ use up_dispatch::{Board, Naming};
 /// How many milliseconds pass at most before the state of the run is checked again.
 const PAUSE: i32 = 100;
 
-/// How many milliseconds pass at most before that, after the input has ended.
+/// How many milliseconds pass at most before that check, after the input has ended.
 const LAST_PAUSE: i32 = 10;
 
 /// How many bytes of the input are read and dropped at a time.

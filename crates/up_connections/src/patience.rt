@@ -67,7 +67,7 @@ pub fn milliseconds() -> u64 {
 }
 
 /// Whether a request is too slow, of which `came` bytes arrived in `passed` milliseconds, if `least` bytes per second
-/// are required. In the first ten seconds it never is.
+/// are required. No request is too slow in its first ten seconds.
 fn is_too_slow(came: u64, passed: u64, least: u64) -> bool
     ensures { IsTrue result ↔ ((10000 < passed) × (came * 1000 < least * passed)) }
 {

@@ -105,7 +105,7 @@ impl Pool {
         handed.streams.pop()
     }
 
-    /// The count of the news modulo 2^32, which is what a sleep compares. It is asked for under the lock.
+    /// The count of the news modulo 2^32, which is what a sleep compares. Must be called under the lock.
     fn told(&self) -> u32 {
         (self.news.load(Ordering::SeqCst) & 0xffff_ffff) as u32
     }

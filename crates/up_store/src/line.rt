@@ -192,8 +192,8 @@ impl Line {
         self.is_held = false;
     }
 
-    /// Whether nothing is being written, and every change of which it is known whether it is on the disk has had its
-    /// turn.
+    /// Whether nothing is being written, and every change has had its turn of which it is known whether it is on the
+    /// disk.
     pub fn is_still(&self) -> bool {
         !self.is_writing && self.done == self.known
     }

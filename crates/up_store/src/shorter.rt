@@ -55,7 +55,7 @@ fn ids_of(alloc: Global, uploads: &[EndedUpload]) -> Result<BTreeSet<Id>, AllocE
     Ok(ids)
 }
 
-/// Opens a new log, which has nothing to read. `Foreign` if it has.
+/// Opens a new log, which must have nothing to read. `Foreign` if it has a batch.
 fn emptied<D: Disk>(alloc: Global, reader: LogReader<D>) -> Result<Log<D>, LogFault>
 where
     D: Drop,
