@@ -51,8 +51,7 @@ fn begins_with(bytes: &[u8], front: &[u8]) -> bool
 
 /// Whether a file has no complete heading yet. `front` is the start of the file, or all of it. `closed` is the heading
 /// that belongs after the gate, with the next gate.
-#[tactic(auto, using(crate::proofs::Headings::short_is))]
-#[tactic(auto, using(crate::proofs::Headings::zero_is, crate::proofs::Headings::whole_is))]
+#[tactic(auto, using(crate::proofs::Headings::unfinished_is))]
 fn is_unfinished(front: &[u8], closed: &[u8]) -> bool
     ensures { (setup : Numbers) → closed.now ≡ heading setup ++ 0 ∷ [] → IsTrue result
         → IsUnfinished setup front.now × (length front.now ≤ 34) }
