@@ -14,8 +14,10 @@ pub enum Unopened {
     /// The folder can't be made.
     #[error("{0}")]
     Folder(io::Error),
+    /// A log can't be opened.
     #[error("{0}")]
     Log(LogFault),
+    /// The count of a lane can't be opened.
     #[error("{0}")]
     Count(HandedFault),
     /// The log leaves out more events of the lane than its count has.
@@ -29,16 +31,19 @@ pub enum Fault {
     /// An argument can't be read as text.
     #[error("an argument is not UTF-8")]
     NoText,
-    /// `clap` refuses the words, or was asked for help.
+    /// `clap` refused the arguments, or was asked for help.
     #[error(transparent)]
     Words(clap::Error),
+    /// The server can't listen at the address.
     #[error("{fault} at {address:?}: {reason}", fault = ServerFault::Listen)]
     Listen { address: String, reason: io::Error },
+    /// A file or the folder of the store can't be opened.
     #[error("cannot open the store at {path:?}: {reason}")]
     Store { path: String, reason: Unopened },
-    /// The changes of the store could not be made again, so nothing was served. That was told already.
+    /// The changes of the store could not be carried out again, so nothing was served. The reason was printed already.
     #[error("cannot read the store")]
     Told,
+    /// A run of the server failed.
     #[error(transparent)]
     Server(ServerFault),
 }
@@ -64,7 +69,7 @@ impl<T: Drop> From<AllocFailed<T>> for Fault {
     }
 }
 
-/// A standard stream, or the system's random bytes, can't be had, or there is no memory for it.
+/// A standard stream or the system's random bytes can't be used, or memory for them ran out.
 impl From<io::Error> for Fault {
     fn from(_: io::Error) -> Self {
         Fault::Server(ServerFault::Memory)
@@ -78,7 +83,8 @@ impl From<ServerFault> for Fault {
 }
 
 impl Fault {
-    /// Says what failed on standard error, unless that was told already. Where that is closed nobody is told.
+    /// Prints on standard error what failed, unless that was printed already. If standard error is closed, nobody is
+    /// told.
     pub fn tell<R: Eprint>(&self, rt: &R) {
         let _ = match self {
             Fault::Told => Ok(()),
@@ -87,7 +93,7 @@ impl Fault {
         };
     }
 
-    /// 2 where the words are wrong, and else 1.
+    /// The exit status: 2 for `NoText` and `Words`, else 1.
     pub fn status(&self) -> ExitCode {
         match self {
             Fault::NoText | Fault::Words(_) => ExitCode::from(2),

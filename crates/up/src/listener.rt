@@ -9,7 +9,8 @@ use up_words::Serving;
 /// How many connections may wait for the server to accept them; std asks for 128.
 const BACKLOG: i32 = 4096;
 
-/// Listens at the address, and says so on standard error, with the port that the system picked in place of port 0.
+/// Listens at the address, and prints it on standard error, with the port that the system picked if it is port 0. The
+/// error says why the server can't listen there.
 fn listen_at<R: Net<Listener = TcpListener, Stream = TcpStream> + Eprint>(
     rt: &R,
     address: &str,
@@ -21,7 +22,7 @@ fn listen_at<R: Net<Listener = TcpListener, Stream = TcpStream> + Eprint>(
     Ok(listener)
 }
 
-/// Listens where the words ask for it. The error says why the address can't be listened at.
+/// Listens at the address that the arguments give. The error says why the server can't listen there.
 pub fn listen<R: Net<Listener = TcpListener, Stream = TcpStream> + Eprint>(
     rt: &R,
     serving: &Serving,

@@ -1,5 +1,5 @@
-//! The program `up_server`: `replay` serves the messages on standard input as one conversation, `serve` the connections of a listener. The
-//! words of the command line say how large the server is, and which rules its closures keep.
+//! The program. `replay` serves the messages on standard input as one conversation, and `serve` serves the connections
+//! of a listener. The arguments set the size of the server, and the rules that its closures keep.
 #![tactic(auto)]
 
 mod fault;
@@ -30,7 +30,7 @@ use up_server::{EventLines, ServerFault};
 use up_wire::Output;
 use up_words::{Words, WordsFault, words};
 
-/// Serves as the words ask for it.
+/// Serves as the arguments ask.
 fn obey<R: Input + Print + Eprint + AllocGlobal + Clock + RandomSource + Threads + Wait + Sync>(
     rt: &R,
     words: &Words,
@@ -45,7 +45,7 @@ fn obey<R: Input + Print + Eprint + AllocGlobal + Clock + RandomSource + Threads
     run_by_rules(rt, words, wanted, listener, files)
 }
 
-/// The words behind the program's name.
+/// The arguments, without the name of the program.
 fn given(rt: &HostRuntime) -> Result<Vec<String>, Fault> {
     let all = match std::env::args(rt) {
         Ok(all) => all,
@@ -57,7 +57,7 @@ fn given(rt: &HostRuntime) -> Result<Vec<String>, Fault> {
         .map_err(|_| Fault::Server(ServerFault::Memory))
 }
 
-/// What the words ask for. None where it was the version alone, which is then on standard output.
+/// What the arguments ask for. `None` if it is only the version, which was then printed on standard output.
 fn asked<R: Print>(rt: &R, alloc: Global, given: Vec<String>) -> Result<Option<Words>, Fault> {
     match words(alloc, given) {
         Ok(words) => Ok(Some(words)),
@@ -71,7 +71,7 @@ fn asked<R: Print>(rt: &R, alloc: Global, given: Vec<String>) -> Result<Option<W
     }
 }
 
-/// Listens where the words ask for it, and serves.
+/// Listens if the arguments ask for it, and serves.
 fn run<
     R: Input
         + Print
@@ -91,7 +91,8 @@ fn run<
     obey(rt, words, listener, files)
 }
 
-/// The words, and the store that they ask for, which is open then. None where it was the version alone.
+/// What the arguments ask for, and the files of the store if they ask for one, which are then open. `None` if they only
+/// ask for the version.
 fn prepared(rt: &HostRuntime) -> Result<Option<(Words, Option<StoreFiles<'_>>)>, Fault> {
     let Some(words) = asked(rt, rt.alloc(), given(rt)?)? else {
         return Ok(None);

@@ -1,9 +1,9 @@
-//! What is said while connections are let in.
+//! What is printed about accepting connections.
 use std::sync::{Mutex, Wait};
 use std::time::Clock;
 use up_connections::{Due, Entrance, Notices, Said};
 
-/// Lines on standard error that say how it stands with letting connections in, no two of them within a second.
+/// Prints lines on standard error about accepting connections, no two of them within a second.
 #[derive(Drop)]
 pub struct NoticeLines<'a, R> {
     rt: &'a R,
@@ -11,7 +11,7 @@ pub struct NoticeLines<'a, R> {
 }
 
 impl<'a, R> NoticeLines<'a, R> {
-    /// No line was said.
+    /// No line was printed yet.
     pub fn new(rt: &'a R) -> NoticeLines<'a, R> {
         NoticeLines {
             rt,
@@ -20,7 +20,7 @@ impl<'a, R> NoticeLines<'a, R> {
     }
 }
 
-/// The milliseconds of the system's clock that never goes back, or 0 where there is none.
+/// The milliseconds of the system's clock that never goes back, or 0 if there is none.
 fn milliseconds<R: Clock>(rt: &R) -> u64 {
     match rt.monotonic() {
         Ok(time) => u64::try_from(time.as_millis()).unwrap_or(u64::MAX),

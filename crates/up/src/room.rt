@@ -3,9 +3,10 @@ use std::fs;
 use std::fs::Files;
 use std::io::Write;
 
-/// How many zeros are written at a time, and how often: 1 MiB in all.
+/// What is written at a time: 4 KiB of zeros.
 const ZEROS: [u8; 4096] = [0; 4096];
 
+/// How many times it is written: 1 MiB in all.
 const TIMES: u32 = 256;
 
 /// Keeps room in the file at this path: 1 MiB, or as much of it as the disk has.
@@ -20,7 +21,7 @@ pub fn keep_room<R: Files>(rt: &R, path: &str) {
     }
 }
 
-/// Gives it up. Tells whether there was some.
+/// Removes the file at this path, which frees its room. Returns whether there was one.
 pub fn give_up_room<R: Files>(rt: &R, path: &str) -> bool {
     fs::remove_file(rt, path).is_ok()
 }

@@ -1,4 +1,4 @@
-//! The closures of the rules that the words of the command line ask for.
+//! The closures for the rules that the arguments ask for.
 ghost use Rattle.std.specs.Prelude.{◌≡◌, IsTrue};
 ghost use Rattle.up_hooks.specs.Verdicts.{is_lawful};
 ghost use Rattle.up_rules.specs.Rules.{judged};
@@ -19,7 +19,8 @@ use up_server::EventLines;
 use up_wire::Sink;
 use up_words::Words;
 
-/// Serves what the words ask for, with the closures of their rules, which are asked in the order in which the help names them.
+/// Serves what the arguments ask for, with the closures for their rules. These are asked in the order in which the help
+/// lists the rules. The error says why the run failed.
 pub fn run_by_rules<
     'a,
     R: Input + Print + Eprint + AllocGlobal + Clock + RandomSource + Threads + Wait + Sync + 'a,

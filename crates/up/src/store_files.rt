@@ -11,17 +11,17 @@ use up_log::{LogReader, Setup};
 use up_store::{Current, Folder};
 use up_words::{Settings, Words};
 
-/// The files of a store, which are open, so that no other server opens them.
+/// The files of a store. They are open, so that no other server opens them.
 #[derive(Drop)]
 pub struct StoreFiles<'a> {
     pub folder: StoreFolder<'a>,
-    /// The size of the server for which they were opened.
+    /// The settings of the server for which they were opened.
     pub settings: Settings,
     /// Which logs are the current ones.
     pub current: Current<StoreFile>,
-    /// The changes.
+    /// The log of the changes.
     pub changes: LogReader<StoreFile>,
-    /// The places of those that were not made for want of memory.
+    /// The log of the changes that were not made.
     pub voids: LogReader<StoreFile>,
     /// How many events each lane has handed over.
     pub counts: Vec<Opened<StoreFile>>,
@@ -30,7 +30,7 @@ pub struct StoreFiles<'a> {
     pub ghost one_each: { vec_len counts ≡ settings.lanes },
 }
 
-/// Begins to open the log of this name and generation.
+/// Begins to open the log of this name and generation. The error has its path, and why it can't be opened.
 fn open_log(
     folder: &StoreFolder<'_>,
     name: &str,
@@ -46,7 +46,7 @@ fn open_log(
     }
 }
 
-/// Opens the log that tells which logs are the current ones.
+/// Opens the log that says which logs are the current ones.
 fn open_current(folder: &StoreFolder<'_>) -> Result<Current<StoreFile>, Fault> {
     let reader = open_log(folder, "heads", 0)?;
     match Heads::read(folder.rt.alloc(), reader) {
@@ -58,8 +58,8 @@ fn open_current(folder: &StoreFolder<'_>) -> Result<Current<StoreFile>, Fault> {
     }
 }
 
-/// Removes what a switch to a shorter log left: the log before the one of this generation, or the one behind it, which
-/// wasn't ready.
+/// Removes what a switch to a shorter log has left: the logs of the generation before this one, or those of the next
+/// one, which were not ready.
 fn tidy_up(folder: &StoreFolder<'_>, generation: u64) {
     if let Some(next) = generation.checked_add(1) {
         folder.remove(next);
@@ -69,7 +69,7 @@ fn tidy_up(folder: &StoreFolder<'_>, generation: u64) {
     }
 }
 
-/// Opens the count of a lane, so many of whose events the log leaves out.
+/// Opens the count of a lane, of which the log leaves out `left_out` events. `Fewer` if the count has fewer.
 fn open_count(
     folder: &StoreFolder<'_>,
     lane: u64,
@@ -87,7 +87,7 @@ fn open_count(
     Err(Fault::Store { path, reason })
 }
 
-/// Opens the counts of so many lanes, of which the log leaves out these events.
+/// Opens the counts of all lanes. The log leaves out `left_out` events of them, a number for each lane.
 fn open_counts(
     folder: &StoreFolder<'_>,
     lanes: u64,
@@ -103,7 +103,7 @@ fn open_counts(
     Ok(counts)
 }
 
-/// Opens the files in this folder, which is made if it isn't there.
+/// Opens the files in this folder, which is made if it does not exist.
 fn open_store<'a>(folder: StoreFolder<'a>, settings: Settings) -> Result<StoreFiles<'a>, Fault> {
     if let Err(error) = folder.make_folder() {
         return Err(Fault::Store {
@@ -130,7 +130,7 @@ fn open_store<'a>(folder: StoreFolder<'a>, settings: Settings) -> Result<StoreFi
     })
 }
 
-/// Opens the store that the words ask for, if they do.
+/// Opens the store that the arguments ask for. `None` if they ask for none.
 pub fn store_of<'a>(rt: &'a HostRuntime, words: &Words) -> Result<Option<StoreFiles<'a>>, Fault> {
     let Some(serving) = &words.serve else {
         return Ok(None);

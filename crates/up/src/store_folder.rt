@@ -22,7 +22,7 @@ pub struct StoreFolder<'a> {
 }
 
 impl StoreFolder<'_> {
-    /// Makes it, unless it is there. Nobody else may look into one that is made.
+    /// Makes the folder, unless it exists. Only its owner may look into a new one.
     pub fn make_folder(&self) -> io::Result<()> {
         match DirBuilder::new()
             .mode(0o700)
@@ -39,7 +39,7 @@ impl StoreFolder<'_> {
         format!(in self.rt.alloc(); "{folder}/{name}")
     }
 
-    /// The path of the file of this name and generation, of which that of the first has the name alone.
+    /// The path of the file of this name and generation. In the first generation it has only the name.
     pub fn path_in(&self, name: &str, generation: u64) -> Result<String, AllocError> {
         if generation == 0 {
             return self.path_of(name);
@@ -53,11 +53,12 @@ impl StoreFolder<'_> {
         open_file(self.rt, path, Wary, self.setup)
     }
 
-    /// Removes the file of this name and generation, if it is there, and the empty one that locks it.
+    /// Removes the file of this name and generation, if it exists, and the empty file that locks it. The error is that
+    /// memory for the paths ran out.
     fn remove_file(&self, name: &str, generation: u64) -> Result<(), AllocError> {
         let path = self.path_in(name, generation)?;
         let lock = format!(in self.rt.alloc(); "{path}-wal")?;
-        // What stays is removed at the next start.
+        // What is left is removed at the next start.
         let _ = fs::remove_file(self.rt, path.as_str());
         let _ = fs::remove_file(self.rt, lock.as_str());
         Ok(())

@@ -1,4 +1,4 @@
-//! What is said of a store.
+//! What is printed about a store.
 use crate::room::{give_up_room, keep_room};
 use crate::store_folder::StoreFile;
 use sqlite_std_file::Wary;
@@ -7,12 +7,11 @@ use up_log::{LogFault, open_device};
 use up_replay::Unrestored;
 use up_store::{LogFile, StoreNotices};
 
-/// Lines on standard error that say how it stands with a store, the file of its changes, and the one that keeps room for
-/// removals.
+/// Prints lines on standard error about a store, opens the file of its changes, and keeps room for removals.
 #[derive(Drop)]
 pub struct StoreLines<'a> {
     rt: &'a HostRuntime,
-    /// The path of the first log of the changes. Each further one has its generation behind it.
+    /// The path of the first log of the changes. The path of a later one ends with its generation.
     log: String,
     /// The path of the file that keeps room.
     spare: String,
@@ -21,7 +20,8 @@ pub struct StoreLines<'a> {
 }
 
 impl<'a> StoreLines<'a> {
-    /// No line was said. The changes are in the file at the first path, and that at the second keeps room.
+    /// No line was printed yet. The changes are in the file at the path `log`, and the file at the path `spare` keeps
+    /// room.
     pub fn new(rt: &'a HostRuntime, log: String, spare: String) -> StoreLines<'a> {
         StoreLines {
             rt,
@@ -31,7 +31,7 @@ impl<'a> StoreLines<'a> {
         }
     }
 
-    /// Whether the log could not be carried out again, so that nothing was served. Standard error was told why.
+    /// Whether the log could not be carried out again, so that nothing was served. The reason was printed.
     pub fn is_unread(&self) -> bool {
         self.is_unread.load(Ordering::SeqCst)
     }

@@ -15,7 +15,14 @@ use up_message::{Piece, Sequence};
 pub fn creation(alloc: Global, length: Option<u64>) -> Request
     requires { IsWithin MOST_BYTES length }
     ensures within { FitsWithin MOST_BYTES result }
-    ensures request { result ≡ request.Create (record { kind = Plain; length = length; parts = []; pairs = []; metadata = None; concat = None }) }
+    ensures request { result ≡ request.Create (record {
+      kind = Plain;
+      length = length;
+      parts = [];
+      pairs = [];
+      metadata = None;
+      concat = None;
+    }) }
 {
     Request::Create(NewUpload {
         kind: Kind::Plain,
@@ -30,7 +37,13 @@ pub fn creation(alloc: Global, length: Option<u64>) -> Request
 /// Appends the bytes to an upload.
 pub fn append(alloc: Global, id: Id, offset: u64, bytes: &[u8]) -> Result<Request, NoMemory>
     ensures within { IfOk result (FitsWithin MOST_BYTES) }
-    ensures request { IfOk result (λ made. made ≡ request.Patch (record { id = id; media = true; offset = Some offset; length = None; bytes = bytes.now })) }
+    ensures request { IfOk result (λ made. made ≡ request.Patch (record {
+      id = id;
+      media = true;
+      offset = Some offset;
+      length = None;
+      bytes = bytes.now;
+    })) }
 {
     Ok(Request::Patch(Patch {
         id,

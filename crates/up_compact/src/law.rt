@@ -1,5 +1,7 @@
 //! Laws about shorter logs.
-ghost use Rattle.up_compact.specs.Shorter.{EndedAreDecidedAlike, EndedArePlannedAlike, EndedContentsAreEqual, EndedStayAlike, LogsAreWithout, OthersAreDecidedAlike, OthersAreHandedAlike, OthersAreKnown, RestIsHandedAlike, ShorterDefines};
+ghost use Rattle.up_compact.specs.Shorter.{EndedAreDecidedAlike, EndedArePlannedAlike, EndedContentsAreEqual};
+ghost use Rattle.up_compact.specs.Shorter.{EndedStayAlike, LogsAreWithout, OthersAreDecidedAlike};
+ghost use Rattle.up_compact.specs.Shorter.{OthersAreHandedAlike, OthersAreKnown, RestIsHandedAlike, ShorterDefines};
 ghost use Rattle.up_compact.specs.Writing.{WrittenDefines, WrittenGoesOn};
 
 /// A log without the entries about some uploads defines the book without these uploads, if no entry that stays creates

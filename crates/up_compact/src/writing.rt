@@ -58,7 +58,8 @@ fn spell_staying(
 ) -> Result<Vec<Spelled>, AllocError>
     requires { first + length entries.now < 2 ^ 64 }
     ensures { IfOk result (λ spelled. spelled.items
-        ≡ kept (has left_out.now.uploads) (carried_out (has left_out.now.voids) first entries.now)) }
+        ≡ kept (has left_out.now.uploads)
+        (carried_out (has left_out.now.voids) first entries.now)) }
 {
     let mut spelled = Vec::new(alloc);
     let mut place = first;

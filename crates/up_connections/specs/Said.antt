@@ -1,16 +1,16 @@
--- What was said on letting connections in.
+-- Which lines were printed about accepting connections.
 use Rattle.std.specs.Prelude.{ℕ, ◌+◌, ◌≤◌, Bool, IfSome}
 use Rattle.up_connections.specs.declared.notices.Want.{Want}
 use Rattle.up_connections.specs.declared.notices.Want.TheVariants.{Descriptors, Memory, Threads}
 use Rattle.up_connections.specs.declared.said.Said.{Said}
 use Rattle.up_connections.specs.declared.said.Wants.{Wants}
 
--- whether a line was said of a want of this kind
+-- whether a line was printed about a shortage of this kind
 abbrev pub has : Wants → Want → Bool
 has wants (Descriptors code) = wants.descriptors
 has wants (Memory code) = wants.memory
 has wants Threads = wants.threads
 
--- the last line was said a second ago or longer, or there was none
+-- the last line was printed at least a second ago, or none was printed
 abbrev pub IsApart : Said → ℕ → Type 0
 IsApart said now = IfSome said.at (λ last. last + 1000 ≤ now)

@@ -2,11 +2,11 @@
 use Rattle.std.specs.Prelude.{◌≡◌, ℕ, ◌+◌, ◌*◌, ◌/◌, ◌%◌, ◌^◌, Option, Some, None, take}
 use Rattle.up_events.specs.IdText.{hex_digits, text_of}
 
--- the byte that an id, which has sixteen, begins with
+-- the first of the sixteen bytes of an id
 abbrev pub first_byte : ℕ → ℕ
 first_byte id = id / 2 ^ 120
 
--- a number with the byte of a shard in place of its first one, where there is one
+-- a number, with the byte of the shard as its first byte if there is a shard
 abbrev pub in_shard : Option ℕ → ℕ → ℕ
 in_shard (Some byte) number = byte * 2 ^ 120 + number % 2 ^ 120
 in_shard None number = number

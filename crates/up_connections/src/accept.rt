@@ -20,29 +20,29 @@ use std::thread::{Builder, Scope, Threads};
 use up_dispatch::{Board, Ids, Naming, Seat, Service};
 use up_hooks::PreHooks;
 
-/// How many bytes the stack of a connection's thread has.
+/// The size of the stack of a connection's thread, in bytes.
 const STACK: usize = 1 << 18;
 
-/// Which connections are served.
+/// Which connections are served, and how.
 #[derive(Clone, Copy)]
 pub struct Visits<'a, N, S> {
-    /// How many; where there is none, as many as come.
+    /// How many are served. `None` sets no limit.
     pub connections: Option<u64>,
     /// How many may be open at a time, at least 1.
     pub open: u64,
     /// How long a connection waits for its client.
     pub patience: Patience,
-    /// Where those that are open are counted, if anybody watches.
+    /// What counts the open ones, if the status of the server is reported.
     pub watch: Option<&'a Watch>,
-    /// What ends the run in order, if anything but the number of connections does.
+    /// What ends the run in order, if anything but the number of connections ends it.
     pub ending: Option<&'a Ending>,
-    /// Who is told where none can be let in.
+    /// Who is told when none can be accepted.
     pub notices: &'a N,
     /// How their conversations are held.
     pub service: &'a S,
 }
 
-/// Serves a connection, and then others as they are handed over. The door is told when each has ended.
+/// Serves a connection, and then others as they are handed over. The door counts each out when it has ended.
 fn serve_in_turn<B: Naming, I: Ids, S: Service, T: Wait>(
     rt: &T,
     alloc: Global,
@@ -63,8 +63,8 @@ fn serve_in_turn<B: Naming, I: Ids, S: Service, T: Wait>(
     }
 }
 
-/// Hands a connection to a thread that waits for one, or starts a thread for it, and for others that are handed over when it has ended.
-/// Where none can be started the connection is closed.
+/// Hands a connection to a thread that waits for one. If none does, starts a thread for it, which then takes others
+/// that are handed over. If no thread can be started, the connection is closed, and that is the error.
 fn let_in<
     's,
     E,
@@ -93,7 +93,8 @@ fn let_in<
     }
 }
 
-/// Waits until fewer than `most` connections are open, and opens one. Tells how many are open then. None if the run ends first.
+/// Waits until fewer than `most` connections are open, opens one, and returns how many are open then. `None` if the run
+/// ends first.
 fn enter<B: Naming, I, T: Wait>(rt: &T, hall: &Hall<'_, B, I>, most: u64) -> Option<u64>
     ensures { IfSome result (λ count. 1 ≤ count) }
 {
@@ -113,7 +114,8 @@ fn enter<B: Naming, I, T: Wait>(rt: &T, hall: &Hall<'_, B, I>, most: u64) -> Opt
     unreachable!()
 }
 
-/// Waits until each connection has ended. If the run ends first, nothing more is read of any.
+/// For a run with an ending: waits until every connection has ended. If the run ends first, nothing more is read from
+/// any of them.
 fn see_out<B: Naming, I, T: Wait>(rt: &T, hall: &Hall<'_, B, I>) {
     let Some(ending) = hall.ending else {
         return;
@@ -130,9 +132,9 @@ fn see_out<B: Naming, I, T: Wait>(rt: &T, hall: &Hall<'_, B, I>) {
     }
 }
 
-/// Accepts so many connections, and lets each in. An accept that fails, and a connection for which no thread can be started, count as a
-/// connection that has ended. Where something is wanting, the next waits until another has ended, or a while. None is accepted any more
-/// where the listener is gone, or the run ends.
+/// Accepts connections, and starts serving each. An accept that fails, and a connection for which no thread can be
+/// started, count as connections that have ended. If something ran out, the next accept waits until a connection has
+/// ended, for at most 100 ms. No more are accepted if the listener is gone or the run ends.
 fn accept_all<
     's,
     E,
@@ -182,7 +184,7 @@ fn accept_all<
     see_out(rt, hall);
 }
 
-/// Accepts so many connections in a scope, and returns when the last of them has ended.
+/// Accepts connections in a scope of threads, and returns when the last one has ended.
 fn serve_in<
     'x,
     B: Naming + Send + Sync,
@@ -203,7 +205,7 @@ fn serve_in<
     });
 }
 
-/// Makes the board ready for the first conversation, and tells whether it is.
+/// Makes the board ready for the first conversation. Returns whether it is ready. It isn't if there is no seat for it.
 fn is_ready<B: Naming, I, S: Service, T: Wait>(
     rt: &T,
     alloc: Global,
@@ -218,11 +220,12 @@ fn is_ready<B: Naming, I, S: Service, T: Wait>(
     is_ready
 }
 
-/// Serves the connections of a listener from seats of the board, each in a thread of its own, and returns when the last has ended, with
-/// all seats. If the service can't make the board ready none is accepted. An accept that fails, and a connection for which no thread can be started, count as a connection that has ended. Where
-/// descriptors, memory or threads are wanting it is tried again after 100 ms, or when a connection has ended, whichever is first. Where
-/// the listener is gone no other is accepted, as if so many had been served. An error is want of memory for the seats; nothing was
-/// accepted then.
+/// Serves the connections of a listener, each from a seat of the board and in a thread of its own. Returns all seats
+/// after the last connection has ended. If the service can't make the board ready, no connection is accepted.
+/// An accept that fails, and a connection for which no thread can be started, count as connections that have ended. If
+/// descriptors, memory or threads run out, the next accept is tried after 100 ms, or when a connection has ended,
+/// whichever is first. If the listener is gone, no more connections are accepted, as if all had been served. The error
+/// is that memory ran out at the start, so nothing was accepted.
 pub fn serve_connections<
     B: Naming + Send + Sync,
     I: Ids + Send + Drop,

@@ -1,24 +1,25 @@
-//! How many connections are open.
+//! The number of open connections, and its limit.
 ghost use Rattle.std.specs.Prelude.{◌≤◌, IfSome};
 
 use std::sync::atomic::{AtomicU64, Ordering};
 use std::sync::{Condvar, Mutex, Wait};
 use std::time::Duration;
 
-/// How many milliseconds pass before what failed is tried again, unless a connection has ended before.
+/// How many milliseconds pass at most before something that failed is tried again. It is tried earlier if a connection
+/// ends.
 const PAUSE: u64 = 100;
 
-/// How many connections are open, and what wakes the one that waits until one of them has ended.
+/// The number of open connections, and what wakes a thread that waits until one of them ends.
 #[derive(Drop)]
 pub struct Door {
     open: Mutex<u64>,
     ended: Condvar,
-    /// How many have ended. Whoever pauses sleeps on it.
+    /// How many connections have ended. A thread in `pause` sleeps on it.
     ends: AtomicU64,
 }
 
 impl Door {
-    /// None is open.
+    /// No connection is open.
     pub fn new() -> Door {
         Door {
             open: Mutex::new(0),
@@ -27,8 +28,8 @@ impl Door {
         }
     }
 
-    /// Waits until fewer than `most` are open, and opens one. Tells how many are open then. That it is from 1 to `most` is proved; that it
-    /// is the number of those that are open is tested.
+    /// Waits until fewer than `most` connections are open, opens one, and returns how many are open then. It is proved
+    /// that this is from 1 to `most`; tests check that it is the number of open connections.
     pub fn enter<R: Wait>(&self, rt: &R, most: u64) -> u64
         ensures { (1 ≤ result) × (result ≤ most) }
     {
@@ -39,7 +40,7 @@ impl Door {
         *open
     }
 
-    /// Opens one, if fewer than `most` are open. Tells how many are open then.
+    /// Opens a connection if fewer than `most` are open, and returns how many are open then. `None` if `most` are open.
     pub fn try_enter<R: Wait>(&self, rt: &R, most: u64) -> Option<u64>
         ensures { IfSome result (λ count. (1 ≤ count) × (count ≤ most)) }
     {
@@ -51,12 +52,12 @@ impl Door {
         Some(*open)
     }
 
-    /// Whether none is open.
+    /// Whether no connection is open.
     pub fn is_empty<R: Wait>(&self, rt: &R) -> bool {
         *self.open.lock(rt) == 0
     }
 
-    /// Ends one.
+    /// Ends a connection.
     pub fn leave<R: Wait>(&self, rt: &R) {
         let mut open = self.open.lock(rt);
         *open = open.saturating_sub(1);
@@ -66,8 +67,9 @@ impl Door {
         self.ends.wake_one();
     }
 
-    /// Ends one that could not be opened for want of descriptors, memory or threads, where `enter` told that so many were open. Waits
-    /// until one of the others has ended too, unless one has ended since, and for 100 ms at most: what is wanting may come from elsewhere.
+    /// Ends a connection that could not be served because descriptors, memory or threads ran out. `told` is what
+    /// `enter` returned for it. Waits until one of the others ends, unless one has ended since then, and for at most
+    /// 100 ms, because what is missing may also come from elsewhere.
     pub fn leave_in_want<R: Wait>(&self, rt: &R, told: u64)
         requires { 1 ≤ told }
     {
@@ -75,7 +77,7 @@ impl Door {
         self.pause(rt, told - 1);
     }
 
-    /// Waits until one more has ended, where at least so many are open still, and for 100 ms at most.
+    /// Waits until a connection ends, for at most 100 ms. Does not wait if fewer than `others` connections are open.
     pub fn pause<R: Wait>(&self, rt: &R, others: u64) {
         let open = self.open.lock(rt);
         let is_early = *open >= others;

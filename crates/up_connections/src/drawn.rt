@@ -10,17 +10,17 @@ use std::random::RandomSource;
 use up_dispatch::Ids;
 use up_events::Id;
 
-/// Ids of 128 bits that are drawn by a generator for cryptography, which the system has seeded.
+/// Ids of 128 bits, drawn by a cryptographic random generator that the system has seeded.
 #[derive(Drop)]
 pub struct Drawn {
     rng: StdRng,
-    /// The byte that each id begins with; where there is none, all of an id is drawn.
+    /// The first byte of each id. If there is none, all bytes are drawn.
     pub shard: Option<u8>,
 }
 
 impl Drawn {
-    /// A source with a seed of its own, whose ids begin with this byte, where there is one. An error is one of the system's
-    /// source of random bytes.
+    /// A source with a seed of its own. If there is a shard, its ids begin with that byte. The error comes from the
+    /// system's source of random bytes.
     pub fn new<R: RandomSource>(rt: &R, shard: Option<u8>) -> io::Result<Drawn>
         ensures { IfOk result (λ drawn. drawn.shard ≡ shard) }
     {
@@ -31,7 +31,7 @@ impl Drawn {
     }
 }
 
-/// The number with the byte of a shard in place of its first one, where there is one.
+/// The number, with the byte of the shard as its first byte if there is a shard.
 fn in_shard(shard: Option<u8>, number: u128) -> u128
     ensures number { result ≡ in_shard shard number }
     ensures first { IfSome shard (λ byte. first_byte result ≡ byte) }
@@ -47,7 +47,7 @@ impl Ids for Drawn {
     ghost use Rattle.rand_core.specs.Stream.{next_u64};
     ghost use Rattle.up_connections.specs.Shards.{first_byte, in_shard};
 
-    // The first fact is what a shard promises.
+    // The first fact is what a shard guarantees.
     ghost draws = { λ old id new.
         let high = next_u64 (⟦<StdRng as Rng>⟧.stream old.rng) in
         let low = next_u64 high.1 in
@@ -63,8 +63,8 @@ impl Ids for Drawn {
     }
 }
 
-/// The first two digits of an id's text are those of its first byte. So whoever has the text, as a proxy has the path of an
-/// upload, has the shard.
+/// For the prover: the first two digits of an id's text are those of its first byte. So a proxy can tell the shard from
+/// the path of an upload. Does nothing.
 pub fn texts_tell_their_byte()
     ensures { TextsTellTheirByte }
 {}

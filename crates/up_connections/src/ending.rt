@@ -1,4 +1,4 @@
-//! A run that ends in order once an input has ended.
+//! Ending a run in order after an input has ended.
 use crate::patience::milliseconds;
 use libc::net::{POLLIN, SHUT_RD};
 use libc::types::pollfd;
@@ -7,36 +7,37 @@ use std::sync::atomic::{AtomicBool, AtomicU64, Ordering};
 use std::sync::{Mutex, Wait};
 use up_dispatch::{Board, Naming};
 
-/// How many milliseconds pass at most before it is looked at again how the run stands.
+/// How many milliseconds pass at most before the state of the run is checked again.
 const PAUSE: i32 = 100;
 
-/// The same, once the input has ended.
+/// How many milliseconds pass at most before that check, after the input has ended.
 const LAST_PAUSE: i32 = 10;
 
 /// How many bytes of the input are read and dropped at a time.
 const DROPPED: usize = 4096;
 
-/// In place of a descriptor: `poll` passes over it.
+/// No descriptor. `poll` ignores it.
 pub(crate) const NOTHING: i32 = -1;
 
-/// Ends a run in order once an input has ended. Then the board is closed: changes are refused, reads go on, and the lanes hand
-/// over what there is. Once they have, or the grace is over, no connection is let in any more, and nothing more is read of those
-/// that are open, so that each ends after what came. It has no seat of the board, without which nothing can be changed there.
+/// Ends a run in order after an input has ended. Then the board is closed: it refuses changes and goes on answering
+/// reads, and the lanes hand over what is left. After that, or when the grace period is over, no connection is accepted
+/// any more, and nothing more is read from those that are open, so that each of them ends after what has arrived. An
+/// ending has no seat of the board, so it can't change anything there.
 #[derive(Drop)]
 pub struct Ending {
     /// The descriptor of the input.
     input: i32,
-    /// How many milliseconds the lanes have.
+    /// How many milliseconds the lanes have to hand over what is left.
     grace: u64,
     /// When the input ended, in milliseconds of the system's clock. 0 before that.
     since: AtomicU64,
-    /// Whether nothing more is read of any connection.
+    /// Whether nothing more is read from any connection.
     is_over: AtomicBool,
-    /// The sockets of the connections that are read.
+    /// The sockets of the connections that are being read.
     sockets: Mutex<Vec<i32>>,
 }
 
-/// What `poll` is asked of a descriptor: whether it has something to read.
+/// Asks `poll` whether a descriptor has something to read.
 fn awaited(fd: i32) -> pollfd {
     pollfd {
         fd,
@@ -46,8 +47,8 @@ fn awaited(fd: i32) -> pollfd {
 }
 
 impl Ending {
-    /// Waits for the end of the input with this descriptor, and gives the lanes so many seconds then. There is room for so many
-    /// connections at a time.
+    /// Waits for the end of the input with the descriptor `input`. The lanes have `grace` seconds after it. There is
+    /// room for `open` connections at a time. The error is that memory ran out.
     pub fn new(alloc: Global, input: i32, grace: u64, open: u64) -> Result<Ending, AllocError> {
         Ok(Ending {
             input,
@@ -58,17 +59,17 @@ impl Ending {
         })
     }
 
-    /// Whether nothing more is read of any connection.
+    /// Whether nothing more is read from any connection.
     pub(crate) fn is_over(&self) -> bool {
         self.is_over.load(Ordering::SeqCst)
     }
 
-    /// A connection on this socket is going to be read.
+    /// The connection on this socket is going to be read.
     pub(crate) fn begin<R: Wait>(&self, rt: &R, socket: i32) {
         let _there_is_room = self.sockets.lock(rt).push(socket);
     }
 
-    /// It isn't read any more, and its socket may be closed.
+    /// The connection on this socket is no longer read, and the socket may be closed.
     pub(crate) fn end<R: Wait>(&self, rt: &R, socket: i32) {
         let mut sockets = self.sockets.lock(rt);
         if let Some(place) = sockets.iter().position(|it| *it == socket) {
@@ -76,7 +77,7 @@ impl Ending {
         }
     }
 
-    /// Reads nothing more of any connection, and wakes those that wait for bytes.
+    /// Reads nothing more from any connection, and wakes the threads that wait for bytes.
     pub(crate) fn shut<R: Wait>(&self, rt: &R) {
         let sockets = self.sockets.lock(rt);
         self.is_over.store(true, Ordering::SeqCst);
@@ -85,7 +86,7 @@ impl Ending {
         }
     }
 
-    /// Waits until a connection waits at the listener, or the input has something, and for some milliseconds at most.
+    /// Waits until a connection arrives at the listener or the input has something, for some milliseconds at most.
     pub(crate) fn wait(&self, listener: i32) {
         match self.since.load(Ordering::SeqCst) {
             0 => self.poll(self.input, listener, PAUSE),
@@ -93,14 +94,14 @@ impl Ending {
         }
     }
 
-    /// Looks whether the input has ended, without waiting for it.
+    /// Checks whether the input has ended, without waiting for it.
     pub(crate) fn look(&self) {
         if self.since.load(Ordering::SeqCst) == 0 {
             self.poll(self.input, NOTHING, 0);
         }
     }
 
-    /// Waits for either for so many milliseconds at most.
+    /// Waits for one of the two for at most `pause` milliseconds, and reads the input if it has something.
     fn poll(&self, input: i32, listener: i32, pause: i32) {
         let mut awaited = [awaited(input), awaited(listener)];
         let _ = libc::net::poll(&mut awaited, pause);
@@ -109,7 +110,7 @@ impl Ending {
         }
     }
 
-    /// Reads and drops what the input has, and notes its end.
+    /// Reads and drops what the input has, and notes its end. A failed read counts as the end.
     fn read(&self) {
         let mut dropped = [0; DROPPED];
         if libc::read(self.input, &mut dropped) <= 0 {
@@ -117,7 +118,7 @@ impl Ending {
         }
     }
 
-    /// Whether connections are let in. The board is closed as soon as the input has ended.
+    /// Whether connections are still accepted. Closes the board if the input has ended.
     pub(crate) fn goes_on<B: Naming, R: Wait>(&self, rt: &R, board: &Board<B>) -> bool {
         let since = self.since.load(Ordering::SeqCst);
         if since == 0 {

@@ -1,4 +1,4 @@
-//! The listener, and what comes of its accepts.
+//! Accepting connections at a listener.
 use crate::hall::Hall;
 use crate::notices::{Entrance, Notices, Want};
 use std::io;
@@ -7,31 +7,31 @@ use std::os::fd::AsRawFd;
 use std::sync::Wait;
 use up_dispatch::Naming;
 
-/// The system's code where all systems' descriptors are used up (Linux, `errno`).
+/// The system's code if all descriptors of the system are in use (Linux, `errno`).
 const ENFILE: i32 = 23;
 
-/// The system's code where it has no memory for the buffers of a socket.
+/// The system's code if it has no memory for the buffers of a socket.
 const ENOBUFS: i32 = 105;
 
-/// The system's codes of an accept that failed for its own connection alone, so that the next may not (Linux, `accept(2)`): EPERM, EINTR,
-/// ENONET, EPROTO, ENOPROTOOPT, EPROTONOSUPPORT, ESOCKTNOSUPPORT, EOPNOTSUPP, ENETDOWN, ENETUNREACH, ECONNABORTED, ECONNRESET, ETIMEDOUT,
-/// EHOSTDOWN and EHOSTUNREACH.
+/// The system's codes for an accept that failed only because of its own connection, so that the next one may succeed
+/// (Linux, `accept(2)`): EPERM, EINTR, ENONET, EPROTO, ENOPROTOOPT, EPROTONOSUPPORT, ESOCKTNOSUPPORT, EOPNOTSUPP,
+/// ENETDOWN, ENETUNREACH, ECONNABORTED, ECONNRESET, ETIMEDOUT, EHOSTDOWN and EHOSTUNREACH.
 const PASSING: [i32; 15] = [
     1, 4, 64, 71, 92, 93, 94, 95, 100, 101, 103, 104, 110, 112, 113,
 ];
 
-/// Why a connection was not let in.
+/// Why a connection was not accepted.
 #[derive(Clone, Copy, Debug, PartialEq, Eq)]
 pub enum Failed {
-    /// It was this one's own failure.
+    /// Only this one failed.
     Passing,
-    /// The next fails too, for as long as it stands so.
+    /// The next ones fail too, until this changes.
     Lasting(Entrance),
-    /// The run ends, and no other is let in.
+    /// The run ends, and no more are accepted.
     Over,
 }
 
-/// Why an accept failed by which somebody was to be let in.
+/// What the error of an accept means.
 fn why(error: &io::Error) -> Failed {
     match error.raw_os_error() {
         Some(code) if matches!(code, libc::EMFILE | ENFILE) => {
@@ -45,19 +45,20 @@ fn why(error: &io::Error) -> Failed {
     }
 }
 
-/// A listener, and who is told how it stands with letting connections in.
+/// A listener, and who is told whether connections can be accepted.
 #[derive(Drop)]
 pub struct Gate<'a, N> {
     listener: &'a TcpListener,
     notices: &'a N,
-    /// Whether something is left to be told. The listener doesn't block then, so that it can be told though nobody comes.
+    /// Whether something is left to be told. Then the listener does not block, so that it can be told even if no
+    /// connection arrives.
     is_unsettled: bool,
-    /// Whether something else is waited for too. The listener never blocks then.
+    /// Whether something else is waited for too. Then the listener never blocks.
     is_shared: bool,
 }
 
 impl<'a, N: Notices> Gate<'a, N> {
-    /// Nothing is left to be told.
+    /// Accepts at this listener. Nothing is left to be told. `is_shared` says whether something else is waited for too.
     pub fn new(listener: &'a TcpListener, notices: &'a N, is_shared: bool) -> Gate<'a, N> {
         if is_shared {
             let _ = listener.set_nonblocking(true);
@@ -70,7 +71,7 @@ impl<'a, N: Notices> Gate<'a, N> {
         }
     }
 
-    /// Tells how it stands, and whether nothing is left to be told.
+    /// Tells whether connections can be accepted. Returns whether nothing is left to be told.
     pub fn tell(&mut self, entrance: Entrance) -> bool {
         let is_settled = self.notices.tell(entrance);
         if is_settled == self.is_unsettled {
@@ -82,14 +83,14 @@ impl<'a, N: Notices> Gate<'a, N> {
         is_settled
     }
 
-    /// Tells that connections are let in, where that may be news.
+    /// Tells that connections are accepted, if that may be news.
     pub fn open(&mut self) {
         if self.is_unsettled {
             self.tell(Entrance::Open);
         }
     }
 
-    /// Waits for the next connection, as long as the run goes on.
+    /// Waits for the next connection, as long as the run goes on. The error says why there is none.
     pub fn accept<B: Naming, I, R: Wait>(
         &mut self,
         rt: &R,
@@ -116,12 +117,12 @@ impl<'a, N: Notices> Gate<'a, N> {
         unreachable!()
     }
 
-    /// Has the system refuse those that come, and those that wait to be let in.
+    /// Makes the system refuse the connections that arrive, and those that wait to be accepted.
     pub fn shut(&self) {
         let _ = libc::net::shutdown(self.listener.as_raw_fd(), libc::net::SHUT_RD);
     }
 
-    /// Leaves the listener as it was.
+    /// Makes the listener block again, as it did at first.
     pub fn leave(&mut self) {
         if self.is_unsettled || self.is_shared {
             let _ = self.listener.set_nonblocking(false);

@@ -1,4 +1,4 @@
-//! What connections share.
+//! What the connections of a server share.
 use crate::door::Door;
 use crate::ending::Ending;
 use crate::patience::Patience;
@@ -10,7 +10,7 @@ use std::os::fd::AsRawFd;
 use std::sync::{Mutex, Wait};
 use up_dispatch::{Board, Naming};
 
-/// What the connections of a server share, beside its closures.
+/// What the connections of a server share, besides its closures.
 #[derive(Drop)]
 pub struct Hall<'a, B: Naming, I> {
     pub board: &'a Board<B>,
@@ -24,28 +24,28 @@ pub struct Hall<'a, B: Naming, I> {
 }
 
 impl<B: Naming, I> Hall<'_, B, I> {
-    /// A connection begins that the door has let in.
+    /// A connection begins. The door has counted it already.
     pub fn begin(&self) {
         if let Some(watch) = self.watch {
             watch.begin();
         }
     }
 
-    /// It is going to be read.
+    /// The connection is going to be read.
     pub fn begin_reading<R: Wait>(&self, rt: &R, stream: &TcpStream) {
         if let Some(ending) = self.ending {
             ending.begin(rt, stream.as_raw_fd());
         }
     }
 
-    /// It isn't read any more.
+    /// The connection is no longer read.
     pub fn end_reading<R: Wait>(&self, rt: &R, stream: &TcpStream) {
         if let Some(ending) = self.ending {
             ending.end(rt, stream.as_raw_fd());
         }
     }
 
-    /// It has ended.
+    /// The connection has ended.
     pub fn end<R: Wait>(&self, rt: &R) {
         if let Some(watch) = self.watch {
             watch.end();

@@ -1,5 +1,5 @@
-//! Connections over sockets to one board: how many are open at a time, the seats that they take and leave, a thread for each, and what is
-//! told where none can be let in.
+//! The connections of clients to one board: how many may be open, the seats that they take and give back, the threads
+//! that serve them, and who is told when none can be accepted.
 #![tactic(auto)]
 
 mod accept;

@@ -1,7 +1,7 @@
-//! What is told of letting connections in.
+//! Who is told whether connections can be accepted.
 use std::{fmt, io};
 
-/// What is wanting where no connection can be let in, with the system's code where it gives one.
+/// What ran out, so that no connection can be accepted, with the system's code if there is one.
 #[derive(Clone, Copy, Debug, PartialEq, Eq)]
 pub enum Want {
     /// Descriptors of the process or of the system.
@@ -12,14 +12,14 @@ pub enum Want {
     Threads,
 }
 
-/// How it stands with letting connections in.
+/// Whether connections can be accepted.
 #[derive(Clone, Copy, Debug, PartialEq, Eq)]
 pub enum Entrance {
-    /// They are let in as they come.
+    /// They are accepted as they arrive.
     Open,
-    /// None can be let in for want of something. It is tried again.
+    /// None can be accepted because something ran out. It is tried again.
     Wanting(Want),
-    /// The listener is gone, as this code of the system says. None is let in any more.
+    /// The listener is gone, with this code of the system. None is accepted any more.
     Gone(i32),
 }
 
@@ -42,13 +42,14 @@ impl fmt::Display for Entrance {
     }
 }
 
-/// Who is told how it stands with letting connections in.
+/// Who is told whether connections can be accepted.
 pub trait Notices {
-    /// Tells how it stands. Answers whether nothing is left to be told of it; while something is, it is called again within about 100 ms.
+    /// Takes the news. Returns whether nothing is left to be told. If something is, it is called again within about 100
+    /// ms.
     fn tell(&self, entrance: Entrance) -> bool;
 }
 
-/// Nobody is told.
+/// Tells nobody.
 #[derive(Clone, Copy, Debug)]
 pub struct Silent;
 

@@ -8,22 +8,22 @@ use std::net::TcpStream;
 use std::os::fd::AsRawFd;
 use std::time::Duration;
 
-/// For how many milliseconds the bytes of a request may come at any rate.
+/// For how many milliseconds the bytes of a request may arrive at any rate.
 const GRACE: u64 = 10_000;
 
 /// How long the connections of a server wait for their clients.
 #[derive(Clone, Copy, Debug, Default, PartialEq, Eq)]
 pub struct Patience {
-    /// For how many seconds a read or a write may move no byte, at least 1. Where there is none, for as long as the client likes.
+    /// How many seconds a read or a write may last without moving a byte, at least 1. `None` sets no limit.
     pub seconds: Option<u64>,
-    /// How many bytes a second a request has to come at, on average from its first byte on, once it has come for ten seconds. Where there
-    /// is none, as few as the client likes.
+    /// The least rate at which a request must arrive, in bytes per second: its average from the first byte on, after
+    /// the first ten seconds. `None` sets no limit.
     pub least_rate: Option<u64>,
 }
 
 impl Patience {
-    /// Tells the system of a connection that reads and writes fail which move nothing for so long, and that a client that is gone without
-    /// a word is to be found out (`SO_KEEPALIVE`).
+    /// Makes the system end a read or a write of this connection that moves nothing for too long, and detect a client
+    /// that is gone without a word (`SO_KEEPALIVE`). The error is that the system refused the time limit.
     pub(crate) fn set_on(self, stream: &TcpStream) -> io::Result<()> {
         keep_alive(stream);
         if let Some(seconds) = self.seconds {
@@ -35,7 +35,8 @@ impl Patience {
     }
 }
 
-/// Has the system ask a client that was silent for hours whether it is there. Where it can't, the connection is served as it is.
+/// Makes the system check whether a client that was silent for hours is still there. If the system can't, the
+/// connection is served without this.
 fn keep_alive(stream: &TcpStream) {
     let mut on = [0; 16];
     on[0] = 1;
@@ -51,7 +52,7 @@ fn keep_alive(stream: &TcpStream) {
     };
 }
 
-/// The milliseconds of the system's clock that never goes back.
+/// The milliseconds of the system's clock that never goes back, or 0 if it can't be read.
 pub fn milliseconds() -> u64 {
     let mut time = libc::types::timespec {
         tv_sec: 0,
@@ -65,25 +66,26 @@ pub fn milliseconds() -> u64 {
         .saturating_add(nanoseconds / 1_000_000)
 }
 
-/// Whether the bytes of a request are too few: so many came in so many milliseconds, and so many a second are the least.
+/// Whether a request is too slow, of which `came` bytes arrived in `passed` milliseconds, if `least` bytes per second
+/// are required. No request is too slow in its first ten seconds.
 fn is_too_slow(came: u64, passed: u64, least: u64) -> bool
     ensures { IsTrue result ↔ ((10000 < passed) × (came * 1000 < least * passed)) }
 {
     passed > GRACE && u128::from(came) * 1000 < u128::from(least) * u128::from(passed)
 }
 
-/// How fast the bytes of a connection's request come.
+/// How fast the bytes of a connection's request arrive.
 #[derive(Drop)]
 pub(crate) struct Pace {
     least_rate: Option<u64>,
-    /// When the first byte came since the last answer, in milliseconds.
+    /// When the first byte after the last answer arrived, in milliseconds. `None` if none did.
     since: Cell<Option<u64>>,
-    /// How many bytes came since then.
+    /// How many bytes have arrived since then.
     came: Cell<u64>,
 }
 
 impl Pace {
-    /// No byte came.
+    /// No byte has arrived.
     pub fn new(patience: Patience) -> Pace {
         Pace {
             least_rate: patience.least_rate,
@@ -92,7 +94,7 @@ impl Pace {
         }
     }
 
-    /// Whether the request comes too slowly.
+    /// Whether the request arrives too slowly.
     fn is_too_slow(&self) -> bool {
         match (self.least_rate, self.since.get()) {
             (Some(least), Some(since)) => {
@@ -102,7 +104,7 @@ impl Pace {
         }
     }
 
-    /// So many bytes of it came.
+    /// This many bytes of the request have arrived.
     fn note(&self, count: usize) {
         if self.least_rate.is_some() && count > 0 {
             if self.since.get().is_none() {
@@ -112,14 +114,15 @@ impl Pace {
         }
     }
 
-    /// It was answered.
+    /// The request was answered.
     fn restart(&self) {
         self.since.set(None);
         self.came.set(0);
     }
 }
 
-/// What a connection's client sends. A read fails where the request comes too slowly, and finds the end where the run is over.
+/// What the client of a connection sends. A read fails if the request arrives too slowly, and finds the end if the run
+/// is over.
 #[derive(Drop)]
 pub(crate) struct Reading<'a> {
     pub stream: &'a TcpStream,
@@ -144,7 +147,7 @@ impl Read for Reading<'_> {
     }
 }
 
-/// What a connection's client is sent.
+/// What the client of a connection is sent.
 #[derive(Drop)]
 pub(crate) struct Writing<'a> {
     pub stream: &'a TcpStream,

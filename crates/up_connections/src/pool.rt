@@ -5,17 +5,17 @@ use std::sync::atomic::{AtomicU64, Ordering};
 use std::sync::{Mutex, Wait};
 use std::time::Duration;
 
-/// How many threads wait for a connection, at most. One more ends in place of waiting.
+/// How many threads may wait for a connection. One more ends instead of waiting.
 const MOST_WAITING: usize = 64;
 
-/// How many seconds a thread sleeps before it looks whether it was handed a connection without being woken.
+/// How many seconds a thread sleeps before it checks whether it was handed a connection without being woken.
 const SLEEP: u64 = 1;
 
-/// How often a thread sleeps before it ends.
+/// How many times a thread sleeps before it ends.
 const MOST_SLEEPS: u32 = 3;
 
 /// Connections that no thread has taken yet, and how many threads wait for one. There are never more connections than
-/// threads.
+/// waiting threads.
 #[derive(Drop)]
 struct Handed {
     streams: Vec<TcpStream>,
@@ -23,17 +23,17 @@ struct Handed {
     is_closed: bool,
 }
 
-/// Threads that have served a connection and wait some seconds for another, since that takes less than to end one and
-/// start one.
+/// Threads that have served a connection and wait some seconds for another, because that costs less than to start a new
+/// thread.
 #[derive(Drop)]
 pub struct Pool {
     handed: Mutex<Handed>,
-    /// How many times there was something new. Threads sleep on it.
+    /// Counts the news: connections that were handed over, and the end of the pool. Threads sleep on it.
     news: AtomicU64,
 }
 
 impl Pool {
-    /// No thread waits. All of its memory is taken here.
+    /// No thread waits. All of its memory is allocated here. The error is that it ran out.
     pub fn new(alloc: Global) -> Result<Pool, AllocError> {
         let handed = Mutex::new(Handed {
             streams: Vec::with_capacity(alloc, MOST_WAITING)?,
@@ -60,8 +60,8 @@ impl Pool {
         None
     }
 
-    /// Waits for the next connection. There is none once the pool is closed, if enough threads wait already, or if none came in
-    /// some seconds.
+    /// Waits for the next connection. `None` if the pool is closed, if enough threads wait already, or if none came
+    /// within some seconds.
     pub fn next<R: Wait>(&self, rt: &R) -> Option<TcpStream> {
         let mut seen = self.enter(rt)?;
         for _ in 0..MOST_SLEEPS {
@@ -79,7 +79,7 @@ impl Pool {
         self.leave(rt)
     }
 
-    /// Has the threads that wait end, and those that would.
+    /// Ends the threads that wait, and those that would wait later.
     pub fn close<R: Wait>(&self, rt: &R) {
         let mut handed = self.handed.lock(rt);
         handed.is_closed = true;
@@ -88,7 +88,7 @@ impl Pool {
         self.news.wake_all();
     }
 
-    /// One thread more waits, unless the pool is closed or enough do. Tells what `told` does.
+    /// One more thread waits. Returns what `told` does. `None` if the pool is closed, or if enough threads wait.
     fn enter<R: Wait>(&self, rt: &R) -> Option<u32> {
         let mut handed = self.handed.lock(rt);
         if handed.is_closed || handed.waiting >= MOST_WAITING {
@@ -98,14 +98,14 @@ impl Pool {
         Some(self.told())
     }
 
-    /// One thread less waits. It takes the connection that it was handed meanwhile, if there is one.
+    /// One thread fewer waits. It takes a connection that was handed over meanwhile, if there is one.
     fn leave<R: Wait>(&self, rt: &R) -> Option<TcpStream> {
         let mut handed = self.handed.lock(rt);
         handed.waiting = handed.waiting.saturating_sub(1);
         handed.streams.pop()
     }
 
-    /// How many times there was something new, as far as a sleep can tell. To be asked for under the lock.
+    /// The count of the news modulo 2^32, which is what a sleep compares. Must be called under the lock.
     fn told(&self) -> u32 {
         (self.news.load(Ordering::SeqCst) & 0xffff_ffff) as u32
     }

@@ -1,4 +1,4 @@
-//! When a line is said on letting connections in.
+//! When a line is printed about accepting connections.
 ghost use Rattle.std.specs.Prelude.{◌≡◌, ◌≢◌, ◌↔◌, ℤ, IsTrue, true, false, Some};
 ghost use Rattle.up_connections.specs.Said.{has, IsApart};
 ghost use Rattle.up_connections.specs.declared.notices.Entrance.TheVariants.{Gone, Wanting};
@@ -7,21 +7,21 @@ ghost use Rattle.up_connections.specs.declared.said.Due.TheVariants.{Say};
 
 use crate::notices::{Entrance, Want};
 
-/// How many milliseconds pass at least between two lines, and without a failure before a want is said to be over.
+/// The least number of milliseconds between two lines, and without a failure before a shortage counts as over.
 pub const APART: u64 = 1000;
 
-/// What is to be done about how it stands.
+/// Whether a line has to be printed.
 #[derive(Clone, Copy, Debug, PartialEq, Eq)]
 pub enum Due {
-    /// A line is to be said now.
+    /// A line has to be printed now.
     Say,
-    /// One is to be said later, unless it stands otherwise by then.
+    /// A line has to be printed later, unless the news is different by then.
     Later,
-    /// There is nothing to be said.
+    /// There is nothing to print.
     Nothing,
 }
 
-/// Of which wants a line was said.
+/// The kinds of shortage about which a line was printed.
 #[derive(Clone, Copy, Debug, PartialEq, Eq)]
 struct Wants {
     descriptors: bool,
@@ -29,7 +29,7 @@ struct Wants {
     threads: bool,
 }
 
-/// Of none.
+/// No kind of shortage.
 const NO_WANTS: Wants = Wants {
     descriptors: false,
     memory: false,
@@ -37,7 +37,7 @@ const NO_WANTS: Wants = Wants {
 };
 
 impl Wants {
-    /// Whether this want is among them.
+    /// Whether the kind of this shortage is among them.
     fn has(self, want: Want) -> bool
         ensures { result ≡ has self want }
     {
@@ -48,7 +48,7 @@ impl Wants {
         }
     }
 
-    /// These and this one.
+    /// These kinds, and that of this shortage.
     fn with(self, want: Want) -> Wants
         ensures { has result want ≡ true }
     {
@@ -69,20 +69,20 @@ impl Wants {
     }
 }
 
-/// What was said on letting connections in, and when: a line for each kind of want as it begins, and one when all are over. Times are
-/// milliseconds from any start.
+/// Which lines were printed about accepting connections, and when: one line as each kind of shortage begins, and one
+/// when all are over. Times are in milliseconds since any fixed moment.
 #[derive(Clone, Copy, Debug, PartialEq, Eq)]
 pub struct Said {
-    /// Of which wants a line was said since all were over.
+    /// The kinds about which a line was printed since all shortages were over.
     wants: Wants,
-    /// Since when nothing has failed, where it is known and a line was said of a want.
+    /// The time since which nothing has failed. `None` if something failed last, or if no shortage is open.
     well_since: Option<u64>,
-    /// When the last line was said.
+    /// When the last line was printed.
     at: Option<u64>,
 }
 
 impl Said {
-    /// Nothing was said.
+    /// No line was printed yet.
     pub fn new() -> Said {
         Said {
             wants: NO_WANTS,
@@ -91,7 +91,7 @@ impl Said {
         }
     }
 
-    /// Whether the last line was said long enough ago.
+    /// Whether the last line was printed long enough ago.
     fn may_say(&self, now: u64) -> bool
         ensures { IsTrue result ↔ IsApart self.now now }
     {
@@ -101,7 +101,7 @@ impl Said {
         }
     }
 
-    /// Whether nothing has failed for long enough, where nothing fails now.
+    /// Whether nothing has failed for long enough. It is asked only when nothing fails now.
     fn is_over(&mut self, now: u64) -> bool
         ensures { (self.new.at ≡ self.old.at) × (self.new.wants ≡ self.old.wants) }
     {
@@ -110,9 +110,10 @@ impl Said {
         now.saturating_sub(since) >= APART
     }
 
-    /// What is to be done where it stands so. Where a line is to be said now it counts as said. No two of them are less than a second apart.
-    /// A want of which none was said since all were over, and a listener that is gone, is said as soon as that allows, and no want is said
-    /// twice meanwhile.
+    /// Takes the news about accepting connections, and returns whether a line has to be printed. If one has to be
+    /// printed now, it counts as printed. Two lines are at least a second apart. A new kind of shortage gets a line as
+    /// soon as that allows, and so does a listener that is gone. No kind gets a second line before all shortages are
+    /// over.
     pub fn note(&mut self, entrance: Entrance, now: u64) -> Due
         ensures apart { result ≡ Say → IsApart self.old now }
         ensures news { (want : Want) → entrance ≡ Wanting want → has self.old.wants want ≡ false

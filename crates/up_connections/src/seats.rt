@@ -1,13 +1,14 @@
-//! The seats that connections take and leave.
+//! The seats that connections take and give back.
 ghost use Rattle.std.specs.Prelude.{◌≡◌, ◌++◌, ◌∷◌, [], ◌<◌, vec_len, vec_capacity};
 
 use std::alloc::{AllocError, Global};
 use std::sync::{Mutex, Wait};
 use up_dispatch::{Board, Naming, Seat};
 
-/// Puts a seat behind the others. Where there is room it takes no memory; elsewhere the seat is lost if memory is wanting.
+/// Adds a seat at the end. Takes no memory if there is room. If there is none and memory runs out, the seat is lost.
 fn put<B: Naming>(seats: &mut Vec<Seat<B>>, seat: Seat<B>)
-    ensures { vec_len seats.old < vec_capacity seats.old → seats.new.items ≡ seats.old.items ++ seat ∷ [] }
+    ensures { vec_len seats.old < vec_capacity seats.old
+        → seats.new.items ≡ seats.old.items ++ seat ∷ [] }
 {
     if seats.len() < seats.capacity() {
         seats.push_reserved(seat);
@@ -16,20 +17,20 @@ fn put<B: Naming>(seats: &mut Vec<Seat<B>>, seat: Seat<B>)
     }
 }
 
-/// The seats that came back.
+/// The seats that connections gave back.
 #[derive(Drop)]
 pub struct Seats<B: Naming> {
     back: Mutex<Vec<Seat<B>>>,
 }
 
 impl<B: Naming> Seats<B> {
-    /// None came back yet, and there is room for so many.
+    /// No seat was given back yet. There is room for `most` seats. The error is that memory ran out.
     pub fn new(alloc: Global, most: u64) -> Result<Seats<B>, AllocError> {
         let back = Mutex::new(Vec::with_capacity(alloc, most as usize)?);
         Ok(Seats { back })
     }
 
-    /// A seat that came back, or else a new one of the board. None where the board has given out all it has.
+    /// A seat that was given back, or else a new one of the board. `None` if the board has given out all its seats.
     pub fn take<R: Wait>(&self, rt: &R, board: &Board<B>) -> Option<Seat<B>> {
         let back = self.back.lock(rt).pop();
         match back {
@@ -38,12 +39,12 @@ impl<B: Naming> Seats<B> {
         }
     }
 
-    /// Takes a seat back. It takes no memory while there is room.
+    /// Takes a seat back. Takes no memory if there is room. If there is none and memory runs out, the seat is lost.
     pub fn put_back<R: Wait>(&self, rt: &R, seat: Seat<B>) {
         put(&mut self.back.lock(rt), seat);
     }
 
-    /// All seats that came back.
+    /// All seats that were given back.
     pub fn into_inner(self) -> Vec<Seat<B>> {
         self.back.into_inner()
     }

@@ -1,7 +1,7 @@
-//! What is counted of connections for whoever watches the server.
+//! The number of open connections, for the status reports of a server.
 use std::sync::atomic::{AtomicU64, Ordering};
 
-/// How often it is said how a server stands, and how many of its connections are open.
+/// How often the status of a server is reported, and how many connections are open.
 #[derive(Drop)]
 pub struct Watch {
     seconds: u64,
@@ -9,7 +9,7 @@ pub struct Watch {
 }
 
 impl Watch {
-    /// It is said each so many seconds, and no connection is open.
+    /// The status is reported every `seconds` seconds. No connection is open.
     pub fn each(seconds: u64) -> Watch {
         Watch {
             seconds,
@@ -17,22 +17,22 @@ impl Watch {
         }
     }
 
-    /// After how many seconds each it is said how the server stands.
+    /// The number of seconds from one report to the next.
     pub fn seconds(&self) -> u64 {
         self.seconds
     }
 
-    /// How many connections are open.
+    /// The number of open connections.
     pub fn open(&self) -> u64 {
         self.open.load(Ordering::SeqCst)
     }
 
-    /// One more is open.
+    /// One more connection is open.
     pub(crate) fn begin(&self) {
         self.open.fetch_add(1, Ordering::SeqCst);
     }
 
-    /// One of them has ended.
+    /// A connection has ended.
     pub(crate) fn end(&self) {
         self.open.fetch_sub(1, Ordering::SeqCst);
     }

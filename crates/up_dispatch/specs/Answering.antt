@@ -9,20 +9,20 @@ use Rattle.up_message.specs.declared.response.Response.{Response}
 use Rattle.up_dispatch.specs.Keeps.{Keeping, Keeps}
 use Rattle.up_dispatch.specs.Replies.{IsReply}
 
--- what was done has its own response, and a refusal is told
+-- the answer to a request: the response of what was done, or the reply to the refusal
 abbrev pub Tells : Result Done Refusal → Response → Type 0
 Tells (Ok done) response = response ≡ done.response
 Tells (Err refusal) response = IsReply (response_of refusal) response
 
--- one plan and at most one commit, and what came of them is told
+-- a request gets one plan and at most one commit, and the result is answered
 abbrev pub Answered : {S : Type 0} → Keeping S → S → Request → ℕ → Response → S → Type 0
 Answered k s request id response t = (result : Result Done Refusal) × Keeps k s request id result t × Tells result response
 
--- what a source of ids may give: the source before it, the id, and the source after it
+-- what a source of ids may give: the source before the call, the id, and the source after it
 abbrev pub Drawing : Type 0 → Type 1
 Drawing D = D → ℕ → D → Type 0
 
--- a creation takes the next id, whatever becomes of it, and no other request takes one
+-- a creation takes the next id, even if it is refused; no other request takes one
 abbrev pub TakesId : {D : Type 0} → Drawing D → D → Request → ℕ → D → Type 0
 TakesId draws d request.Options id e = (id ≡ 0) × (e ≡ d)
 TakesId draws d (request.Create new) id e = draws d id e

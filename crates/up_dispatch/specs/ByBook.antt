@@ -1,4 +1,4 @@
--- What a lent book and counted ids make of requests.
+-- How a lent book with counted ids answers requests.
 use Rattle.std.specs.Prelude.{◌≡◌, ◌⊎◌, ◌+◌, ◌≤◌, ℕ, Result, Ok, Err}
 use Rattle.up_events.specs.Delivery.{IsPrefix}
 use Rattle.up_headers.specs.declared.request.Request.{Request}
@@ -15,7 +15,7 @@ use Rattle.up_dispatch.specs.Answering.{Course}
 use Rattle.up_dispatch.specs.Counts.{number_after}
 use Rattle.up_dispatch.specs.Keeps.{Gives, IsAsked}
 
--- the id that was given last, after a request: each creation takes the next one
+-- the last id that was given, after a request: each creation takes the next one
 abbrev pub last_after : ℕ → Request → ℕ
 last_after last request.Options = last
 last_after last (request.Create new) = number_after last
@@ -24,26 +24,26 @@ last_after last (request.Patch p) = last
 last_after last (request.Delete u) = last
 last_after last (request.Get u) = last
 
--- what was decided is answered, and carried out where nothing refuses it
+-- the decision is answered, and carried out unless it is a refusal
 abbrev pub IsDecided : State → State → Request → ℕ → Response → Result Done Refusal → Type 0
 IsDecided old new request id response (Ok done) = (response ≡ done.response) × (new ≡ after old request id done.change)
 IsDecided old new request id response (Err refused) = (response ≡ response_of refused) × (new ≡ old)
 
--- memory was wanting, and nothing has changed
+-- memory ran out, and nothing has changed
 abbrev pub IsOutOfMemory : State → State → Response → Type 0
 IsOutOfMemory old new response = (response ≡ out_of_memory) × (new ≡ old)
 
--- a request is decided, with what the closures gave to its plan
+-- a request is decided, with what the closures answered to its plan
 abbrev pub IsCommitted : Gives → State → Request → ℕ → Result Done Refusal → Type 0
 IsCommitted gives s request id result =
     (asked : Asked) × IsAsked gives (decide_plan s request) asked × (result ≡ decide s request id asked)
 
--- that is answered, and carried out where nothing refuses it
+-- the request is decided, and the decision is answered and carried out
 abbrev pub IsCarriedOut : Gives → State → State → Request → ℕ → Response → Type 0
 IsCarriedOut gives old new request id response =
     (decision : Result Done Refusal) × IsCommitted gives old request id decision × IsDecided old new request id response decision
 
--- the decision is answered, or memory was wanting
+-- the decision is answered, or memory ran out
 abbrev pub IsOutcome : Gives → State → Request → ℕ → Response → State → Type 0
 IsOutcome gives old request id response new = IsCarriedOut gives old new request id response ⊎ IsOutOfMemory old new response
 
@@ -52,7 +52,8 @@ pub record IsAnsweredTo (gives : Gives) (old new : Course State ℕ) (request : 
   pub answer : IsOutcome gives old.state request (number_after old.ids) response new.state
   pub ids : new.ids ≡ last_after old.ids request
 
--- so many messages later: the lanes are the same, the history has grown at its end, and each message took an id at most
+-- after this many messages: the lanes are the same, the history has only grown at its end, and each message took at
+-- most one id
 pub record GoesOn (turns : ℕ) (old new : Course State ℕ) : Type 0 where
   pub lanes : new.state.journal.lanes ≡ old.state.journal.lanes
   pub history : IsPrefix old.state.journal.accepted new.state.journal.accepted

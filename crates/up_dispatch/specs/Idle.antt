@@ -5,7 +5,7 @@ use Rattle.up_queue.specs.Line.{items_of}
 use Rattle.up_dispatch.specs.Puts.{end_at}
 use Rattle.up_dispatch.specs.Standing.{Standing}
 
--- more changes may be accepted, the whole of the lane's log was put, and as many items were taken as it has events
+-- more changes may come, the whole log of the lane was put, and as many items were taken as it has events
 pub record IsIdle (s : Standing) (lane taken : ℕ) : Type 0 where
   pub there : lane < s.book.journal.lanes
   pub going : s.book.closed ≡ false

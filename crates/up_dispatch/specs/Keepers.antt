@@ -23,11 +23,11 @@ BookLeaves s request id t (Err refusal) = t ≡ s
 abbrev pub BookCommits : Committing State
 BookCommits s request id asked t result = Answers result (decide s request id asked) × BookLeaves s request id t result
 
--- a book keeps by its own decisions
+-- a book as a keeper
 abbrev pub by_book : Gives → Keeping State
 by_book gives = keeping BookPlans BookCommits gives
 
--- the plans of some lawful board, of so many lanes and for uploads of so many bytes, that has all changes made from the seat
+-- the plans of some lawful board with this many lanes and this size limit, which has all changes made from the seat
 abbrev pub SeatPlans : (ℕ → QueueId) → ℕ → ℕ → Planning ℕ
 SeatPlans queue lanes max_size count request result =
     (s : Standing) × IsLawfulStanding queue lanes max_size s × (count ≤ length s.book.journal.accepted)
@@ -38,6 +38,6 @@ abbrev pub SeatCommits : (ℕ → QueueId) → ℕ → ℕ → Committing ℕ
 SeatCommits queue lanes max_size count request id asked after_it result =
     (old : Standing) × (new : Standing) × CommitsTo queue lanes max_size old new count after_it request id asked result
 
--- a seat keeps by the decisions of such a board
+-- a seat of such a board as a keeper
 abbrev pub by_seat : (ℕ → QueueId) → ℕ → ℕ → Gives → Keeping ℕ
 by_seat queue lanes max_size gives = keeping (SeatPlans queue lanes max_size) (SeatCommits queue lanes max_size) gives

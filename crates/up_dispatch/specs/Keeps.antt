@@ -1,4 +1,4 @@
--- What a keeper and the closures make of a request.
+-- How a keeper and the closures decide on a request.
 use Rattle.std.specs.Prelude.{◌≡◌, ◌⊎◌, ℕ, true, false, None, Result, Ok, Err}
 use Rattle.up_headers.specs.declared.request.Request.{Request}
 use Rattle.up_machine.specs.Decision.{is_refusal}
@@ -10,19 +10,19 @@ use Rattle.up_machine.specs.declared.plan.Plan.{Plan}
 use Rattle.up_machine.specs.declared.plan.Plan.TheVariants as plan
 use Rattle.up_machine.specs.declared.refusal.Refusal.{Refusal}
 
--- what a plan of a request may be
+-- which plans a request may get
 abbrev pub Planning : Type 0 → Type 1
 Planning S = S → Request → Result Plan Refusal → Type 0
 
--- what a commit of a request with an id and with what was asked may leave and answer
+-- what a commit of a request, with an id and with what the closures answered, may leave and answer
 abbrev pub Committing : Type 0 → Type 1
 Committing S = S → Request → ℕ → Asked → S → Result Done Refusal → Type 0
 
--- what closures may answer together to what they are asked
+-- what the closures together may answer to a question
 abbrev pub Gives : Type 1
 Gives = Ask → Asked → Type 0
 
--- what a keeper's plans may be, what its commits may leave and answer, and what the closures may answer
+-- the plans and the commits of a keeper, and the answers of the closures
 pub record Keeping (S : Type 0) : Type 1 where
   pub plans : Planning S
   pub commits : Committing S
@@ -31,13 +31,13 @@ pub record Keeping (S : Type 0) : Type 1 where
 abbrev pub keeping : {S : Type 0} → Planning S → Committing S → Gives → Keeping S
 keeping plans commits gives = record { plans = plans; commits = commits; gives = gives }
 
--- what they gave to the first question, where that is a refusal, and else to the second
+-- the answer to the first question if it is a refusal, else the answer to the second
 abbrev pub AreAskedInTurn : Gives → Ask → Ask → Asked → Type 0
 AreAskedInTurn gives first second asked =
     (gives first asked × (is_refusal asked ≡ true))
     ⊎ ((passed : Asked) × gives first passed × (is_refusal passed ≡ false) × gives second asked)
 
--- what the closures gave to what a plan asks them; nobody was asked where it asks nothing
+-- the answer of the closures to the questions of a plan; `Skipped` if there is none
 abbrev pub IsAsked : Gives → Result Plan Refusal → Asked → Type 0
 IsAsked gives (Ok (plan.Answer response)) asked = asked ≡ Skipped
 IsAsked gives (Ok (plan.Ask ask)) asked = gives ask asked
@@ -45,12 +45,12 @@ IsAsked gives (Ok (plan.AskBoth first second)) asked = AreAskedInTurn gives firs
 IsAsked gives (Ok plan.Ready) asked = asked ≡ Skipped
 IsAsked gives (Err refused) asked = asked ≡ Skipped
 
--- the request is committed, with what the closures gave to this plan
+-- the request is committed, with what the closures answered to this plan
 abbrev pub CommitsAsAsked : {S : Type 0} → Keeping S → S → Request → ℕ → Plan → Result Done Refusal → S → Type 0
 CommitsAsAsked k s request id planned result t =
     (asked : Asked) × IsAsked k.gives (Ok planned) asked × k.commits s request id asked t result
 
--- after this plan: its refusal, its response, or what a commit gives
+-- the result after this plan: its refusal, its response, or the result of a commit
 abbrev pub Follows : {S : Type 0} → Keeping S → S → Request → ℕ → Result Plan Refusal → Result Done Refusal → S → Type 0
 Follows k s request id (Err refusal) result t = (result ≡ Err refusal) × (t ≡ s)
 Follows k s request id (Ok (plan.Answer response)) result t = (result ≡ Ok (record { response = response; change = None })) × (t ≡ s)

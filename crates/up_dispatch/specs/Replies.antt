@@ -1,4 +1,4 @@
--- What is answered where a message is refused.
+-- The answers to messages that are refused.
 use Rattle.std.specs.Prelude.{◌≡◌, ◌⊎◌, ℕ, Bool, true, false, List, [], ◌∷◌, Option, Some, None, codes}
 use Rattle.up_headers.specs.HeaderFaults as header
 use Rattle.up_headers.specs.declared.header_fault.HeaderFault.{HeaderFault}
@@ -10,7 +10,7 @@ use Rattle.up_message.specs.declared.response.Response.{Response}
 use Rattle.up_wire.specs.declared.wire_fault.WireFault.{WireFault}
 use Rattle.up_wire.specs.declared.wire_fault.WireFault.TheVariants as unread
 
--- another version was refused
+-- the answer that refuses another version
 abbrev pub version_refused_with : ℕ → List ℕ → Response
 version_refused_with status text = answered status (version ∷ plain_text ∷ []) text
 
@@ -19,16 +19,16 @@ abbrev pub methods : Bool → List ℕ
 methods true = codes "OPTIONS, HEAD, GET, PATCH, DELETE"
 methods false = codes "OPTIONS, POST"
 
--- a method was refused, at an upload or at the creation URL
+-- the answer that refuses a method, at an upload or at the creation URL
 abbrev pub method_refused_with : ℕ → List ℕ → Bool → Response
 method_refused_with status text of_upload = answered status ((codes "Allow", methods of_upload) ∷ plain_text ∷ []) text
 
--- the answer with this status and text, where there is a status
+-- the answer with this status and text; an empty 503 if there is no status
 abbrev pub reply_with : Option ℕ → List ℕ → Response
 reply_with None text = out_of_memory
 reply_with (Some status) text = refused_with status text
 
--- what is answered to a message that can't be read
+-- the answer to a message that can't be read
 abbrev pub reply_to_wire_fault : WireFault → Response
 reply_to_wire_fault unread.BadHead = reply_with (wire.status_of unread.BadHead) (wire.line_of unread.BadHead)
 reply_to_wire_fault unread.HeadTooLarge = reply_with (wire.status_of unread.HeadTooLarge) (wire.line_of unread.HeadTooLarge)
@@ -39,7 +39,7 @@ reply_to_wire_fault unread.ReadFailed = reply_with (wire.status_of unread.ReadFa
 reply_to_wire_fault unread.NoMemory = out_of_memory
 reply_to_wire_fault unread.WriteFailed = reply_with (wire.status_of unread.WriteFailed) (wire.line_of unread.WriteFailed)
 
--- what is answered to a message that is no request
+-- the answer to a message that is not a request
 abbrev pub reply_to_header_fault : HeaderFault → Response
 reply_to_header_fault fault.Version = version_refused_with (header.status_of fault.Version) (header.line_of fault.Version)
 reply_to_header_fault fault.NoSuchPath = refused_with (header.status_of fault.NoSuchPath) (header.line_of fault.NoSuchPath)
@@ -52,6 +52,6 @@ reply_to_header_fault fault.BadConcat = refused_with (header.status_of fault.Bad
 reply_to_header_fault fault.BadMetadata = refused_with (header.status_of fault.BadMetadata) (header.line_of fault.BadMetadata)
 reply_to_header_fault fault.NoMemory = out_of_memory
 
--- it is this response, or memory was wanting for it
+-- it is this response, or the answer that memory ran out
 abbrev pub IsReply : Response → Response → Type 0
 IsReply expected response = (response ≡ expected) ⊎ (response ≡ out_of_memory)

@@ -1,4 +1,4 @@
--- The value behind the board's lock.
+-- The value under the board's lock.
 use Rattle.std.specs.Prelude.{◌≡◌, ℕ, ◌+◌, ◌<◌, ◌≤◌, Bool, true, List, length, map, take}
 use Rattle.up_events.specs.Records.{first_of, lane_log}
 use Rattle.up_machine.specs.State.{State, recalled}
@@ -20,13 +20,13 @@ pub record Standing : Type 0 where
 abbrev pub ends_of : List Feed → List PutSide
 ends_of feeds = map (λ (f : Feed). f.put_end) feeds
 
--- what the journal has forgotten is no part of it: that is no more than was put
+-- how much the journal has forgotten is not part of the value: it forgets only what was put
 abbrev pub standing : State → List Feed → ℕ → ℕ → Standing
 standing book feeds given total = record { book = recalled book; ends = ends_of feeds; given = given; total = total }
 
--- the book is sound, has so many lanes, one at least, and takes uploads of so many bytes; each lane's queue was put a beginning
--- of its log, in which are all events that the log has forgotten; the ledger counts the changes; the seats that are left are
--- kept here, and count nothing
+-- the book is sound, has this many lanes, at least one, and this size limit; a prefix of each lane's log was put into
+-- its queue, with all events that the log has forgotten; the ledger counts the changes; the share of the seats that are
+-- left is kept here, and counts nothing
 pub record IsLawfulBoard (queue : ℕ → QueueId) (count limit : ℕ) (book : State) (feeds : List Feed)
     (given total parts amount : ℕ) : Type 0 where
   pub sound : IsSoundBook book
@@ -41,13 +41,13 @@ pub record IsLawfulBoard (queue : ℕ → QueueId) (count limit : ℕ) (book : S
   pub most : given ≤ MOST_SEATS
   pub none : amount ≡ 0
 
--- a beginning of the lane's log was put, and the end only behind the whole of it, once the book is closed
+-- a prefix of the lane's log was put, and the end only after the whole log, once the book is closed
 abbrev pub IsPutOf : State → ℕ → PutSide → Type 0
 IsPutOf book lane end =
     let log = lane_log book.journal lane in
     (cursor : ℕ) × (ended : Bool) × (end.put ≡ items_if (take cursor log) ended) × (cursor ≤ length log) × (ended ≡ true → (book.closed ≡ true) × (cursor ≡ length log))
 
--- the same, as callers see it
+-- a lawful board, as callers see it
 pub record IsLawfulStanding (queue : ℕ → QueueId) (count limit : ℕ) (s : Standing) : Type 0 where
   pub sound : IsSoundBook s.book
   pub named : s.book.journal.lanes ≡ count

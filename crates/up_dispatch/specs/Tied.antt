@@ -1,4 +1,4 @@
--- The value behind the board's lock: a board, and how far its book follows a log.
+-- The value under the board's lock: a board, and how far its book follows a log.
 use Rattle.std.specs.Prelude.{◌≡◌, ℕ, Bool, true, false, List, Result, length}
 use Rattle.up_commits.specs.Follows.{Following, IsBookAfter, IsBookOf, new_book}
 use Rattle.up_log.specs.declared.entry.Entry.{Entry}
@@ -19,21 +19,23 @@ pub record Tied : Type 0 where
 abbrev pub tied : Standing → Following → Bool → Tied
 tied board follows is_tied = record { board = board; follows = follows; is_tied = is_tied }
 
--- of each entry it is known whether it was carried out, and as long as the board follows them its book is the one that they define
+-- for each entry it is known whether it was carried out, and as long as the board follows the entries, its book is the
+-- one that they define
 abbrev pub IsTied : ℕ → ℕ → Standing → Following → Bool → Type 0
 IsTied lanes max_size board follows is_tied =
     (length follows.carried ≡ length follows.entries) × (is_tied ≡ true → IsBookOf lanes max_size follows board.book)
 
--- nothing was done in the book yet
+-- nothing has changed in the book yet
 abbrev pub IsNewBook : ℕ → ℕ → State → Type 0
 IsNewBook lanes max_size book = (keeps : Bool) × (book ≡ new_book keeps lanes max_size)
 
--- unless the board was closed its book was the one that as many entries define as stand before this place
+-- unless the board was closed, its book was the one that the entries before this place define
 abbrev pub IsDecidedAt : ℕ → ℕ → ℕ → State → Type 0
 IsDecidedAt lanes max_size place book =
     book.closed ≡ false → (before : List Entry) × (length before ≡ place) × IsBookAfter lanes max_size before book
 
--- the commit of the entry at this place of a log to a lawful board, which has decided on those before it, in their order
+-- the commit of the entry at this place of a log to a lawful board, which has decided on the entries before it, in
+-- their order
 abbrev pub CommitsAt : (ℕ → QueueId) → ℕ → ℕ → ℕ → ℕ → Entry → ℕ → Result Done Refusal → Type 0
 CommitsAt queue lanes max_size place count entry after_it result =
     (old : Standing) × (new : Standing)

@@ -1,4 +1,4 @@
--- The code by which a proof tells the values behind the board's lock apart.
+-- The code by which a proof tells the values under the board's lock apart.
 use Rattle.std.specs.Prelude.{Bool, refl}
 use Rattle.std.specs.Coded.{Coded, code_by, coded×, coded_bool}
 use Rattle.up_commits.specs.Follows.{Following}

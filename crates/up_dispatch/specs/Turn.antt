@@ -1,4 +1,4 @@
--- What is answered to one message, what stands after it, and a conversation turn by turn.
+-- The answer to one message, the state after it, and a conversation turn by turn.
 use Rattle.std.specs.Prelude.{◌≡◌, ℕ, zero, suc, ◌+◌, ◌==◌, ◌||◌, Bool, true, false, List, Option, Some, None, Result, Ok, Err}
 use Rattle.std.specs.Io.KnownBytes.{Appends}
 use Rattle.up_headers.specs.Table.{IsAnswer}
@@ -18,11 +18,11 @@ use Rattle.up_message.specs.declared.response.Response.{Response}
 use Rattle.up_wire.specs.declared.wire_fault.WireFault.{WireFault}
 use Rattle.up_wire.specs.declared.wire_fault.WireFault.TheVariants as Fault
 
--- how a request may be answered, by what stands before it and after it
+-- how a request may be answered, with the state before it and after it
 abbrev pub Answering : Type 0 → Type 1
 Answering C = C → C → Request → Response → Type 0
 
--- the answer to a message that reads so, and what stands after it
+-- the answer to a message that was read with this result, and the state after it
 abbrev pub IsAnswered : {C : Type 0} → Answering C → C → C → Response → Result Request HeaderFault → Type 0
 IsAnswered answers old new response (Err fault) = IsReply (reply_to_header_fault fault) response × (new ≡ old)
 IsAnswered answers old new response (Ok request) = answers old new request response
@@ -32,7 +32,7 @@ abbrev pub IsTurn : {C : Type 0} → Answering C → Message → ℕ → C → C
 IsTurn answers m max_size old new response =
     (read : Result Request HeaderFault) × IsAnswer m max_size read × IsAnswered answers old new response read
 
--- an append is carried out, and its answer dropped; nothing else is
+-- an append is carried out, and its answer is dropped; no other request is carried out
 abbrev pub IsCutCarriedOut : {C : Type 0} → Answering C → C → C → Result Request HeaderFault → Type 0
 IsCutCarriedOut answers old new (Err fault) = new ≡ old
 IsCutCarriedOut answers old new (Ok request.Options) = new ≡ old
@@ -42,12 +42,13 @@ IsCutCarriedOut answers old new (Ok (request.Patch p)) = (response : Response) �
 IsCutCarriedOut answers old new (Ok (request.Delete u)) = new ≡ old
 IsCutCarriedOut answers old new (Ok (request.Get u)) = new ≡ old
 
--- a message that broke off is read as a request
+-- a message that broke off is read as a request, and carried out if it is an append
 abbrev pub IsCutTurn : {C : Type 0} → Answering C → Message → ℕ → C → C → Type 0
 IsCutTurn answers m max_size old new =
     (read : Result Request HeaderFault) × IsAnswer m max_size read × IsCutCarriedOut answers old new read
 
--- the whole text was written, and closes the conversation or not; or some front of it was, and then no more can be
+-- the whole text was written, and the conversation is closed or goes on; or a prefix of it was written, and no more can
+-- be
 abbrev pub Sends : Device → Device → List ℕ → Bool → Option Ended → Type 0
 Sends before after text close None = (close ≡ false) × Appends before.bytes after.bytes text
 Sends before after text close (Some Closed) = (close ≡ true) × Appends before.bytes after.bytes text
@@ -56,7 +57,7 @@ Sends before after text close (Some ReadFailed) = ⊥
 Sends before after text close (Some WriteFailed) =
     WritesFront before.bytes after.bytes text × GaveUp after (interrupted before after)
 
--- the faults that are not answered, and how the conversation then ended
+-- the faults that are not answered, and how the conversation ends after them
 abbrev pub unanswered : WireFault → Option Ended
 unanswered Fault.BadHead = None
 unanswered Fault.HeadTooLarge = None
@@ -67,14 +68,14 @@ unanswered Fault.ReadFailed = Some ReadFailed
 unanswered Fault.NoMemory = None
 unanswered Fault.WriteFailed = Some WriteFailed
 
--- the answer to a fault closes the conversation, and where there is none nothing is written
+-- the answer to a fault closes the conversation; if there is none, nothing is written
 abbrev pub IsFaultSent : Option Ended → WireFault → Bool → Device → Device → Option Ended → Type 0
 IsFaultSent None fault bare before after ended =
     (response : Response) × IsReply (reply_to_wire_fault fault) response
     × Sends before after (response_text response bare true) true ended
 IsFaultSent (Some how) fault bare before after ended = (after ≡ before) × (ended ≡ Some how)
 
--- what was taken from the input is answered, where it is to be, and only a message leaves a trace
+-- what was taken from the input is answered if it has an answer, and only a message changes the state
 abbrev pub IsServed : {C : Type 0} → Answering C → Taken → ℕ → Bool → C → C → Device → Device → Option Ended → Type 0
 IsServed answers (Taken.Message m) max_size is_last old new before after ended =
     (response : Response) × IsTurn answers m max_size old new response
@@ -85,7 +86,7 @@ IsServed answers (Taken.Fault fault bare) max_size is_last old new before after 
     (new ≡ old) × IsFaultSent (unanswered fault) fault bare before after ended
 IsServed answers Taken.End max_size is_last old new before after ended = (new ≡ old) × (after ≡ before) × (ended ≡ Some Closed)
 
--- where a conversation stands: what requests are answered by, the source that is read and the sink that is written
+-- the state of a conversation: what answers requests, the source that is read, and the sink that is written
 pub record Stand (C : Type 0) : Type 0 where
   pub course : C
   pub source : Device
@@ -102,13 +103,13 @@ pub record TakesTurn {C : Type 0} (answers : Answering C) (max_size : ℕ) (is_l
   pub is_reading : IsReading max_size old.source new.source old.sink sink taken
   pub is_served : IsServed answers taken max_size is_last old.course new.course sink new.sink ended
 
--- so many turns, none of which ended the conversation, led from the one stand to the other
+-- this many turns led from one state to the other, and none of them ended the conversation
 unfoldable pub Passes : {C : Type 0} → Answering C → ℕ → ℕ → Stand C → Stand C → Type 0
 Passes {C = C} answers max_size zero old new = old ≡ new
 Passes {C = C} answers max_size (suc turns) old new =
     (mid : Stand C) × Passes answers max_size turns old mid × TakesTurn answers max_size (turns + 1 == MOST_MESSAGES) mid new None
 
--- turn after turn, until one ends the conversation: the 10,000th does at the latest
+-- turns follow each other until one ends the conversation, at the latest the 10,000th
 pub record Converses {C : Type 0} (answers : Answering C) (max_size : ℕ) (old new : Stand C) (ended : Ended) : Type 0 where
   pub turns : ℕ
   pub last : Stand C

@@ -1,4 +1,4 @@
-//! A request is planned, the closures are asked, it is committed and answered.
+//! Answers a request: plans it, asks the closures, and commits it.
 ghost use Rattle.std.specs.Prelude.{◌≡◌, Ok};
 ghost use Rattle.up_headers.specs.Table.{FitsWithin};
 ghost use Rattle.up_hooks.specs.Gives.{ClosuresGive};
@@ -14,8 +14,8 @@ use up_hooks::PreHooks;
 use up_machine::{Asked, Done, Plan, Refusal};
 use up_message::Response;
 
-/// What the closures say to what a plan asks them: to its one question, or to the second of two where none refuses at the first.
-/// Nobody is asked where it asks nothing.
+/// What the closures answer to the questions of a plan. If there are two questions, the second is asked only if no
+/// closure refuses at the first. If there is none, the result is `Skipped`.
 fn ask_as_planned(hooks: &PreHooks, plan: &Plan) -> Asked
     ensures { IsAsked (ClosuresGive hooks.now) (Ok plan.now) result }
 {
@@ -33,9 +33,9 @@ fn ask_as_planned(hooks: &PreHooks, plan: &Plan) -> Asked
     }
 }
 
-/// Decides on a request, after the closures were asked of one that makes, completes or removes an upload, and carries it out where
-/// nothing refuses it. The id is for a new upload. A request that changes nothing is answered by its plan. The closures are asked
-/// under no lock.
+/// Plans a request, asks the closures if the plan has a question, and commits the request. A request whose plan is
+/// already an answer changes nothing and is not committed. The id is for a new upload. No lock is held while the
+/// closures are asked. The error says why the request is refused.
 fn carry_out<K: Keeper>(
     alloc: Global,
     keeper: &mut K,
@@ -57,8 +57,8 @@ fn carry_out<K: Keeper>(
     }
 }
 
-/// Answers a request, after it was carried out where nothing refuses it. The id is for a new upload. Where memory is wanting, an
-/// empty 503 is answered, and nothing has changed.
+/// Carries out a request unless it is refused, and returns the answer. The id is for a new upload. If memory runs out,
+/// the answer is an empty 503, and nothing has changed.
 pub fn answer<K: Keeper>(
     alloc: Global,
     keeper: &mut K,

@@ -1,4 +1,4 @@
-//! The board that threads share.
+//! The board: a book that threads share.
 ghost use Rattle.std.specs.Prelude.{◌≡◌, ◌≤◌, ◌<◌, ◌^◌, [], length, vec_len, IfNone, IfOk, IfSome};
 ghost use Rattle.up_events.specs.Limits.{most_bytes};
 ghost use Rattle.up_headers.specs.Table.{FitsWithin};
@@ -22,11 +22,11 @@ use up_log::Entry;
 use up_machine::{Asked, Done, Plan, Refusal};
 use up_queue::TakeEnd;
 
-/// A book that threads share. What lies under its lock is a lawful board whenever the lock is free.
+/// A book that threads share, under one lock. Whenever the lock is free, what lies under it is a lawful board.
 #[derive(Drop)]
 pub struct Board<B: Naming> {
     pub(crate) locked: Mutex<Locked<B>>,
-    /// One for each lane. It wakes the lane where there may be something for it.
+    /// One for each lane. It wakes the lane when there may be an item for it.
     pub(crate) bells: Vec<Condvar>,
     pub(crate) max_size: u64,
     ghost one_for_each: { vec_len bells ≡ B.lanes },
@@ -34,7 +34,7 @@ pub struct Board<B: Naming> {
     ghost sized: { max_size ≡ B.max_size },
 }
 
-/// So many bells.
+/// This many bells. `NoMemory` if memory runs out.
 fn new_bells(alloc: Global, count: usize) -> Result<Vec<Condvar>, NoMemory>
     ensures count { IfOk result (λ bells. vec_len bells ≡ count) }
 {
@@ -46,8 +46,8 @@ fn new_bells(alloc: Global, count: usize) -> Result<Vec<Condvar>, NoMemory>
 }
 
 impl<B: Naming> Board<B> {
-    /// A board that accepts changes, of uploads of at most `max_size` bytes, and has none yet; and for each lane the end at which its
-    /// items are taken.
+    /// A new board without uploads, and for each lane the end at which its items are taken. An upload may have at most
+    /// `max_size` bytes. The board keeps every accepted change until its end. `NoMemory` if memory runs out.
     pub fn new(
         alloc: Global,
         parts: BoardParts,
@@ -66,7 +66,7 @@ impl<B: Naming> Board<B> {
         Ok((Board::over(alloc, inside, takes.len(), max_size)?, takes))
     }
 
-    /// The same, for a board that may run without an end: it counts the changes and doesn't keep them.
+    /// As `new`, for a board that may run forever: it counts the accepted changes, but does not keep them.
     pub fn forgetting(
         alloc: Global,
         parts: BoardParts,
@@ -85,7 +85,7 @@ impl<B: Naming> Board<B> {
         Ok((Board::over(alloc, inside, takes.len(), max_size)?, takes))
     }
 
-    // The lock round it, and the bells.
+    /// The board over what lies under its lock, with a bell for each lane.
     fn over(
         alloc: Global,
         inside: Inside<B>,
@@ -105,7 +105,7 @@ impl<B: Naming> Board<B> {
         })
     }
 
-    /// The most bytes of an upload, as the book has it.
+    /// The most bytes that an upload may have.
     pub fn max_size(&self) -> u64
         ensures size { result ≡ B.max_size }
         ensures small { result ≤ MOST_BYTES }
@@ -113,14 +113,15 @@ impl<B: Naming> Board<B> {
         self.max_size
     }
 
-    /// A seat from which no change was made, unless all were given out.
+    /// A new seat, from which no change was made yet. `None` if all seats of the board were given out.
     pub fn seat<R: Wait>(&self, rt: &R) -> Option<Seat<B>>
         ensures { IfSome result (λ s. s ≡ 0) }
     {
         self.locked.lock(rt).inside.seat()
     }
 
-    /// What would come of a request, in some state of the board that has all changes made from this seat.
+    /// What a request would do, in a state of the board that includes all changes made from this seat. It changes
+    /// nothing. The error says why the request would be refused.
     pub fn plan<R: Wait>(
         &self,
         rt: &R,
@@ -136,8 +137,10 @@ impl<B: Naming> Board<B> {
         locked.inside.plan(alloc, request)
     }
 
-    /// Decides on a request from a seat, in some state of the board that has all changes made from this seat. What the book then
-    /// has no more, as the bytes of an upload that was removed, is dropped after the lock is free.
+    /// Decides on a request from a seat, in a state of the board that includes all changes made from this seat, and
+    /// carries it out unless it is refused. `asked` is what the closures answered. The error says why the request is
+    /// refused. What the book no longer needs, such as the bytes of a removed upload, is dropped after the lock is
+    /// released.
     pub fn commit<R: Wait>(
         &self,
         rt: &R,
@@ -160,9 +163,10 @@ impl<B: Naming> Board<B> {
         result
     }
 
-    /// Decides on the entry at a place of the log from a seat. Places are counted from the first entry that the board was given. The
-    /// board has then carried out the entries before it, each in its turn, and nothing else, but for those for which it had no memory.
-    /// None if it hasn't: then nothing is done.
+    /// Decides on the entry at a place of the log, from a seat. The place is the number of entries that the board was
+    /// given before. Unless the board is closed, its book is then the one that the entries before this place define,
+    /// each of which was carried out in its turn, or passed over because memory ran out. `None` if it is not; nothing
+    /// is done then.
     pub fn commit_at<R: Wait>(
         &self,
         rt: &R,
@@ -185,13 +189,13 @@ impl<B: Naming> Board<B> {
         Some(result)
     }
 
-    /// Passes over the entry at a place of the log, for which there was no memory. None if the board doesn't follow just the entries
-    /// before it.
+    /// Passes over the entry at a place of the log, which was not carried out because memory ran out. `None` if this is
+    /// not the next place; nothing is done then.
     pub fn pass_over<R: Wait>(&self, rt: &R, place: u64, entry: &Entry) -> Option<()> {
         self.locked.lock(rt).pass_over(place, entry)
     }
 
-    /// Wakes the lane that has something to take after a commit, if there is one.
+    /// Wakes the lane that has events to take after a commit, if the commit changed something.
     fn tell(&self, lanes: u64, answer: &Result<Done, Refusal>)
         requires some { 0 < lanes }
     {
@@ -206,7 +210,7 @@ impl<B: Naming> Board<B> {
         }
     }
 
-    /// What is counted on the board at one moment. The lock is held for some steps for each lane.
+    /// The counts of the board at one moment. The lock is held for a few steps per lane.
     pub fn counts<R: Wait>(&self, rt: &R) -> Counts
         ensures lanes { result.lanes ≡ B.lanes }
     {
@@ -226,8 +230,8 @@ impl<B: Naming> Board<B> {
         }
     }
 
-    /// Accepts no change from now on. Each lane is given what its queue has room for, with the end behind its last event. Closing twice is as
-    /// closing once.
+    /// Accepts no change from now on. Puts into the queue of each lane what it has room for: the events that are left,
+    /// and after the last one the end. It does no harm to close a board again.
     pub fn close<R: Wait>(&self, rt: &R) {
         self.locked.lock(rt).close(rt);
         for bell in &self.bells {

@@ -1,16 +1,16 @@
-//! What is counted on a board.
+//! The counts of a board.
 
-/// What is counted on a board, at one moment.
+/// The counts of a board at one moment.
 #[derive(Clone, Copy, Debug, PartialEq, Eq)]
 pub struct Counts {
-    /// How many uploads are there.
+    /// The number of uploads.
     pub uploads: u64,
-    /// How many bytes these have in all.
+    /// The number of bytes that these uploads have in all.
     pub bytes: u64,
-    /// How many changes were accepted.
+    /// The number of changes that were accepted.
     pub changes: u64,
-    /// How many lanes there are, from 1 to 16.
+    /// The number of lanes, from 1 to 16.
     pub lanes: u64,
-    /// How many events each lane has yet to take, at the places of these lanes.
+    /// How many events each lane has yet to take. The first lane is at place 0. The places after the last lane are 0.
     pub waiting: [u64; 16],
 }

@@ -1,5 +1,6 @@
 //! The end of a board, and what it reports.
-ghost use Rattle.std.specs.Prelude.{◌≡◌, ◌≢◌, Some, IfNone, ℕ, ◌-◌, ◌<◌, ◌≤◌, slice_index_or, vec_capacity, length, sum, All, IfOk, IfErr, IsTrue, ◌↔◌, vec_len, []};
+ghost use Rattle.std.specs.Prelude.{◌≡◌, ◌≢◌, ◌-◌, ◌<◌, ◌≤◌, ◌↔◌, [], Some, IfNone, ℕ, slice_index_or};
+ghost use Rattle.std.specs.Prelude.{vec_capacity, length, sum, All, IfOk, IfErr, IsTrue, vec_len};
 ghost use Rattle.up_events.specs.History.{IsLegal};
 ghost use Rattle.up_events.specs.Records.{lane_log};
 ghost use Rattle.up_lanes.specs.HowOf.{is_drained};
@@ -27,18 +28,18 @@ use up_queue::compare;
 /// Why a board was not finished.
 #[derive(Clone, Copy, Debug, PartialEq, Eq, Error)]
 pub enum FinishFault {
-    /// The seats that came made fewer changes than were accepted.
+    /// The seats that came back made fewer changes than were accepted.
     #[error("a seat is missing")]
     SeatsOut,
-    /// Not each lane came once, in ascending order.
+    /// The lanes are not all there, each once and in ascending order.
     #[error("the lanes are not all there, each once and in order")]
     LanesOut,
-    /// Memory for the report was refused.
+    /// Memory for the report ran out.
     #[error("out of memory")]
     NoMemory,
 }
 
-/// All that was given, and why it comes back.
+/// A board that was not finished, with the reason: everything that was given comes back.
 #[derive(Drop)]
 pub struct Unfinished<T, B: Naming, H: PostHook> {
     pub fault: FinishFault,
@@ -47,10 +48,10 @@ pub struct Unfinished<T, B: Naming, H: PostHook> {
     pub lanes: Vec<LaneEnd<H>>,
 }
 
-/// What a lane handed over.
+/// The report of a lane: what it handed over.
 #[derive(Drop)]
 pub struct LaneReport<H> {
-    /// The lane, from 0 on.
+    /// The lane. The first lane is 0.
     pub lane: u64,
     pub hook: H,
     pub how: How,
@@ -58,18 +59,21 @@ pub struct LaneReport<H> {
     pub left: u64,
 }
 
-/// The accepted changes in order, kept or counted, and what each lane handed over of them, in the order of the lanes.
+/// The accepted changes in their order, kept or only counted, and for each lane, in the order of the lanes, what it
+/// handed over.
 #[derive(Drop)]
 pub struct Report<H> {
     pub accepted: Changes,
     pub lanes: Vec<LaneReport<H>>,
 }
 
-// What a lane handed over, by its queue's two ends.
+/// The report of a lane, from the two ends of its queue.
 fn report_of<H: PostHook + Drop>(book: &Book, feed: Feed, end: LaneEnd<H>) -> LaneReport<H>
-    requires fed { IsFed end.take_end.queue (lane_log book.now.journal end.lane) book.now.closed feed }
+    requires fed { IsFed end.take_end.queue (lane_log book.now.journal end.lane)
+        book.now.closed feed }
     ensures same { (result.lane ≡ end.lane) × (result.hook ≡ end.hook) × (result.how ≡ end.how) }
-    ensures handed { IsHandedOver (lane_log book.now.journal end.lane) (H.handed result.hook) (is_drained result.how) result.left }
+    ensures handed { IsHandedOver (lane_log book.now.journal end.lane) (H.handed result.hook)
+        (is_drained result.how) result.left }
 {
     let LaneEnd {
         lane,
@@ -95,7 +99,7 @@ fn report_of<H: PostHook + Drop>(book: &Book, feed: Feed, end: LaneEnd<H>) -> La
     }
 }
 
-// What each lane handed over, in the order of the lanes.
+/// The report of each lane, in the order of the lanes.
 fn settle<H: PostHook + Drop>(
     book: &Book,
     mut reports: Vec<LaneReport<H>>,
@@ -104,12 +108,17 @@ fn settle<H: PostHook + Drop>(
 ) -> Vec<LaneReport<H>>
     requires none { reports.items ≡ [] }
     requires room { vec_len lanes ≤ vec_capacity reports }
-    requires counts { (vec_len feeds ≡ book.now.journal.lanes) × (vec_len lanes ≡ book.now.journal.lanes) }
+    requires counts { (vec_len feeds ≡ book.now.journal.lanes)
+        × (vec_len lanes ≡ book.now.journal.lanes) }
     requires order { EachAt (λ k e. e.lane ≡ k) lanes.items }
-    requires fed { (k : ℕ) (f : _) (e : _) → k < vec_len lanes → IsFed (slice_index_or lanes.items k e).take_end.queue (lane_log book.now.journal k) book.now.closed (slice_index_or feeds.items k f) }
+    requires fed { (k : ℕ) (f : _) (e : _) → k < vec_len lanes
+        → IsFed (slice_index_or lanes.items k e).take_end.queue (lane_log book.now.journal k)
+        book.now.closed (slice_index_or feeds.items k f) }
     ensures count { vec_len result ≡ vec_len lanes }
-    ensures same { EachPair (λ e x. (x.lane ≡ e.lane) × (x.hook ≡ e.hook) × (x.how ≡ e.how)) lanes.items result.items }
-    ensures handed { EachAt (λ k r. IsHandedOver (lane_log book.now.journal k) (H.handed r.hook) (is_drained r.how) r.left) result.items }
+    ensures same { EachPair (λ e x. (x.lane ≡ e.lane) × (x.hook ≡ e.hook) × (x.how ≡ e.how))
+        lanes.items result.items }
+    ensures handed { EachAt (λ k r. IsHandedOver (lane_log book.now.journal k)
+        (H.handed r.hook) (is_drained r.how) r.left) result.items }
 {
     for (feed, end) in feeds.into_iter().zip(lanes) {
         reports.push_reserved(report_of(book, feed, end));
@@ -117,7 +126,7 @@ fn settle<H: PostHook + Drop>(
     reports
 }
 
-// How many of the changes were made from no seat that came.
+/// How many of `changes` were made from none of these seats.
 fn missing<B: Naming>(changes: u64, seats: &[Seat<B>]) -> u64
     ensures { result ≡ changes - sum seats.now }
 {
@@ -128,7 +137,7 @@ fn missing<B: Naming>(changes: u64, seats: &[Seat<B>]) -> u64
     missing
 }
 
-// The shares of all seats, put together.
+/// The shares of all seats, merged.
 fn gathered<B: Naming>(mut all: Share<B>, seats: Vec<Seat<B>>) -> Share<B>
     requires { all.amount ≡ 0 }
     ensures { result.amount ≡ sum seats.items }
@@ -140,7 +149,7 @@ fn gathered<B: Naming>(mut all: Share<B>, seats: Vec<Seat<B>>) -> Share<B>
     all
 }
 
-// Whether each lane came once, in ascending order.
+/// Whether the lanes are all there, each once and in ascending order.
 fn in_order<H: PostHook + Drop>(lanes: &[LaneEnd<H>], count: usize) -> bool
     ensures { IsTrue result ↔ IsInOrder (λ e. e.lane) count lanes.now }
 {
@@ -156,7 +165,7 @@ fn in_order<H: PostHook + Drop>(lanes: &[LaneEnd<H>], count: usize) -> bool
 }
 
 impl<B: Naming> Inside<B> {
-    // What keeps the board from being finished with these.
+    /// Why the board can't be finished with these seats and lanes, if there is a reason. It is never `NoMemory`.
     fn fault<H: PostHook + Drop>(
         &self,
         seats: &[Seat<B>],
@@ -180,7 +189,8 @@ impl<B: Naming> Inside<B> {
         None
     }
 
-    // Room for the reports of all lanes, unless something keeps the board from being finished with these.
+    /// Room for the reports of all lanes. The error is the reason why the board can't be finished, or that memory ran
+    /// out.
     fn begun<H: PostHook + Drop>(
         &self,
         alloc: Global,
@@ -188,7 +198,8 @@ impl<B: Naming> Inside<B> {
         lanes: &[LaneEnd<H>],
     ) -> Result<Vec<LaneReport<H>>, FinishFault>
         ensures room { IfOk result (λ r. (r.items ≡ []) × (length lanes.now ≤ vec_capacity r)) }
-        ensures all_seats { IfOk result (λ r. length self.now.book.journal.accepted ≤ sum seats.now) }
+        ensures all_seats { IfOk result (λ r.
+            length self.now.book.journal.accepted ≤ sum seats.now) }
         ensures all_lanes { IfOk result (λ r. IsInOrder (λ e. e.lane) B.lanes lanes.now) }
         ensures seats_out { IfErr result (λ fault. fault ≡ FinishFault.SeatsOut
             → sum seats.now < length self.now.book.journal.accepted) }
@@ -208,7 +219,7 @@ impl<B: Naming> Inside<B> {
         }
     }
 
-    // The report with what each lane handed over.
+    /// The report of a board that can be finished.
     fn completed<H: PostHook + Drop>(
         self,
         reports: Vec<LaneReport<H>>,
@@ -253,7 +264,8 @@ impl<B: Naming> Inside<B> {
         lanes: Vec<LaneEnd<H>>,
     ) -> Result<Report<H>, Unfinished<Inside<B>, B, H>>
         requires { All (λ e. e.take_end.queue ≡ B.queue e.lane) lanes.items }
-        ensures back { IfErr result (λ u. (u.board ≡ self) × (u.seats ≡ seats) × (u.lanes ≡ lanes)) }
+        ensures back { IfErr result (λ u.
+            (u.board ≡ self) × (u.seats ≡ seats) × (u.lanes ≡ lanes)) }
         ensures seats_out { IfErr result (λ u. u.fault ≡ FinishFault.SeatsOut
             → sum seats.items < length self.book.journal.accepted) }
         ensures lanes_out { IfErr result (λ u. u.fault ≡ FinishFault.LanesOut
@@ -288,12 +300,13 @@ impl<B: Naming> Inside<B> {
 }
 
 impl<B: Naming> Board<B> {
-    /// Ends the board, once all its seats and the ends of its lanes are brought back, and reports. What a lane's post-hook was handed is the
-    /// first of the lane's log of the accepted changes: of each upload the first of its events, each once and in order, and none
-    /// after its end; all of them where the lane is drained. If something is missing, or memory is, all that was given comes
-    /// back with the reason, the first that holds in the order of `FinishFault`. `LanesOut` is exact. For `SeatsOut` the contract
-    /// asks no more than that some lawful board of this name has more changes than the seats made, and tests hold it to this
-    /// board. It waits for nobody.
+    /// Ends the board and reports, after all seats and the ends of all lanes were brought back. Waits for nothing.
+    /// What the post-hook of a lane was handed is a prefix of the lane's log of the accepted changes: of each upload
+    /// its first events, each once and in order, and none after its end. If the lane is drained, it is the whole log.
+    /// If a seat or a lane is missing, or if memory runs out, everything that was given comes back with the reason, the
+    /// first one in the order of `FinishFault`. `LanesOut` comes only if a lane is missing, and then there is never a
+    /// report. For `SeatsOut` the contract only says that some lawful board of this name has more changes than the
+    /// seats made; tests check that it is this board.
     pub fn finish<H: PostHook + Drop>(
         self,
         alloc: Global,
@@ -302,7 +315,8 @@ impl<B: Naming> Board<B> {
     ) -> Result<Report<H>, Unfinished<Board<B>, B, H>>
         requires { All (λ e. e.take_end.queue ≡ B.queue e.lane) lanes.items }
         ensures back { IfErr result (λ u. (u.seats ≡ seats) × (u.lanes ≡ lanes)) }
-        ensures refused { IfErr result (λ u. (s : Standing) × IsLawfulStanding B.queue B.lanes B.max_size s
+        ensures refused { IfErr result (λ u. (s : Standing)
+            × IsLawfulStanding B.queue B.lanes B.max_size s
             × IsRefusedFor u.fault (length s.book.journal.accepted) (sum seats.items)
             (IsInOrder (λ e. e.lane) B.lanes lanes.items)) }
         ensures all_lanes { IfOk result (λ r. IsInOrder (λ e. e.lane) B.lanes lanes.items) }

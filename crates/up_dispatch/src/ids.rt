@@ -1,4 +1,4 @@
-//! Where the ids of new uploads come from.
+//! Sources of ids for new uploads.
 ghost use Rattle.std.specs.Prelude.{◌≡◌};
 
 use std::marker::Model;
@@ -17,8 +17,8 @@ pub trait Ids {
         ensures { draws self.old result self.new };
 }
 
-/// Ids counted from 1. The greatest id that there is, is given again and again. Contracts see the number that was given last, 0 where
-/// none was.
+/// Ids counted from 1. After the greatest possible id, 2^128 - 1, each further id is the same. Contracts describe it as
+/// the last number that was given, or 0 if none was.
 #[derive(Drop)]
 pub struct Counting {
     last: u128,
@@ -33,7 +33,7 @@ impl Model for Counting {
 }
 
 impl Counting {
-    /// None was given.
+    /// A source that has given no id yet.
     pub fn new() -> Self
         ensures { result ≡ 0 }
     {
@@ -52,7 +52,7 @@ impl Ids for Counting {
     }
 }
 
-/// A source that others share, behind a lock: any id may come.
+/// A source under a lock, which others share. According to the contract, any id may come.
 #[derive(Drop)]
 pub struct SharedIds<'a, I, R: Wait> {
     pub rt: &'a R,

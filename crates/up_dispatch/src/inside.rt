@@ -1,5 +1,6 @@
 //! What lies under the board's lock.
-ghost use Rattle.std.specs.Prelude.{◌≡◌, ℕ, ◌+◌, ◌<◌, ◌≤◌, ◌^◌, [], length, IfOk, OnOk, OnErr, IsErr, IfSome, IfNone, true, false, IsTrue, ◌↔◌};
+ghost use Rattle.std.specs.Prelude.{◌≡◌, ◌+◌, ◌<◌, ◌≤◌, ◌^◌, ◌↔◌, []};
+ghost use Rattle.std.specs.Prelude.{ℕ, length, IfOk, OnOk, OnErr, IsErr, IfSome, IfNone, true, false, IsTrue};
 ghost use Rattle.up_events.specs.Records.{empty_records, lane_log};
 ghost use Rattle.up_queue.specs.Line.{items_if};
 ghost use Rattle.up_queue.specs.Sides.{MayBeFull};
@@ -52,7 +53,8 @@ impl<B: Naming> Model for Inside<B> {
 }
 
 impl<B: Naming> Inside<B> {
-    /// An open book with no upload, over empty queues, and the ends by which these are emptied.
+    /// An open book without uploads, over empty queues, and the ends at which their items are taken. `NoMemory` if
+    /// memory runs out.
     pub fn new(
         alloc: Global,
         parts: BoardParts,
@@ -73,7 +75,7 @@ impl<B: Naming> Inside<B> {
         Ok(Inside::over(book, parts))
     }
 
-    /// The same, over a book that counts the changes and doesn't keep them.
+    /// As `new`, with a book that counts the accepted changes, but does not keep them.
     pub fn forgetting(
         alloc: Global,
         parts: BoardParts,
@@ -94,11 +96,12 @@ impl<B: Naming> Inside<B> {
         Ok(Inside::over(book, parts))
     }
 
-    // Over a new book.
+    /// What `new` makes, from a new book.
     fn over(book: Book, parts: BoardParts) -> (Inside<B>, Vec<TakeEnd>)
         requires named { IsNamed B.name B.parts B.queue B.lanes parts }
         requires some_lane { 0 < length parts.queues }
-        requires new { book.journal ≡ record (empty_records (length parts.queues)) { keeps = book.journal.keeps } }
+        requires new { book.journal
+            ≡ record (empty_records (length parts.queues)) { keeps = book.journal.keeps } }
         requires going { book.closed ≡ false }
         requires sized { book.max_size ≡ B.max_size }
         ensures book { result.0.book ≡ book }
@@ -124,7 +127,7 @@ impl<B: Naming> Inside<B> {
         (inside, takes)
     }
 
-    /// As many lanes as the board has.
+    /// The number of lanes.
     pub fn lanes(&self) -> u64
         ensures lanes { result ≡ self.now.book.journal.lanes }
         ensures some { 0 < result }
@@ -132,21 +135,22 @@ impl<B: Naming> Inside<B> {
         self.feeds.len() as u64
     }
 
-    /// Whether the board takes no change any more.
+    /// Whether the board accepts no more changes.
     pub fn is_closed(&self) -> bool
         ensures { result ≡ self.now.book.closed }
     {
         self.book.is_closed()
     }
 
-    /// What would come of a request.
+    /// What a request would do. It changes nothing. The error says why the request would be refused.
     pub fn plan(&self, alloc: Global, request: &Request) -> Result<Plan, Refusal>
         ensures { Answers result (decide_plan self.now.book request.now) }
     {
         self.book.plan(alloc, request)
     }
 
-    /// Puts what is left of the lane's log into its queue, until that takes no more. The log then forgets what was put.
+    /// Puts the rest of the lane's log into its queue, until the queue takes no more. The log then forgets the events
+    /// that were put.
     pub fn fill<R: Wait>(&mut self, rt: &R, lane: u64) -> Filled
         requires { lane < self.old.book.journal.lanes }
         ensures book { self.new ≡ record self.old { ends = self.new.ends } }
@@ -165,8 +169,8 @@ impl<B: Naming> Inside<B> {
         filled
     }
 
-    /// Whether there is nothing for a lane that has taken so many items: all of its log was put, all that was put was taken,
-    /// and more may come.
+    /// Whether there is nothing for a lane that has taken this many items: its whole log was put, all that was put was
+    /// taken, and more may come. False if there is no such lane.
     pub fn is_idle(&self, lane: u64, taken: u64) -> bool
         ensures { IsTrue result ↔ IsIdle self.now lane taken }
     {
@@ -180,7 +184,7 @@ impl<B: Naming> Inside<B> {
         feed.cursor == all && all == taken
     }
 
-    /// What is counted of the book. How many events wait is counted lane by lane, by `waiting`, and is 0 here.
+    /// The counts of the book. The events that wait are counted lane by lane, with `waiting`, and are 0 here.
     pub fn counts(&self) -> Counts
         ensures changes { result.changes ≡ length self.now.book.journal.accepted }
         ensures lanes { result.lanes ≡ self.now.book.journal.lanes }
@@ -195,7 +199,8 @@ impl<B: Naming> Inside<B> {
         }
     }
 
-    /// How many events of a lane were not taken yet: all that were not put, and no more than there are. 0 if there is no such lane.
+    /// How many events of a lane were not taken yet, at some moment of the call. The contract says that these are at
+    /// least the events that were not put, and at most those of the lane's log. 0 if there is no such lane.
     pub fn waiting<R: Wait>(&mut self, rt: &R, lane: u64) -> u64
         ensures same { self.new ≡ self.old }
         ensures within { result ≤ length (lane_log self.old.book.journal lane) }
@@ -209,14 +214,15 @@ impl<B: Naming> Inside<B> {
         }
     }
 
-    /// What lies under the lock is a lawful board. A law: it does nothing.
+    /// For the prover: what lies under the lock is a lawful board. Does nothing.
     pub fn is_lawful(&self)
         ensures { IsLawfulStanding B.queue B.lanes B.max_size self.now }
     {
         let _ = self.feeds.len();
     }
 
-    /// The ledger counts no fewer changes than this seat made, and as many as were accepted.
+    /// For the prover: the ledger counts at least the changes that this seat made, and exactly those that were
+    /// accepted.
     pub fn audit(&mut self, seat: &mut Seat<B>)
         ensures same { (self.new ≡ self.old) × (seat.new ≡ seat.old) }
         ensures covers { seat.old ≤ self.old.total }
@@ -228,7 +234,7 @@ impl<B: Naming> Inside<B> {
         total.audit(share);
     }
 
-    // The book's commit, and the ledger's and the seat's count of it.
+    /// Commits a request to the book, and counts the change in the ledger and at the seat.
     fn note(
         &mut self,
         alloc: Global,
@@ -240,9 +246,12 @@ impl<B: Naming> Inside<B> {
     ) -> Result<Done, Refusal>
         requires bounded { FitsWithin MOST_BYTES request }
         ensures answer { Answers result (decide self.old.book request id asked.now) }
-        ensures ok { IfOk result (λ done. (self.new ≡ noted_in self.old request id done.change) × (seat.new ≡ seat.old + changed done.change)) }
+        ensures ok { IfOk result (λ done.
+            (self.new ≡ noted_in self.old request id done.change)
+            × (seat.new ≡ seat.old + changed done.change)) }
         ensures err { OnErr result ((self.new ≡ self.old) × (seat.new ≡ seat.old)) }
-        ensures closure_refuses { is_asked request ≡ true → is_refusal asked.now ≡ true → IsErr result × (self.new ≡ self.old) }
+        ensures closure_refuses { is_asked request ≡ true → is_refusal asked.now ≡ true
+            → IsErr result × (self.new ≡ self.old) }
     {
         let Inside { book, total, .. } = self;
         let Seat { share, count } = seat;
@@ -255,8 +264,8 @@ impl<B: Naming> Inside<B> {
         Ok(done)
     }
 
-    /// Decides on a request from a seat as the book does, and puts the events of its change. What it leaves over comes back,
-    /// to be dropped after the lock is free.
+    /// Decides on a request from a seat, carries it out unless it is refused, and puts the events of the change. The
+    /// second result is what the book no longer needs, to be dropped after the lock is released.
     pub fn commit<R: Wait>(
         &mut self,
         rt: &R,
@@ -284,11 +293,16 @@ impl<B: Naming> Inside<B> {
         }
     }
 
-    /// Accepts no change from now on, and puts what the queues have room for.
+    /// Accepts no change from now on, and puts into the queues what they have room for.
     pub fn close<R: Wait>(&mut self, rt: &R)
-        ensures book { self.new ≡ record self.old { book = record self.old.book { closed = true }; ends = self.new.ends } }
-        ensures extends { (lane : ℕ) → Extends (end_at self.old.ends lane) (end_at self.new.ends lane) }
-        ensures filled { (lane : ℕ) → lane < self.old.book.journal.lanes → IsFilled self.new.book lane (end_at self.new.ends lane) }
+        ensures book { self.new ≡ record self.old {
+          book = record self.old.book { closed = true };
+          ends = self.new.ends;
+        } }
+        ensures extends { (lane : ℕ)
+            → Extends (end_at self.old.ends lane) (end_at self.new.ends lane) }
+        ensures filled { (lane : ℕ) → lane < self.old.book.journal.lanes
+            → IsFilled self.new.book lane (end_at self.new.ends lane) }
     {
         self.book.close();
         for lane in 0..self.lanes() {
@@ -296,9 +310,10 @@ impl<B: Naming> Inside<B> {
         }
     }
 
-    /// The next seat, unless all were given out.
+    /// The next seat. `None` if all were given out.
     pub fn seat(&mut self) -> Option<Seat<B>>
-        ensures given { IfSome result (λ s. (s ≡ 0) × (self.new ≡ record self.old { given = self.old.given + 1 })) }
+        ensures given { IfSome result (λ s.
+            (s ≡ 0) × (self.new ≡ record self.old { given = self.old.given + 1 })) }
         ensures none { IfNone result ((self.old.given ≡ MOST_SEATS) × (self.new ≡ self.old)) }
     {
         if self.given >= MOST_SEATS {

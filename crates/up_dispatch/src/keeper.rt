@@ -1,4 +1,4 @@
-//! What answers requests: a book that is lent, or a seat of a board.
+//! What plans and commits requests: a book that is lent, or a seat of a board.
 ghost use Rattle.std.specs.Prelude.{◌≡◌};
 ghost use Rattle.up_headers.specs.Table.{FitsWithin};
 
@@ -11,34 +11,35 @@ use up_events::{Id, MOST_BYTES};
 use up_headers::Request;
 use up_machine::{Asked, Book, Done, Plan, Refusal, Remains};
 
-/// What requests are planned and committed by. A commit looks at everything again that its plan looked at, since others may change
+/// What plans and commits requests. A commit checks again everything that its plan checked, because others may change
 /// the same uploads in between.
 pub trait Keeper {
     ghost use Rattle.std.specs.Prelude.{◌≡◌, ℕ};
     ghost use Rattle.up_headers.specs.Table.{FitsWithin};
     ghost use Rattle.up_dispatch.specs.Keeps.{Planning, Committing};
 
-    /// What is known of it.
+    /// What contracts know about a keeper.
     ghost State: { Type 0 };
 
     ghost state: { Self → State };
 
-    /// The borrow that it holds, which no call changes.
+    /// The borrow that the keeper holds. No call changes it.
     ghost lender: { Self → ℕ };
 
-    /// What a plan may be.
+    /// Which plans a request may get.
     ghost plans: { Planning State };
 
-    /// What a commit may leave and answer.
+    /// Which results a commit may have, and which states it may leave.
     ghost commits: { Committing State };
 
-    /// What would come of a request. Changes nothing.
+    /// What a request would do. It changes nothing. The error says why the request would be refused.
     fn plan(&mut self, alloc: Global, request: &Request) -> Result<Plan, Refusal>
         ensures plan { plans (state self.old) request.now result }
         ensures same { state self.new ≡ state self.old }
         ensures lender { lender self.new ≡ lender self.old };
 
-    /// Decides on a request, and carries it out where nothing refuses it. The id is for a new upload.
+    /// Decides on a request, and carries it out unless it is refused. The id is for a new upload, and `asked` is what
+    /// the closures answered. The error says why the request is refused.
     fn commit(
         &mut self,
         alloc: Global,
@@ -51,14 +52,14 @@ pub trait Keeper {
         ensures lender { lender self.new ≡ lender self.old };
 }
 
-/// A book that is lent: nobody else changes it.
+/// A book that is lent. Nobody else changes it meanwhile.
 #[derive(Drop)]
 pub struct Lent<'a> {
     book: &'a mut Book,
 }
 
 impl<'a> Lent<'a> {
-    /// Lends the book.
+    /// Borrows the book.
     pub fn new(book: &'a mut Book) -> Lent<'a>
         ensures state { ⟦<Lent<'a> as Keeper>⟧.state result ≡ book.old }
         ensures lender { ⟦<Lent<'a> as Keeper>⟧.lender result ≡ book.entry.ghost_name }
@@ -98,7 +99,7 @@ impl Keeper for Lent<'_> {
     }
 }
 
-/// A board, by one of its seats. Others may change the board between any two calls.
+/// A board, through one of its seats. Others may change the board between any two calls.
 #[derive(Drop)]
 pub struct Seated<'a, B: Naming, R: Wait> {
     rt: &'a R,
@@ -107,7 +108,7 @@ pub struct Seated<'a, B: Naming, R: Wait> {
 }
 
 impl<'a, B: Naming, R: Wait> Seated<'a, B, R> {
-    /// Takes the seat.
+    /// Borrows the seat.
     pub fn new(rt: &'a R, board: &'a Board<B>, seat: &'a mut Seat<B>) -> Seated<'a, B, R>
         ensures state { ⟦<Seated<'a, B, R> as Keeper>⟧.state result ≡ seat.old }
         ensures lender { ⟦<Seated<'a, B, R> as Keeper>⟧.lender result ≡ seat.entry.ghost_name }

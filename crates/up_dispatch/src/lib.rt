@@ -1,4 +1,4 @@
-//! A book behind one lock, the lanes that it feeds, and the conversations that change it.
+//! A book under one lock, the lanes that it feeds, and the conversations that change it.
 #![tactic(auto)]
 
 mod answering;

@@ -20,11 +20,13 @@ use up_log::Entry;
 use up_machine::{Asked, Done, Refusal, Remains};
 use up_replay::asked_of;
 
-/// A board, and how far its book follows a log. A request that is carried out and isn't an entry of the log ends that.
+/// A board, and how far its book follows a log. If a request that is not an entry of the log is carried out, the book
+/// no longer follows the log.
 #[derive(Drop)]
 pub struct Locked<B: Naming> {
     pub(crate) inside: Inside<B>,
     pub(crate) followed: Followed,
+    /// Whether the book still follows the log.
     pub(crate) is_tied: bool,
 }
 
@@ -41,7 +43,7 @@ impl<B: Naming> Model for Locked<B> {
     ghost invariant = { λ l. IsTied B.lanes B.max_size l.inside l.followed l.is_tied };
 }
 
-/// Whether there was no memory for a commit.
+/// Whether a commit failed because memory ran out.
 fn wants_memory(answer: &Result<Done, Refusal>) -> bool
     ensures { IsTrue result ↔ (answer.now ≡ Err NoMemory) }
 {
@@ -49,7 +51,7 @@ fn wants_memory(answer: &Result<Done, Refusal>) -> bool
 }
 
 impl<B: Naming> Locked<B> {
-    /// A new board, which follows no entry yet.
+    /// A new board, which has followed no entry yet.
     pub fn new(inside: Inside<B>) -> Locked<B>
         requires new { IsNewBook B.lanes B.max_size inside.book }
     {
@@ -61,7 +63,7 @@ impl<B: Naming> Locked<B> {
         }
     }
 
-    /// Decides on a request from a seat. If it is carried out the book follows no log any more.
+    /// Decides on a request from a seat. Unless the request is refused, the book no longer follows the log.
     pub fn commit<R: Wait>(
         &mut self,
         rt: &R,
@@ -80,7 +82,7 @@ impl<B: Naming> Locked<B> {
         (result, remains)
     }
 
-    /// Decides on an entry of the log, which is the next that the book follows.
+    /// Decides on the next entry of the log that the book follows.
     fn carry_out<R: Wait>(
         &mut self,
         rt: &R,
@@ -112,8 +114,8 @@ impl<B: Naming> Locked<B> {
         (result, remains)
     }
 
-    /// Decides on the entry at a place of the log from a seat. None if the book doesn't follow just the entries before it:
-    /// then nothing is done. On a closed board it is decided without being followed.
+    /// Decides on the entry at a place of the log, from a seat. `None` if the book has not followed exactly the entries
+    /// before this place; nothing is done then. A closed board decides on the entry, but does not follow it.
     pub fn commit_at<R: Wait>(
         &mut self,
         rt: &R,
@@ -144,7 +146,7 @@ impl<B: Naming> Locked<B> {
         Some(self.carry_out(rt, alloc, seat, entry))
     }
 
-    /// Passes over the entry at a place of the log. None if the book doesn't follow just the entries before it.
+    /// Passes over the entry at a place of the log. `None` if this is not the next place; nothing is done then.
     pub fn pass_over(&mut self, place: u64, entry: &Entry) -> Option<()>
         ensures { self.new.board ≡ self.old.board }
     {
@@ -157,14 +159,15 @@ impl<B: Naming> Locked<B> {
         Some(())
     }
 
-    /// Puts what is left of the lane's log into its queue, until that takes no more.
+    /// Puts the rest of the lane's log into its queue, until the queue takes no more. Does nothing if there is no such
+    /// lane.
     pub fn fill<R: Wait>(&mut self, rt: &R, lane: u64) {
         if lane < self.inside.lanes() {
             self.inside.fill(rt, lane);
         }
     }
 
-    /// Accepts no change from now on.
+    /// Accepts no change from now on, and puts into the queues what they have room for.
     pub fn close<R: Wait>(&mut self, rt: &R) {
         books_follow();
         self.inside.close(rt);

@@ -11,7 +11,7 @@ use up_queue::{TakeEnd, lane_queue};
 /// The most seats that a board gives out.
 pub const MOST_SEATS: u64 = 65_536;
 
-/// The queues of a board and its blank ledger, which have no name yet.
+/// The queues of a board and its blank ledger, before the board has a name.
 #[derive(Drop)]
 pub struct BoardParts {
     pub(crate) feeds: Vec<Feed>,
@@ -32,7 +32,8 @@ impl Model for BoardParts {
 }
 
 impl BoardParts {
-    /// An empty queue for each lane, which holds at most `capacity` items, and the ledger of the seats. Takes the memory for all items.
+    /// An empty queue for each lane, which holds at most `capacity` items, and the ledger of the seats. All memory for
+    /// the queues is allocated here. `NoMemory` if it runs out.
     pub fn new(alloc: Global, lanes: u64, capacity: u64) -> Result<BoardParts, NoMemory>
         requires { 0 < capacity }
         ensures lanes { IfOk result (λ p. length p.queues ≡ lanes) }
@@ -58,7 +59,8 @@ impl BoardParts {
             blank: Blank::new(MOST_SEATS + 1),
         })
     }
-    /// How many lanes they are for.
+
+    /// The number of lanes that these parts are for.
     pub fn lanes(&self) -> u64
         ensures { result ≡ length self.now.queues }
     {

@@ -1,7 +1,8 @@
-//! What is answered where a message or a request is refused.
+//! The answers to messages and requests that are refused.
 ghost use Rattle.std.specs.Prelude.{◌≡◌, IfOk};
 ghost use Rattle.up_machine.specs.Refusals.{response_of};
-ghost use Rattle.up_dispatch.specs.Replies.{IsReply, method_refused_with, reply_to_header_fault, reply_to_wire_fault, version_refused_with};
+ghost use Rattle.up_dispatch.specs.Replies.{IsReply, method_refused_with, reply_to_header_fault};
+ghost use Rattle.up_dispatch.specs.Replies.{reply_to_wire_fault, version_refused_with};
 
 use std::alloc::{AllocError, Global};
 use up_headers::HeaderFault;
@@ -9,7 +10,8 @@ use up_machine::{Refusal, response_of};
 use up_message::{Piece, Response};
 use up_wire::WireFault;
 
-/// To a message of another version of the protocol: which version there is (tus 1.0.0, Tus-Version), and why.
+/// The answer to a message of another version of the protocol. It says which version the server has (tus 1.0.0,
+/// Tus-Version), and why it refuses the message.
 fn version_refused(alloc: Global, status: u16, text: &'static str) -> Result<Response, AllocError>
     ensures { IfOk result (λ made. made ≡ version_refused_with status text.now) }
 {
@@ -17,8 +19,8 @@ fn version_refused(alloc: Global, status: u16, text: &'static str) -> Result<Res
     response.with_plain_text(alloc, Piece::from_static(text.as_bytes()))
 }
 
-/// To a message whose method is refused: which methods there are at an upload or at the creation URL (RFC 9110,
-/// section 10.2.1), and why.
+/// The answer to a message whose method is refused. It says which methods an upload or the creation URL has (RFC 9110,
+/// section 10.2.1), and why it refuses the message.
 fn method_refused(
     alloc: Global,
     status: u16,
@@ -36,8 +38,8 @@ fn method_refused(
     response.with_plain_text(alloc, Piece::from_static(text.as_bytes()))
 }
 
-/// What is answered to a message that can't be read. Where memory is wanting, that is answered instead; and so it is for
-/// a fault that isn't answered.
+/// The answer to a message that can't be read. It is an empty 503 if memory runs out, and also for a fault that is
+/// never answered.
 pub fn reply_to_wire_fault(alloc: Global, fault: WireFault) -> Response
     ensures { IsReply (reply_to_wire_fault fault) result }
 {
@@ -51,7 +53,7 @@ pub fn reply_to_wire_fault(alloc: Global, fault: WireFault) -> Response
     made.unwrap_or(Response::out_of_memory(alloc))
 }
 
-/// What is answered to a message that is no request. Where memory is wanting, that is answered instead.
+/// The answer to a message that is not a request. It is an empty 503 if memory runs out.
 pub fn reply_to_header_fault(alloc: Global, fault: HeaderFault) -> Response
     ensures { IsReply (reply_to_header_fault fault) result }
 {
@@ -66,7 +68,7 @@ pub fn reply_to_header_fault(alloc: Global, fault: HeaderFault) -> Response
     made.unwrap_or(Response::out_of_memory(alloc))
 }
 
-/// What is answered to a request that is refused. Where memory is wanting, that is answered instead.
+/// The answer to a request that is refused. It is an empty 503 if memory runs out.
 pub fn reply_to_refusal(alloc: Global, refusal: &Refusal) -> Response
     ensures { IsReply (response_of refusal.now) result }
 {

@@ -74,7 +74,8 @@ fn empty_logs(alloc: Global, lanes: u64) -> Result<Vec<Tail>, NoMemory>
 }
 
 impl Journal {
-    ghost use Rattle.up_events.specs.Records.{empty_records, first_of, forgot, kept_changes, kept_log, lane_log, noted, ArePlaces};
+    ghost use Rattle.up_events.specs.Records.{empty_records, first_of, forgot, kept_changes};
+    ghost use Rattle.up_events.specs.Records.{kept_log, lane_log, noted, ArePlaces};
     ghost use Rattle.up_events.specs.History.{is_known, CanFollow, IsLegal};
 
     /// A journal without changes, for 1 to `MOST_LANES` lanes. It keeps its changes. `NoMemory` if memory for the logs
@@ -99,7 +100,8 @@ impl Journal {
     pub fn forgetting(alloc: Global, lanes: u64) -> Result<Journal, NoMemory>
         requires some_lane { 0 < lanes }
         requires few_lanes { lanes ≤ MOST_LANES }
-        ensures { IfOk result (λ journal. journal ≡ record (empty_records lanes) { keeps = false }) }
+        ensures { IfOk result (λ journal.
+            journal ≡ record (empty_records lanes) { keeps = false }) }
     {
         let ended = Ended::empty(alloc)?;
         Ok(Journal {

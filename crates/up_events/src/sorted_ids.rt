@@ -1,5 +1,6 @@
 //! Ids in ascending order.
-ghost use Rattle.std.specs.Prelude.{◌≡◌, ◌++◌, ◌*◌, ◌≤◌, ◌<◌, [], length, slice_get, Some, option_to_list, OnOk, OnErr, MatchOption, vec_capacity};
+ghost use Rattle.std.specs.Prelude.{◌≡◌, ◌++◌, ◌*◌, ◌≤◌, ◌<◌, []};
+ghost use Rattle.std.specs.Prelude.{length, slice_get, Some, option_to_list, OnOk, OnErr, MatchOption, vec_capacity};
 ghost use Rattle.std.specs.List.{insert};
 ghost use Rattle.std.specs.List.Sorted.{IsBinarySearchResult, IsNonDecreasing};
 ghost use Rattle.std.specs.Ordering.{nat_cmp};
@@ -46,7 +47,9 @@ fn put_into(block: &mut Vec<Id>, at: usize, id: Id) -> Option<Id>
     requires len { length block.old.items ≤ BLOCK }
     requires room { BLOCK ≤ vec_capacity block.old }
     ensures items { insert block.old.items at id ≡ block.new.items ++ option_to_list result }
-    ensures len { MatchOption result (length block.new.items ≤ BLOCK) (λ _. length block.new.items ≡ BLOCK) }
+    ensures len { MatchOption result
+        (length block.new.items ≤ BLOCK)
+        (λ _. length block.new.items ≡ BLOCK) }
     ensures room { BLOCK ≤ vec_capacity block.new }
 {
     let last = if block.len() as u64 == BLOCK {

@@ -1,5 +1,6 @@
 //! The log of a lane, of which the first events can be forgotten.
-ghost use Rattle.std.specs.Prelude.{◌≡◌, ◌+◌, ◌-◌, ◌*◌, ◌≤◌, ◌<◌, length, drop, slice_get, Some, OnOk, OnErr, IfOk, [], ◌∷◌, ◌++◌, vec_capacity};
+ghost use Rattle.std.specs.Prelude.{◌≡◌, ◌+◌, ◌-◌, ◌*◌, ◌≤◌, ◌<◌, ◌∷◌, ◌++◌, []};
+ghost use Rattle.std.specs.Prelude.{length, drop, slice_get, Some, OnOk, OnErr, IfOk, vec_capacity};
 
 use crate::blocks::new_block;
 use crate::event::Event;

@@ -1,5 +1,6 @@
 //! A post-hook that continues where earlier runs ended.
-ghost use Rattle.std.specs.Prelude.{◌≡◌, ◌⊎◌, ◌+◌, ◌<◌, ◌≤◌, ◌^◌, ◌&&◌, [], List, length, min, max, not, true, false, OnOk, OnErr, IsTrue};
+ghost use Rattle.std.specs.Prelude.{◌≡◌, ◌⊎◌, ◌+◌, ◌<◌, ◌≤◌, ◌^◌, ◌&&◌, []};
+ghost use Rattle.std.specs.Prelude.{List, length, min, max, not, true, false, OnOk, OnErr, IsTrue};
 ghost use Rattle.up_events.specs.declared.event.Event.{Event as Told};
 ghost use Rattle.up_handed.specs.Counts.{count_of, device_of};
 ghost use Rattle.up_handed.specs.OnDisk.{IsOnDisk, CountsAllButOne};

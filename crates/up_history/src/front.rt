@@ -93,7 +93,8 @@ impl<E, J: Chronicle> Front<E, J> {
     /// and has now been seen.
     pub fn add(&mut self, history: &History<E, J>, entry: &E) -> bool
         requires room { length self.old < u64.MAX }
-        ensures { MatchBool result (self.new ≡ self.old ++ entry.now ∷ []) (IsLonger self.old self.new) }
+        ensures { MatchBool result (self.new ≡ self.old ++ entry.now ∷ [])
+            (IsLonger self.old self.new) }
     {
         let mut offer: Offer<Option<E>, u64, Counted, Nothing> = self
             .seen
@@ -116,7 +117,8 @@ impl<E, J: Chronicle> Front<E, J> {
     /// Adds entries after everything that was seen, and returns whether it did. If it did not, the history is longer,
     /// or accepts no more entries; the first of the entries may then have been added.
     pub fn add_all(&mut self, history: &History<E, J>, entries: &[E]) -> bool
-        ensures { MatchBool result (self.new ≡ self.old ++ entries.now) (IsPrefix self.old self.new) }
+        ensures { MatchBool result (self.new ≡ self.old ++ entries.now)
+            (IsPrefix self.old self.new) }
     {
         for entry in entries {
             if self.len() == u64::MAX || !self.add(history, entry) {

@@ -1,5 +1,6 @@
 //! A thread's receipt for an entry.
-ghost use Rattle.std.specs.Prelude.{◌≡◌, ◌<◌, ◌≤◌, ◌+◌, ◌++◌, ◌∷◌, [], length, map, take, Some, IfSome, IfNone, OnSome, slice_get};
+ghost use Rattle.std.specs.Prelude.{◌≡◌, ◌<◌, ◌≤◌, ◌+◌, ◌++◌, ◌∷◌, []};
+ghost use Rattle.std.specs.Prelude.{length, map, take, Some, IfSome, IfNone, OnSome, slice_get};
 ghost use mathlib.Core.List.{IsPrefix};
 ghost use Rattle.up_history.specs.Histories.{IsLonger, IsOutOfOrder};
 
@@ -57,7 +58,8 @@ impl<E, J: Chronicle> Receipt<E, J> {
     ) -> Option<Receipt<E, J>>
         requires room { length front.old < u64.MAX }
         ensures added { OnSome result (front.new ≡ front.old ++ entry.now ∷ []) }
-        ensures receipt { IfSome result (λ r. (r.number ≡ length front.old) × (r.entry ≡ entry.now)) }
+        ensures receipt { IfSome result (λ r.
+            (r.number ≡ length front.old) × (r.entry ≡ entry.now)) }
         ensures before { IfSome result (λ r. r.before ≡ front.old) }
         ensures longer { IfNone result (IsLonger front.old front.new) }
     {

@@ -37,7 +37,8 @@ impl PreHook {
     /// at the closure shows: `ensures { IsTrue (is_lawful result) }`. Takes no memory.
     pub fn new(point: Point, judge: Judge) -> Self
         requires callable { Judge.IsAlwaysCallable judge }
-        requires lawful { (ask : _) (verdict : _) → Judge.post judge ask verdict → IsTrue (is_lawful verdict) }
+        requires lawful { (ask : _) (verdict : _) → Judge.post judge ask verdict
+            → IsTrue (is_lawful verdict) }
         ensures point { point_of result ≡ point }
         ensures judge { judge_of result ≡ (judge.vtable, judge.value) }
     {

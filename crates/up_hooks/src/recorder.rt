@@ -18,7 +18,8 @@ impl<F: Fn(&Event) -> Outcome + Send> PostHook for Recorder<F> {
     ghost use Rattle.std.specs.Prelude.{nat_lt, vec_len, vec_capacity};
     ghost use Rattle.up_hooks.specs.Told.{AreAnswers, GivesCodes, closure_of, events_told, told_by};
 
-    ghost is_sound = { λ r. F.IsAlwaysCallable r.answer × GivesCodes F.Fn r.answer × AreAnswers F.Fn r.answer r.pairs.items };
+    ghost is_sound = { λ r. F.IsAlwaysCallable r.answer × GivesCodes F.Fn r.answer
+        × AreAnswers F.Fn r.answer r.pairs.items };
 
     ghost handed = { λ r. events_told r.pairs.items };
 

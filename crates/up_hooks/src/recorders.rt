@@ -18,7 +18,8 @@ pub fn new_recorders<F: Fn(&Event) -> Outcome + Send + Copy>(
     requires codes { GivesCodes F.Fn answer }
     ensures one_for_each { IfOk result (λ made. length made.items ≡ lanes) }
     ensures new { IfOk result (λ made. All
-        (λ recorder. ⟦<Recorder<F> as PostHook>⟧.is_sound recorder × (⟦<Recorder<F> as PostHook>⟧.handed recorder ≡ []))
+        (λ recorder. ⟦<Recorder<F> as PostHook>⟧.is_sound recorder
+        × (⟦<Recorder<F> as PostHook>⟧.handed recorder ≡ []))
         made.items) }
 {
     let mut made = Vec::new(alloc);

@@ -18,7 +18,8 @@ pub fn new_tellers<F: Fn(&Event) -> Outcome + Send + Copy>(
     requires codes { GivesCodes F.Fn answer }
     ensures one_for_each { IfOk result (λ made. length made.items ≡ lanes) }
     ensures new { IfOk result (λ made. All
-        (λ teller. ⟦<Teller<F> as PostHook>⟧.is_sound teller × (⟦<Teller<F> as PostHook>⟧.handed teller ≡ []))
+        (λ teller. ⟦<Teller<F> as PostHook>⟧.is_sound teller
+        × (⟦<Teller<F> as PostHook>⟧.handed teller ≡ []))
         made.items) }
 {
     let mut made = Vec::new(alloc);

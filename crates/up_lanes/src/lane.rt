@@ -88,7 +88,8 @@ impl<H: PostHook> Lane<H> {
     /// drained lane takes nothing more. Takes no memory.
     pub fn resume(end: LaneEnd<H>) -> Lane<H>
         requires sound { H.is_sound end.hook }
-        ensures { result ≡ lane_side end.lane end.take_end.queue (H.handed end.hook) (is_drained end.how) end.hook }
+        ensures { result ≡ lane_side end.lane end.take_end.queue (H.handed end.hook)
+            (is_drained end.how) end.hook }
     {
         let LaneEnd {
             lane,

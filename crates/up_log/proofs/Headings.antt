@@ -40,6 +40,9 @@ whole_is setup (gate ∷ []) closed long are first behind = absurd (omega arith)
 whole_is setup (gate ∷ next ∷ rest) closed long are first behind =
     (inr (first, behind ∙ are), omega (arith, ap length behind, length_closed setup closed are))
 
+-- for `is_unfinished`
+pub ruleset unfinished_is = (short_is, zero_is, whole_is)
+
 unfinished_short : (setup : Setup) (file : List ℕ) → IsUnfinished setup file → length file ≤ 34
 unfinished_short setup [] is = omega arith
 unfinished_short setup (gate ∷ []) is = omega arith

@@ -1,5 +1,6 @@
 //! The heading of a log file: reading it, and writing it to a file that has none.
-ghost use Rattle.std.specs.Prelude.{◌≡◌, ◌≤◌, ◌++◌, ◌∷◌, [], List, ℕ, length, take, slice_index_or, vec_len, IfOk, OnOk, IfErr, IsTrue};
+ghost use Rattle.std.specs.Prelude.{◌≡◌, ◌≤◌, ◌++◌, ◌∷◌, []};
+ghost use Rattle.std.specs.Prelude.{List, ℕ, length, take, slice_index_or, vec_len, IfOk, OnOk, IfErr, IsTrue};
 ghost use Rattle.sqlite_disk.specs.Disk.{Only};
 ghost use Rattle.up_log.specs.Blocks.{heading, beginning, IsFileOf, IsLog, IsOurs, IsShut, IsUnfinished};
 ghost use Rattle.up_log.specs.Logs.{IsRefusal};
@@ -50,7 +51,7 @@ fn begins_with(bytes: &[u8], front: &[u8]) -> bool
 
 /// Whether a file has no complete heading yet. `front` is the start of the file, or all of it. `closed` is the heading
 /// that belongs after the gate, with the next gate.
-#[tactic(auto, using(crate::proofs::Headings::short_is, crate::proofs::Headings::zero_is, crate::proofs::Headings::whole_is))]
+#[tactic(auto, using(crate::proofs::Headings::unfinished_is))]
 fn is_unfinished(front: &[u8], closed: &[u8]) -> bool
     ensures { (setup : Numbers) → closed.now ≡ heading setup ++ 0 ∷ [] → IsTrue result
         → IsUnfinished setup front.now × (length front.now ≤ 34) }

@@ -2,7 +2,8 @@
 ghost use Rattle.std.specs.Prelude.{◌≡◌, ◌<◌, ◌++◌, [], List, ℕ, length, IfOk, IfSome, IfErr, OnOk, IsTrue};
 ghost use Rattle.sqlite_disk.specs.Disk.{Only};
 ghost use Rattle.up_log.specs.Blocks.{written, IsAtRest, IsFileOf, IsLog, IsOurs};
-ghost use Rattle.up_log.specs.Logs.{IsCleanLog, IsCleanReader, IsReading, IsRefusal, IsPart, IsSettled, ReadsNext, reader_leaves, log_leaves, unread};
+ghost use Rattle.up_log.specs.Logs.{IsCleanLog, IsCleanReader, IsReading, IsRefusal, IsPart};
+ghost use Rattle.up_log.specs.Logs.{IsSettled, ReadsNext, reader_leaves, log_leaves, unread};
 ghost use Rattle.up_log.specs.declared.entry.Entry.{Entry as Logged};
 ghost use Rattle.up_log.specs.declared.setup.Setup.{Setup as Numbers};
 

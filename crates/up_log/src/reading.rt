@@ -1,7 +1,9 @@
 //! Decoding entries.
 ghost use Rattle.std.specs.Prelude.{◌≡◌, ◌<◌, List, length, Some, IfOk};
 ghost use Rattle.up_log.specs.Spelling.{batch};
-ghost use Rattle.up_log.specs.Reading.{Gives, word_at, id_at, text_at, maybe_at, many_at, so_many_at, flag_at, kind_at, consent_at, declared_at, pair_at, new_upload_at, patch_at, asked_for_at, entry_at, batch_at, whole_at};
+ghost use Rattle.up_log.specs.Reading.{Gives, word_at, id_at, text_at, maybe_at, many_at, so_many_at};
+ghost use Rattle.up_log.specs.Reading.{flag_at, kind_at, consent_at, declared_at, pair_at, new_upload_at};
+ghost use Rattle.up_log.specs.Reading.{patch_at, asked_for_at, entry_at, batch_at, whole_at};
 ghost use Rattle.up_log.specs.declared.entry.Entry.{Entry as Logged};
 
 use crate::entry::{Consent, Entry};

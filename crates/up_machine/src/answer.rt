@@ -1,7 +1,8 @@
 //! The responses. Each is made before anything is changed.
 ghost use Rattle.std.specs.Prelude.{◌≡◌, ◌++◌, ◌∷◌, [], codes, decimal, Some, IfOk};
 ghost use Rattle.std.specs.Option.{option_copied};
-ghost use Rattle.up_machine.specs.Responses.{created, reached_offset, removed, standing, downloaded, can_do, field_of, size_field};
+ghost use Rattle.up_machine.specs.Responses.{created, reached_offset, removed, standing};
+ghost use Rattle.up_machine.specs.Responses.{downloaded, can_do, field_of, size_field};
 ghost use Rattle.up_message.specs.Refused.{refused_with};
 
 use crate::reason::Reason;

@@ -60,7 +60,8 @@ impl Book {
     ghost use Rattle.up_headers.specs.declared.request.Request.TheVariants as request;
     ghost use Rattle.up_events.specs.Records.{first_of, forgot, lane_log};
     ghost use Rattle.up_machine.specs.State.{empty_state, counting_state, after, first_bytes};
-    ghost use Rattle.up_machine.specs.Decision.{Answers, answer_to, decide, decide_plan, is_asked, is_refusal, planned_rows, rows_of, checked};
+    ghost use Rattle.up_machine.specs.Decision.{Answers, answer_to, decide, decide_plan, is_asked};
+    ghost use Rattle.up_machine.specs.Decision.{is_refusal, planned_rows, rows_of, checked};
     ghost use Rattle.up_machine.specs.Fits.{IsSoundBook};
     ghost use Rattle.up_machine.specs.Views.{Shows};
     ghost use Rattle.up_machine.specs.declared.plan.Plan.TheVariants.{Ready as is_ready};

@@ -2,7 +2,8 @@
 ghost use Rattle.std.specs.Prelude.{◌≡◌, ◌++◌, ◌∷◌, [], Some};
 ghost use Rattle.std.specs.FinMap as map;
 ghost use Rattle.up_machine.specs.Content.{declared};
-ghost use Rattle.up_machine.specs.Decision.{asked_rows, change_by, checked, is_bad_size, patch_completes, patch_rows, step_of, take_rows};
+ghost use Rattle.up_machine.specs.Decision.{asked_rows, change_by, checked, is_bad_size};
+ghost use Rattle.up_machine.specs.Decision.{patch_completes, patch_rows, step_of, take_rows};
 ghost use Rattle.up_machine.specs.declared.refusal.Refusal.TheVariants as refusal;
 
 use crate::plan::Asked;

@@ -1,5 +1,6 @@
 //! The parts of a final upload (tus 1.0.0, Concatenation).
-ghost use Rattle.std.specs.Prelude.{◌≡◌, ◌+◌, ◌<◌, ◌^◌, ◌++◌, length, is_none, nat_lt, not, None, Some, if◌then◌else◌, IfOk, OnOk};
+ghost use Rattle.std.specs.Prelude.{◌≡◌, ◌+◌, ◌<◌, ◌^◌, ◌++◌, length, is_none, nat_lt};
+ghost use Rattle.std.specs.Prelude.{not, None, Some, if◌then◌else◌, IfOk, OnOk};
 ghost use Rattle.std.specs.FinMap as map;
 ghost use Rattle.std.specs.List.{list_any};
 ghost use Rattle.up_machine.specs.State.{bytes_of, first_bytes, joined};

@@ -1,6 +1,7 @@
 //! The two ends of a queue. Contracts describe an end as its queue, the capacity, and the list of what it has put or
 //! taken.
-ghost use Rattle.std.specs.Prelude.{◌≡◌, ◌<◌, [], ◌∷◌, ◌++◌, ◌↔◌, ◌≤◌, length, Err, IfOk, IfErr, IfSome, OnOk, OnErr, None};
+ghost use Rattle.std.specs.Prelude.{◌≡◌, ◌<◌, [], ◌∷◌, ◌++◌, ◌↔◌, ◌≤◌, length};
+ghost use Rattle.std.specs.Prelude.{Err, IfOk, IfErr, IfSome, OnOk, OnErr, None};
 ghost use Rattle.up_queue.specs.declared.fault.QueueFault.TheVariants.{ZeroCapacity};
 ghost use Rattle.up_queue.specs.declared.fault.PutFault.TheVariants.{Full};
 ghost use Rattle.up_queue.specs.Line.{IsOrderly};

@@ -18,7 +18,7 @@ abbrev pub outcome_of : Outcome → List ℕ
 outcome_of Done = codes " done\n"
 outcome_of (Failed code) = concat (codes " failed " ∷ decimal code ∷ codes "\n" ∷ [])
 
--- a length, and a dash where it isn't known
+-- a length, or a dash if it is not known
 abbrev pub length_text : Option ℕ → List ℕ
 length_text None = codes "-"
 length_text (Some length) = decimal length
@@ -28,7 +28,7 @@ abbrev pub event_text : Event → List ℕ
 event_text e =
     concat (text_of e.id ∷ codes " " ∷ decimal e.number ∷ codes " " ∷ name_of e.hook ∷ codes " " ∷ decimal e.offset ∷ codes "/" ∷ length_text e.length ∷ [])
 
--- that, and what its post-hook answered
+-- the line of an event: the event, and what its post-hook answered
 abbrev pub event_line : Event × Outcome → List ℕ
 event_line told = event_text told.0 ++ outcome_of told.1
 
@@ -37,7 +37,7 @@ abbrev pub how_of : How → List ℕ
 how_of Drained = codes " drained "
 how_of Stopped = codes " stopped "
 
--- a lane: its number, how it ended, and how many events it handed over
+-- the line of a lane: its number, how it ended, and how many events it handed over
 abbrev pub lane_line : ℕ → How → ℕ → List ℕ
 lane_line number how count = concat (codes "lane " ∷ decimal number ∷ how_of how ∷ decimal count ∷ codes "\n" ∷ [])
 
@@ -49,11 +49,11 @@ events_text hook = flat_map event_line (told_by hook)
 abbrev pub count_kept : {F : Type 0} → Recorder F → ℕ
 count_kept hook = length (told_by hook)
 
--- that line, and what is told of its post-hook
+-- the line of a lane, and the text about its post-hook
 abbrev pub lane_text : {H : Type 0} → (H → ℕ) → (H → List ℕ) → ℕ → LaneReport H → List ℕ
 lane_text count text number lane = lane_line number lane.how (count lane.hook) ++ text lane.hook
 
--- the lanes, numbered from this on
+-- the lanes, numbered from this number on
 abbrev pub lanes_text : {H : Type 0} → (H → ℕ) → (H → List ℕ) → ℕ → List (LaneReport H) → List ℕ
 lanes_text count text number [] = []
 lanes_text count text number (lane ∷ lanes) = lane_text count text number lane ++ lanes_text count text (number + 1) lanes
@@ -62,7 +62,7 @@ lanes_text count text number (lane ∷ lanes) = lane_text count text number lane
 abbrev pub count_line : ℕ → List ℕ
 count_line count = concat (codes "\naccepted " ∷ decimal count ∷ codes "\n" ∷ [])
 
--- that number, and the lanes, each with what is told of its post-hook
+-- the number of accepted changes, and the lanes, each with the text about its post-hook
 abbrev pub report_by : {H : Type 0} → (H → ℕ) → (H → List ℕ) → Report H → List ℕ
 report_by count text report = count_line (length report.accepted.items) ++ lanes_text count text 0 report.lanes.items
 

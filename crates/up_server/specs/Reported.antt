@@ -1,4 +1,4 @@
--- The report of a board that has ended, and what is told of it.
+-- The report of a board that has ended, and its text.
 use Rattle.std.specs.Prelude.{◌≡◌, ℕ, Bool, true, false, List, length, Result, Ok, Err}
 use Rattle.std.specs.Io.KnownBytes.{Appends}
 use Rattle.std.specs.List.{list_any}
@@ -16,20 +16,20 @@ use Rattle.up_server.specs.declared.server_fault.ServerFault.TheVariants as Faul
 use Rattle.up_wire.specs.Device.{Device, GaveUp}
 use Rattle.up_wire.specs.Response.{WritesFront}
 
--- The report of a board with so many lanes: the changes are a legal history. Each lane handed over a beginning of its log of them: of each
--- upload the first of its events, each once and in order, and all of them where the lane is drained.
+-- The report of a board with this many lanes: the changes are a legal history. Each lane handed over a prefix of its
+-- log of them: of each upload its first events, each once and in order, and all of them if the lane is drained.
 pub record IsReportOf {H : Type 0} (handed : H → List Event) (lanes : ℕ) (report : Report H) : Type 0 where
   pub legal : IsLegal report.accepted.items
   pub lanes_are : length report.lanes.items ≡ lanes
   pub handed_over : HandOver handed lanes report.accepted.items report.lanes.items
   pub delivered : TellEachUpload handed lanes report.accepted.items report.lanes.items
 
--- whether a lane stopped before its end came
+-- whether a lane stopped before it took its end
 abbrev pub is_stopped : How → Bool
 is_stopped Drained = false
 is_stopped Stopped = true
 
--- whether any lane did
+-- whether any lane stopped
 abbrev pub any_stopped : {H : Type 0} → List (LaneReport H) → Bool
 any_stopped lanes = list_any (λ lane. is_stopped lane.how) lanes
 
@@ -37,11 +37,11 @@ any_stopped lanes = list_any (λ lane. is_stopped lane.how) lanes
 abbrev pub IsWritten : List ℕ → Device → Device → Type 0
 IsWritten text before after = Appends before.bytes after.bytes text
 
--- a front of it was written, and then the sink failed, or was interrupted too often
+-- a prefix of the text was written, and then the sink failed or was interrupted too often
 abbrev pub IsBrokenOff : List ℕ → Device → Device → Type 0
 IsBrokenOff text before after = WritesFront before.bytes after.bytes text × GaveUp after after.interruptions
 
--- the report, and whether a lane stopped
+-- the report was written as this text, and what went wrong: a write failed, or a lane stopped
 abbrev pub IsToldAs : List ℕ → Bool → Device → Device → {X : Type 0} → Result X ServerFault → Type 0
 IsToldAs text stopped before after (Ok done) = IsWritten text before after × (stopped ≡ false)
 IsToldAs text stopped before after (Err Fault.Memory) = ⊥
@@ -50,6 +50,6 @@ IsToldAs text stopped before after (Err Fault.Write) = IsBrokenOff text before a
 IsToldAs text stopped before after (Err Fault.Read) = ⊥
 IsToldAs text stopped before after (Err Fault.Stopped) = IsWritten text before after × (stopped ≡ true)
 
--- the report with its events, and what went wrong
+-- the report with its events was written, and what went wrong
 abbrev pub IsTold : {F : Type 0} → Report (Recorder F) → Device → Device → {X : Type 0} → Result X ServerFault → Type 0
 IsTold report before after result = IsToldAs (report_text report) (any_stopped report.lanes.items) before after result

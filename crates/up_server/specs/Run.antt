@@ -15,8 +15,8 @@ use Rattle.up_server.specs.declared.server_fault.ServerFault.TheVariants as Faul
 use Rattle.up_wire.specs.Device.{Device}
 use Rattle.up_words.specs.declared.settings.Settings.{Settings}
 
--- One conversation was served from the only seat of a new board of this size whose closures may give this, over these queues. The report
--- is that of the board, and tells as many changes as were made from the seat.
+-- One conversation was served from the only seat of a new board with these settings and queues, whose closures may
+-- answer this. The report is that of the board, and counts as many changes as were made from the seat.
 pub record IsRun {H : Type 0} (handed : H → List Event) (queue : ℕ → QueueId) (gives : Gives) (settings : Settings) (served : Served H) (source source_after sink sink_after : Device) : Type 0 where
   pub converses : IsServedFrom queue settings.lanes gives settings.max_size 0 (length served.report.accepted.items) source source_after sink sink_after served.ended
   pub report : IsReportOf handed settings.lanes served.report
@@ -25,7 +25,7 @@ pub record IsRun {H : Type 0} (handed : H → List Event) (queue : ℕ → Queue
 abbrev pub HasEndedWell : Ended → Type 0
 HasEndedWell ended = (ended ≡ Closed) ⊎ (ended ≡ Cut)
 
--- the report behind the replies, and what went wrong; none where the replies couldn't be written
+-- the report was written after the replies, and what went wrong; there is no report if the replies could not be written
 abbrev pub IsReported : {F : Type 0} → Served (Recorder F) → Device → Device → {X : Type 0} → Result X ServerFault → Type 0
 IsReported served before after (Ok done) =
     HasEndedWell served.ended × IsWritten (report_text served.report) before after × (any_stopped served.report.lanes.items ≡ false)

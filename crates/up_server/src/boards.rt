@@ -12,8 +12,8 @@ use up_hooks::PostHook;
 use up_lanes::{Lane, LaneEnd};
 use up_words::Settings;
 
-/// A new board of these parts and of this size, which counts the changes and doesn't keep them, and a lane over each of its queues, with the
-/// post-hook at its place.
+/// A new board of these parts, with these settings, which counts the changes but does not keep them, and a lane over
+/// each of its queues, with the post-hook at the same place. `NoMemory` if memory runs out.
 pub fn open<B: Naming, H: PostHook + Drop>(
     alloc: Global,
     parts: BoardParts,
@@ -26,21 +26,24 @@ pub fn open<B: Naming, H: PostHook + Drop>(
     requires one_for_each { vec_len post_hooks ≡ settings.now.lanes }
     requires new { All (λ h. H.is_sound h × (H.handed h ≡ [])) post_hooks.items }
     ensures count { IfOk result (λ r. vec_len r.1 ≡ settings.now.lanes) }
-    ensures lanes { IfOk result (λ r. EachAt (λ k l. (l.lane ≡ k) × (l.queue ≡ B.queue k)) r.1.items) }
+    ensures lanes { IfOk result (λ r.
+        EachAt (λ k l. (l.lane ≡ k) × (l.queue ≡ B.queue k)) r.1.items) }
 {
     let (board, takes) = Board::<B>::forgetting(alloc, parts, settings.max_size)?;
     let lanes = lanes_over(alloc, takes, post_hooks)?;
     Ok((board, lanes))
 }
 
-/// Ends the board, and reports. An error is want of memory, or a seat that isn't among these and from which changes were made.
+/// Ends the board, and reports. The error is that memory ran out, or that a seat is missing from which changes were
+/// made.
 pub fn finish<B: Naming, H: PostHook + Drop>(
     alloc: Global,
     board: Board<B>,
     seats: Vec<Seat<B>>,
     ends: Vec<LaneEnd<H>>,
 ) -> Result<Report<H>, NoMemory>
-    requires ends { EachAt (λ k e. H.is_sound e.hook × (e.lane ≡ k) × (e.take_end.queue ≡ B.queue k)) ends.items }
+    requires ends { EachAt
+        (λ k e. H.is_sound e.hook × (e.lane ≡ k) × (e.take_end.queue ≡ B.queue k)) ends.items }
     ensures counts { IfOk result (λ r. length r.accepted.items ≡ sum seats.items) }
     ensures report { IfOk result (λ r. IsReportOf H.handed (vec_len ends) r) }
     ensures sound { IfOk result (λ r. All (λ x. H.is_sound x.hook) r.lanes.items) }

@@ -13,11 +13,15 @@ use up_events::Event;
 use up_hooks::Outcome;
 use up_wire::Sink;
 
-/// Writes the event as a line in the form of the report, and has the sink send it on.
+/// Writes the event as a line, in the form of the report, and makes the sink send it on. `Failed` with the code 1 if
+/// that fails.
 fn write_line<W: Sink>(sink: &mut W, event: &Event) -> Outcome
     ensures code { IsTrue (has_code result) }
-    ensures written { result ≡ Done → Appends (W.device sink.old).bytes (W.device sink.new).bytes (event_line (event.now, Done)) }
-    ensures failed { result ≢ Done → (result ≡ Failed 1) × GaveUp (W.device sink.new) (W.device sink.new).interruptions }
+    ensures written { result ≡ Done
+        → Appends (W.device sink.old).bytes (W.device sink.new).bytes
+        (event_line (event.now, Done)) }
+    ensures failed { result ≢ Done
+        → (result ≡ Failed 1) × GaveUp (W.device sink.new) (W.device sink.new).interruptions }
 {
     match write_told(sink, &(*event, Outcome::Done)) {
         Ok(()) => Outcome::Done,
@@ -29,12 +33,12 @@ fn write_line<W: Sink>(sink: &mut W, event: &Event) -> Outcome
 #[derive(Drop)]
 pub struct EventLines<W> {
     sink: Mutex<W>,
-    /// Whether standard error was told that a line could not be written.
+    /// Whether it was reported on standard error that a line could not be written.
     is_told: AtomicBool,
 }
 
 impl<W: Sink> EventLines<W> {
-    /// Lines to this sink, of which none is written yet.
+    /// Writes lines to this sink. None was written yet.
     pub fn new(sink: W) -> Self {
         EventLines {
             sink: Mutex::new(sink),
@@ -42,8 +46,8 @@ impl<W: Sink> EventLines<W> {
         }
     }
 
-    /// Writes the event as a line in the form of the report, and has the sink send it on, before any other is written. `Failed` with the
-    /// code 1 if that failed, of which standard error is told once.
+    /// Writes the event as a line, in the form of the report, and makes the sink send it on before any other line is
+    /// written. `Failed` with the code 1 if that fails. The first failure is reported on standard error.
     pub fn tell<R: Eprint + Wait>(&self, rt: &R, event: &Event) -> Outcome
         ensures { IsTrue (has_code result) }
     {

@@ -2,7 +2,8 @@
 ghost use Rattle.std.specs.Prelude.{◌≡◌, flat_map, OnErr};
 ghost use Rattle.up_wire.specs.Device.{GaveUp};
 ghost use Rattle.up_wire.specs.Response.{Writes};
-ghost use Rattle.up_server.specs.ReportText.{count_line, event_line, event_text, lane_line, lane_text, lanes_text, report_by, how_of, length_text, outcome_of};
+ghost use Rattle.up_server.specs.ReportText.{count_line, event_line, event_text, lane_line, lane_text};
+ghost use Rattle.up_server.specs.ReportText.{lanes_text, report_by, how_of, length_text, outcome_of};
 
 use crate::shown::Shown;
 use itoa::Buffer;
@@ -12,9 +13,9 @@ use up_hooks::Outcome;
 use up_lanes::How;
 use up_wire::{Sink, WriteFailed, flush, write_pieces};
 
-/// Writes the report, and has the sink send it on: an empty line, `accepted` and the number of accepted changes, then for
-/// each lane a line with its number, how it ended and how many events it handed over, and what is told of its post-hook. An
-/// error comes if a write or the flush gave up on the sink.
+/// Writes the report, and makes the sink send it on: an empty line, `accepted` with the number of accepted changes,
+/// then for each lane a line with its number, how it ended and how many events it handed over, and after it the text
+/// about its post-hook. The error is that a write or the flush gave up on the sink.
 pub fn write_report<H: Shown, W: Sink>(sink: &mut W, report: &Report<H>) -> Result<(), WriteFailed>
     ensures written { Writes (W.device sink.old).bytes (W.device sink.new).bytes
         (report_by H.count H.text report.now) result }
@@ -25,7 +26,7 @@ pub fn write_report<H: Shown, W: Sink>(sink: &mut W, report: &Report<H>) -> Resu
     flush(sink)
 }
 
-/// Writes the number of accepted changes.
+/// Writes an empty line, and the number of accepted changes.
 fn write_count<W: Sink>(sink: &mut W, count: u64) -> Result<(), WriteFailed>
     ensures written { Writes (W.device sink.old).bytes (W.device sink.new).bytes
         (count_line count) result }
@@ -36,7 +37,7 @@ fn write_count<W: Sink>(sink: &mut W, count: u64) -> Result<(), WriteFailed>
     write_pieces(sink, &pieces)
 }
 
-/// Writes the lanes, with their numbers from 0 on.
+/// Writes the lanes, which are numbered from 0.
 fn write_lanes<H: Shown, W: Sink>(sink: &mut W, lanes: &[LaneReport<H>]) -> Result<(), WriteFailed>
     ensures written { Writes (W.device sink.old).bytes (W.device sink.new).bytes
         (lanes_text H.count H.text 0 lanes.now) result }
@@ -48,7 +49,7 @@ fn write_lanes<H: Shown, W: Sink>(sink: &mut W, lanes: &[LaneReport<H>]) -> Resu
     Ok(())
 }
 
-/// Writes a lane, and what is told of its post-hook.
+/// Writes the line of a lane, and the text about its post-hook.
 fn write_lane<H: Shown, W: Sink>(
     sink: &mut W,
     number: usize,
@@ -62,6 +63,7 @@ fn write_lane<H: Shown, W: Sink>(
     lane.hook.write_text(sink)
 }
 
+/// The word for how a lane ended.
 fn how_of(how: How) -> &'static [u8]
     ensures { result.now ≡ how_of how }
 {
@@ -71,6 +73,7 @@ fn how_of(how: How) -> &'static [u8]
     }
 }
 
+/// Writes the line of a lane.
 fn write_lane_line<W: Sink>(
     sink: &mut W,
     number: usize,
@@ -93,7 +96,7 @@ fn write_lane_line<W: Sink>(
     write_pieces(sink, &pieces)
 }
 
-/// Writes events, and what a post-hook answered to each, a line each.
+/// Writes each event as a line, with what the post-hook answered to it. The error is that a write gave up on the sink.
 pub fn write_events<W: Sink>(sink: &mut W, events: &[(Event, Outcome)]) -> Result<(), WriteFailed>
     ensures written { Writes (W.device sink.old).bytes (W.device sink.new).bytes
         (flat_map event_line events.now) result }
@@ -105,7 +108,8 @@ pub fn write_events<W: Sink>(sink: &mut W, events: &[(Event, Outcome)]) -> Resul
     Ok(())
 }
 
-/// Writes an event, and what its post-hook answered, and has the sink send the line on.
+/// Writes an event as a line, with what its post-hook answered, and makes the sink send the line on. The error is that
+/// a write or the flush gave up on the sink.
 pub fn write_told<W: Sink>(sink: &mut W, told: &(Event, Outcome)) -> Result<(), WriteFailed>
     ensures written { Writes (W.device sink.old).bytes (W.device sink.new).bytes
         (event_line told.now) result }
@@ -115,7 +119,7 @@ pub fn write_told<W: Sink>(sink: &mut W, told: &(Event, Outcome)) -> Result<(), 
     flush(sink)
 }
 
-/// Writes an event, and what its post-hook answered.
+/// Writes an event as a line, with what its post-hook answered.
 fn write_event<W: Sink>(sink: &mut W, told: &(Event, Outcome)) -> Result<(), WriteFailed>
     ensures written { Writes (W.device sink.old).bytes (W.device sink.new).bytes
         (event_line told.now) result }
@@ -125,7 +129,7 @@ fn write_event<W: Sink>(sink: &mut W, told: &(Event, Outcome)) -> Result<(), Wri
     write_outcome(sink, told.1)
 }
 
-/// A length in digits, and a dash where it isn't known.
+/// A length in digits, or a dash if it is not known.
 fn length_text(digits: &mut Buffer, length: Option<u64>) -> &[u8]
     ensures { result.now ≡ length_text length }
 {

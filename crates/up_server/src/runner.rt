@@ -1,4 +1,4 @@
-//! What runs the lanes of a board: also lanes that go on after their post-hook was refused memory.
+//! Running the lanes of a board. A lane can go on after its post-hook ran out of memory.
 ghost use Rattle.std.specs.Prelude.{◌≡◌};
 
 use std::marker::{Send, Sync};
@@ -9,29 +9,30 @@ use up_dispatch::{Board, Naming};
 use up_hooks::PostHook;
 use up_lanes::{Lane, LaneEnd, StepEnd};
 
-/// How many milliseconds a lane whose post-hook was refused memory waits before it is tried again. Each further wait is twice as long.
+/// How many milliseconds a lane waits before it is tried again after its post-hook ran out of memory. Each further wait
+/// is twice as long.
 const FIRST_PAUSE: u64 = 100;
 
-/// How many milliseconds it waits at most.
+/// The longest wait, in milliseconds.
 const MOST_PAUSE: u64 = 10_000;
 
-/// How many times it is tried once the board is closed, with the first pause between two tries.
+/// How many times a lane is tried after the board was closed, with the first pause between two tries.
 const LAST_TRIES: u32 = 3;
 
-/// Who is told of lanes that wait for memory. Of each lane it is told by turns that it waits and that it goes on.
+/// Who is told about lanes that wait for memory. For each lane, the two calls alternate: it waits, and it goes on.
 pub trait LaneNotices: Sync {
-    /// The post-hook of this lane was refused memory. The lane waits until there is some.
+    /// The post-hook of this lane ran out of memory. The lane waits until there is some.
     fn waits(&self, lane: u64);
 
     /// The lane goes on.
     fn goes_on(&self, lane: u64);
 }
 
-/// Standard error, which is told in a line. Where it is closed nobody is told.
+/// Prints a line on standard error. If that is closed, nobody is told.
 #[derive(Drop)]
 pub struct OnStderr<'a, R> {
     rt: &'a R,
-    /// The lanes that wait, a bit for each.
+    /// The lanes that wait, as one bit per lane.
     stopped: AtomicU64,
 }
 
@@ -49,7 +50,7 @@ impl<'a, R> OnStderr<'a, R> {
         }
     }
 
-    /// The lanes that wait, a bit for each.
+    /// The lanes that wait, as one bit per lane.
     pub fn stopped(&self) -> u64 {
         self.stopped.load(Ordering::SeqCst)
     }
@@ -67,7 +68,7 @@ impl<R: Eprint + Sync> LaneNotices for OnStderr<'_, R> {
     }
 }
 
-/// Nobody.
+/// Nobody is told.
 pub struct Nobody;
 
 impl LaneNotices for Nobody {
@@ -76,17 +77,17 @@ impl LaneNotices for Nobody {
     fn goes_on(&self, _lane: u64) {}
 }
 
-/// What runs the lanes of a board, each in the thread that it is given.
+/// Runs the lanes of a board, each in the thread that calls it.
 #[derive(Drop)]
 pub struct Runner<'a, B: Naming, N> {
     pub board: &'a Board<B>,
-    /// Who is told of lanes that stopped, and go on. Where there is none, a lane that stopped has ended.
+    /// Who is told about lanes that stop and go on. If there is none, a lane that stops has ended.
     pub notices: Option<&'a N>,
-    /// 0 while the board is open, and 1 once it was closed. Lanes that wait for memory sleep on it.
+    /// 0 while the board is open, and 1 after it was closed. Lanes that wait for memory sleep on it.
     closed: AtomicU64,
 }
 
-/// Takes a step. Tells whether the post-hook had room for an event.
+/// Takes a step. Returns whether the post-hook had room for an event.
 fn has_room<H: PostHook, T: Wait>(rt: &T, lane: &mut Lane<H>) -> bool
     ensures same { (lane.new.lane ≡ lane.old.lane) × (lane.new.queue ≡ lane.old.queue) }
 {
@@ -96,7 +97,7 @@ fn has_room<H: PostHook, T: Wait>(rt: &T, lane: &mut Lane<H>) -> bool
     }
 }
 
-/// How many milliseconds a lane waits that has waited for so many.
+/// How many milliseconds a lane waits after it has waited for `pause` milliseconds.
 fn next_pause(pause: u64, is_closed: bool) -> u64 {
     if is_closed {
         FIRST_PAUSE
@@ -106,7 +107,7 @@ fn next_pause(pause: u64, is_closed: bool) -> u64 {
 }
 
 impl<'a, B: Naming + Send + Sync, N: LaneNotices> Runner<'a, B, N> {
-    /// Over an open board: a lane whose post-hook is refused memory has ended.
+    /// For an open board. A lane whose post-hook runs out of memory has ended.
     pub fn new(board: &'a Board<B>) -> Self {
         Runner {
             board,
@@ -115,7 +116,7 @@ impl<'a, B: Naming + Send + Sync, N: LaneNotices> Runner<'a, B, N> {
         }
     }
 
-    /// Over an open board: a lane whose post-hook is refused memory waits for it, and goes on.
+    /// For an open board. A lane whose post-hook runs out of memory waits until there is some, and goes on.
     pub fn lasting(board: &'a Board<B>, notices: &'a N) -> Self {
         Runner {
             board,
@@ -136,14 +137,15 @@ impl<'a, B: Naming + Send + Sync, N: LaneNotices> Runner<'a, B, N> {
         self.closed.load(Ordering::SeqCst) != 0
     }
 
-    /// Sleeps so many milliseconds, or until the board is closed. Tells whether it is closed.
+    /// Sleeps for `pause` milliseconds, or until the board is closed. Returns whether it is closed.
     pub fn closes_within<T: Wait>(&self, rt: &T, pause: u64) -> bool {
         self.closed
             .park_timeout(rt, 0, Duration::from_millis(pause));
         self.is_closed()
     }
 
-    /// Sleeps so many milliseconds, or, of a board that isn't closed, until it is. Tells whether it is closed.
+    /// Sleeps for `pause` milliseconds, or until an open board is closed. If the board is closed already, sleeps for
+    /// the whole pause. Returns whether it is closed.
     fn rest<T: Wait>(&self, rt: &T, pause: u64) -> bool {
         let seen = u32::from(self.is_closed());
         self.closed
@@ -151,8 +153,8 @@ impl<'a, B: Naming + Send + Sync, N: LaneNotices> Runner<'a, B, N> {
         self.is_closed()
     }
 
-    /// Tries a lane that stopped until its post-hook has room for an event, or until a last try is left. Tells whether it has room. A try while
-    /// the board is closed is one of those that are left.
+    /// Tries a lane that stopped, again and again, until its post-hook has room for an event. Returns whether it has.
+    /// After the board was closed, each try uses up one of `tries`, and the last one is left to the caller.
     fn try_again<H: PostHook, T: Wait>(&self, rt: &T, lane: &mut Lane<H>, tries: &mut u32) -> bool
         ensures same { (lane.new.lane ≡ lane.old.lane) × (lane.new.queue ≡ lane.old.queue) }
     {
@@ -173,7 +175,8 @@ impl<'a, B: Naming + Send + Sync, N: LaneNotices> Runner<'a, B, N> {
         false
     }
 
-    /// Waits until the post-hook of a lane that stopped has room, and runs the lane on. Where that run is the last try, it doesn't wait.
+    /// Waits until the post-hook of a lane that stopped has room for an event, and runs the lane on. If only the last
+    /// try is left, runs the lane whether or not there is room.
     fn run_again<H: PostHook + Drop, T: Wait>(
         &self,
         rt: &T,
@@ -199,8 +202,9 @@ impl<'a, B: Naming + Send + Sync, N: LaneNotices> Runner<'a, B, N> {
         end
     }
 
-    /// Runs a lane to its end, drained or stopped. Where somebody is told of it, a lane that stops is tried again after a pause, which doubles,
-    /// and goes on once its post-hook has room for an event. Once the board is closed it is tried three times more.
+    /// Runs a lane until it ends, drained or stopped. If there is someone to tell, a lane that stops is tried again
+    /// after a pause, which doubles each time, and goes on when its post-hook has room for an event. After the board
+    /// was closed, it is tried three more times.
     pub fn run<H: PostHook + Drop, T: Wait>(&self, rt: &T, lane: Lane<H>) -> LaneEnd<H>
         ensures sound { H.is_sound result.hook }
         ensures same { (result.lane ≡ lane.lane) × (result.take_end.queue ≡ lane.queue) }

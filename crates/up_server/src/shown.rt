@@ -1,4 +1,4 @@
-//! What a report tells of a post-hook.
+//! What a report says about a post-hook.
 ghost use Rattle.std.specs.Prelude.{◌≡◌, OnErr};
 ghost use Rattle.up_wire.specs.Device.{GaveUp};
 ghost use Rattle.up_wire.specs.Response.{Writes};
@@ -11,25 +11,26 @@ use up_handed::{Continued, Endings, Noting};
 use up_hooks::{Outcome, PostHook, Recorder, Teller};
 use up_wire::{Sink, WriteFailed};
 
-/// A post-hook of which a report can tell.
+/// A post-hook about which a report says something.
 pub trait Shown: PostHook {
     ghost use Rattle.std.specs.Prelude.{ℕ, List};
 
-    /// How many events it was handed, as far as it counts.
+    /// How many events it was handed, as far as it counts them.
     ghost count: { Self → ℕ };
 
-    /// What else is told of it.
+    /// The text about it, which follows the line of its lane.
     ghost text: { Self → List ℕ };
 
-    /// How many events it was handed, as far as it counts.
+    /// How many events it was handed, as far as it counts them.
     fn count_handed(&self) -> u64
         ensures { result ≡ count self.now };
 
-    /// Writes what else is told of it. An error comes if a write gave up on the sink.
+    /// Writes the text about it. The error is that a write gave up on the sink.
     fn write_text<W: Sink>(&self, sink: &mut W) -> Result<(), WriteFailed>
         ensures written { Writes (W.device sink.old).bytes (W.device sink.new).bytes
             (text self.now) result }
-        ensures failed { OnErr result (GaveUp (W.device sink.new) (W.device sink.new).interruptions) };
+        ensures failed { OnErr result
+            (GaveUp (W.device sink.new) (W.device sink.new).interruptions) };
 }
 
 impl<F: Fn(&Event) -> Outcome + Send> Shown for Recorder<F> {

@@ -1,4 +1,4 @@
-//! What is said at the end of a run.
+//! The report at the end of a run.
 ghost use Rattle.std.specs.Prelude.{◌≡◌};
 ghost use Rattle.up_server.specs.ReportText.{report_by};
 ghost use Rattle.up_server.specs.Reported.{IsToldAs, any_stopped, is_stopped};
@@ -14,21 +14,21 @@ use up_hooks::{Outcome, Recorder};
 use up_lanes::How;
 use up_wire::Sink;
 
-/// Whether the lane stopped before its end came.
+/// Whether the lane stopped before it took its end.
 fn is_stopped<H>(lane: &LaneReport<H>) -> bool
     ensures { result ≡ is_stopped lane.now.how }
 {
     matches!(lane.how, How::Stopped)
 }
 
-/// Whether any lane did.
+/// Whether any lane stopped.
 fn any_stopped<H>(lanes: &[LaneReport<H>]) -> bool
     ensures { result ≡ any_stopped lanes.now }
 {
     lanes.iter().any(|lane| is_stopped(lane))
 }
 
-/// Writes the report, and tells whether a write failed, or else whether a lane stopped.
+/// Writes the report. `Write` if that fails, else `Stopped` if a lane stopped.
 pub fn tell_report<H: Shown, W: Sink>(sink: &mut W, report: &Report<H>) -> Result<(), ServerFault>
     ensures { IsToldAs (report_by H.count H.text report.now) (any_stopped report.now.lanes.items)
         (W.device sink.old) (W.device sink.new) result }
@@ -40,7 +40,8 @@ pub fn tell_report<H: Shown, W: Sink>(sink: &mut W, report: &Report<H>) -> Resul
     }
 }
 
-/// Writes the report behind the replies, where these were written, and tells the first thing that went wrong.
+/// Writes the report after the replies, unless these could not be written. The error is the first of `Write`, `Read`
+/// and `Stopped` that applies.
 pub fn tell<F: Fn(&Event) -> Outcome + Send, W: Sink>(
     sink: &mut W,
     served: &Served<Recorder<F>>,

@@ -1,4 +1,4 @@
--- What a seat's commits may be where each change is written to a log first.
+-- What the commits of a seat may be if each change is written to a log first.
 use Rattle.std.specs.Prelude.{◌≡◌, ◌⊎◌, ℕ, true, Result, Err}
 use Rattle.up_headers.specs.declared.request.Request.{Request}
 use Rattle.up_log.specs.declared.entry.Entry.{Entry}
@@ -13,11 +13,11 @@ use Rattle.up_dispatch.specs.Keepers.{SeatCommits, SeatPlans}
 use Rattle.up_dispatch.specs.Keeps.{Committing, Gives, Keeping, keeping}
 use Rattle.up_dispatch.specs.Tied.{CommitsAt}
 
--- the entry says this request, with its id and with what the closures said to it
+-- the entry has this request, with its id and with what the closures answered to it
 abbrev pub Says : Entry → Request → ℕ → Asked → Type 0
 Says entry request id asked = (entry.request ≡ request) × (entry.id ≡ id) × (asked_of entry.consent ≡ asked)
 
--- the change has a place in the log, and the board decided on it behind those of the places before, and on no other between
+-- the change has a place in the log, and the board decided on it directly after the entries of the places before
 abbrev pub IsInTurn : (ℕ → QueueId) → ℕ → ℕ → Committing ℕ
 IsInTurn queue lanes max_size count request id asked after_it result =
     (entry : Entry) × (place : ℕ) × Says entry request id asked
@@ -28,17 +28,18 @@ abbrev pub IsRefusedFirst : (ℕ → QueueId) → ℕ → ℕ → Committing ℕ
 IsRefusedFirst queue lanes max_size count request id asked after_it result =
     (is_refusal asked ≡ true) × SeatCommits queue lanes max_size count request id asked after_it result
 
--- the change was not written, so the board heard nothing of it; it is answered as want of memory is
+-- the change was not written, so the board did not see it; the answer is that memory ran out
 abbrev pub IsUnwritten : ℕ → ℕ → Result Done Refusal → Type 0
 IsUnwritten before after_it result = (result ≡ Err refusal.NoMemory) × (after_it ≡ before)
 
--- the commits of a lawful board that has all changes made from the seat, in the order of the log; or the board heard nothing of it
+-- the commits of a lawful board that has all changes made from the seat, in the order of the log; or the board did not
+-- see the change
 abbrev pub StoredCommits : (ℕ → QueueId) → ℕ → ℕ → Committing ℕ
 StoredCommits queue lanes max_size count request id asked after_it result =
     IsInTurn queue lanes max_size count request id asked after_it result
     ⊎ (IsRefusedFirst queue lanes max_size count request id asked after_it result ⊎ IsUnwritten count after_it result)
 
--- such a seat keeps by the plans of a seat and by these commits
+-- such a seat as a keeper, with the plans of a seat and with these commits
 abbrev pub by_stored_seat : (ℕ → QueueId) → ℕ → ℕ → Gives → Keeping ℕ
 by_stored_seat queue lanes max_size gives =
     keeping (SeatPlans queue lanes max_size) (StoredCommits queue lanes max_size) gives

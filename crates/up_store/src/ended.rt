@@ -1,28 +1,29 @@
-//! The uploads of which a shorter log may leave everything out.
+//! The uploads that a shorter log may leave out completely.
 use std::alloc::{AllocError, Global};
 use std::collections::BTreeSet;
 use std::sync::{Mutex, Wait};
 use up_events::Id;
 use up_handed::EndedUpload;
 
-/// How many bytes of a log each event of an upload stands for, at the least, beside the bytes of the upload: an entry
-/// takes twice as many, and is told of by two events at most.
+/// How many bytes of a log each event of an upload accounts for at least, besides the bytes of the upload. An entry
+/// takes twice as many, and has at most two events.
 const BYTES_OF_EVENT: u64 = 32;
 
+/// The uploads, and the size of their entries.
 #[derive(Drop)]
 struct Listed {
     uploads: Vec<EndedUpload>,
-    /// How many bytes of the log their entries take, about.
+    /// About how many bytes of the log their entries take.
     bytes: u64,
 }
 
-/// Uploads that have ended, and all events of which were handed over. Each takes 32 bytes.
+/// Uploads that have ended and whose events were all handed over. Each takes 32 bytes of memory.
 #[derive(Drop)]
 pub struct EndedUploads {
     list: Mutex<Listed>,
 }
 
-/// How many bytes of a log the entries about an upload take, about.
+/// About how many bytes of a log the entries of an upload take.
 fn bytes_of(upload: &EndedUpload) -> u64 {
     upload
         .events
@@ -31,7 +32,7 @@ fn bytes_of(upload: &EndedUpload) -> u64 {
 }
 
 impl EndedUploads {
-    /// None has ended. Takes no memory.
+    /// No upload has ended. Takes no memory.
     pub fn new(alloc: Global) -> EndedUploads {
         EndedUploads {
             list: Mutex::new(Listed {
@@ -41,8 +42,8 @@ impl EndedUploads {
         }
     }
 
-    /// One more has ended, and all of its events were handed over. Out of memory it isn't noted, so that its entries
-    /// stay until the server is started again.
+    /// Adds an upload that has ended and whose events were all handed over. If memory runs out, it is not added, and
+    /// its entries stay in the log until the server is started again.
     pub fn note<R: Wait>(&self, rt: &R, upload: EndedUpload) {
         let mut list = self.list.lock(rt);
         if list.uploads.push(upload).is_ok() {
@@ -50,12 +51,12 @@ impl EndedUploads {
         }
     }
 
-    /// How many bytes of the log the entries about them take, about.
+    /// About how many bytes of the log the entries of these uploads take.
     pub(crate) fn bytes<R: Wait>(&self, rt: &R) -> u64 {
         self.list.lock(rt).bytes
     }
 
-    /// A list of them.
+    /// A copy of the list. The error is that memory ran out.
     pub(crate) fn list<R: Wait>(
         &self,
         rt: &R,
@@ -65,7 +66,7 @@ impl EndedUploads {
         Vec::from_slice(alloc, &list.uploads)
     }
 
-    /// The log has no entry about these any more.
+    /// Removes these uploads, of which the log has no entry any more.
     pub(crate) fn forget<R: Wait>(&self, rt: &R, ids: &BTreeSet<Id>) {
         let mut list = self.list.lock(rt);
         list.uploads.retain(|upload| !ids.contains(&upload.id));

@@ -1,19 +1,21 @@
-//! The log of the changes, as far as it is open.
+//! The log of the changes, and whether it is open.
 use sqlite_disk::Disk;
 use std::alloc::Global;
 use std::mem;
 use up_log::{Log, LogFault, Spelled};
 
-/// Who has the file of the changes.
+/// Who opens the file of the changes.
 pub trait LogFile<D> {
-    /// Opens the file of this generation again, after a call on it failed. It is closed before, if it is given.
+    /// Opens the file of this generation again, after a call on it failed. `failed` is the file if it is still open; it
+    /// is closed first. The error says why it can't be opened.
     fn open_again(&self, generation: u64, failed: Option<D>) -> Result<D, LogFault>;
 }
 
-/// The log of the changes. After a call that failed so that the log takes no more, its file is opened again by the next one.
+/// The log of the changes. If a call fails in such a way that the log accepts no more batches, the next call opens the
+/// file again.
 #[derive(Drop)]
 pub(crate) enum Held<D: Disk> {
-    /// Nothing of it is read yet.
+    /// It was not read yet.
     Unread,
     Open(Log<D>),
     /// A call failed, and the file could not be opened again. The next block begins at this place.
@@ -21,7 +23,7 @@ pub(crate) enum Held<D: Disk> {
 }
 
 impl<D: Disk> Held<D> {
-    /// The log, unless it is closed.
+    /// The log, if it is open.
     pub(crate) fn into_log(self) -> Option<Log<D>>
     where
         D: Drop,
@@ -32,7 +34,7 @@ impl<D: Disk> Held<D> {
         }
     }
 
-    /// The log, unless it is closed.
+    /// The log, if it is open.
     pub(crate) fn log(&self) -> Option<&Log<D>> {
         match self {
             Held::Open(log) => Some(log),
@@ -40,7 +42,7 @@ impl<D: Disk> Held<D> {
         }
     }
 
-    /// The same.
+    /// The log to read and write, if it is open.
     pub(crate) fn log_mut(&mut self) -> Option<&mut Log<D>> {
         match self {
             Held::Open(log) => Some(log),
@@ -48,7 +50,7 @@ impl<D: Disk> Held<D> {
         }
     }
 
-    /// Whether a call on it failed, so that its file is to be opened again.
+    /// Whether a call on it failed, so that the file has to be opened again.
     pub(crate) fn is_failed(&self) -> bool {
         match self {
             Held::Unread => false,
@@ -57,7 +59,7 @@ impl<D: Disk> Held<D> {
         }
     }
 
-    /// Opens the file again, if a call on it failed.
+    /// Opens the file again if a call on it failed. The error says why it can't be opened.
     pub(crate) fn open_again<F: LogFile<D>>(
         &mut self,
         file: &F,
@@ -81,7 +83,8 @@ impl<D: Disk> Held<D> {
         resumed
     }
 
-    /// Adds a batch, and returns once it is on the disk. After an error it isn't in the log, and it may be tried again.
+    /// Appends a batch, and returns once it is on the disk. After an error, the batch may be appended again. `NotRead`
+    /// if the log was not read yet.
     pub(crate) fn append<F: LogFile<D>>(
         &mut self,
         alloc: Global,

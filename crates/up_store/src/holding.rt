@@ -1,4 +1,4 @@
-//! What a store lets those know who make its log shorter, and how they hold it up.
+//! What a store offers to those who make its log shorter, and how they hold up changes.
 use crate::store::Store;
 use sqlite_disk::Disk;
 use std::alloc::Global;
@@ -9,7 +9,7 @@ use up_log::{Entry, LogFault};
 use up_message::Sequence;
 
 impl<D: Disk, N> Store<D, N> {
-    /// How many bytes the log has.
+    /// The size of the log in bytes, or 0 if it is not open.
     pub(crate) fn size<R: Wait>(&self, rt: &R) -> usize {
         match self.log.lock(rt).log() {
             Some(log) => log.end_place(),
@@ -22,7 +22,8 @@ impl<D: Disk, N> Store<D, N> {
         !self.is_failing.load(Ordering::SeqCst)
     }
 
-    /// The batch at a place of the log, and the place behind it; None at the end.
+    /// The batch at a place of the log, and the place after it. `None` at the end of the log. `NotRead` if the log is
+    /// not open; else the error is that of the read.
     pub(crate) fn batch_at<R: Wait>(
         &self,
         rt: &R,
@@ -35,7 +36,7 @@ impl<D: Disk, N> Store<D, N> {
         }
     }
 
-    /// The places of the entries that are void.
+    /// The places of the void entries. `NotRead` if their log was not read yet; else the error is that of the read.
     pub(crate) fn void_places<R: Wait>(
         &self,
         rt: &R,
@@ -47,20 +48,20 @@ impl<D: Disk, N> Store<D, N> {
         }
     }
 
-    /// Waits until nothing is being written and each change that was written had its turn, and holds up the others
-    /// until they are let go.
+    /// Holds up the changes that wait, until `let_go`. Returns when nothing is being written and every change that was
+    /// written has had its turn.
     pub(crate) fn hold<R: Wait>(&self, rt: &R) {
         let mut line = self.line.lock(rt);
         line.hold();
         let _line = self.stillness.wait_while(rt, line, |line| !line.is_still());
     }
 
-    /// No change is made from now on.
+    /// Makes no change from now on.
     pub(crate) fn stop<R: Wait>(&self, rt: &R) {
         self.line.lock(rt).stop();
     }
 
-    /// Lets those go on that were held up.
+    /// Lets the changes go on that were held up.
     pub(crate) fn let_go<R: Wait>(&self, rt: &R) {
         let mut line = self.line.lock(rt);
         line.let_go();

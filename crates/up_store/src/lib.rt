@@ -1,4 +1,4 @@
-//! A seat of a board whose changes are written to a log before they are made.
+//! A store: each change is written to a log on the disk before a board makes it.
 #![tactic(auto)]
 
 mod ended;

@@ -1,32 +1,32 @@
-//! Who is told how it stands with writing changes to the log.
+//! Who is told whether changes can be written to the log.
 use up_log::LogFault;
 use up_replay::Unrestored;
 
-/// Who is told that changes can't be written, and that they can again, and who keeps room on the disk for removals.
+/// Who is told when changes can't be written and when they can again, and who keeps room on the disk for removals.
 pub trait StoreNotices {
-    /// So many entries of the log were carried out again, and conversations are held from now on.
+    /// This many entries of the log were carried out again, and conversations begin now.
     fn is_restored(&self, entries: u64);
 
     /// The changes of the log could not be carried out again, so nothing is served.
     fn is_not_restored(&self, why: Unrestored);
 
-    /// A change could not be written, and the one before it could.
+    /// A change could not be written, after the one before it could.
     fn fails(&self, fault: LogFault);
 
-    /// A change was written, and the one before it could not be.
+    /// Changes can be written again: one was written, or the log could be opened again.
     fn works(&self);
 
-    /// No change is made any more until the server is started again: one that was written could not be made, and this
-    /// could not be written.
+    /// No change is made any more until the server is started again. Either a change was written and not made, and this
+    /// could not be written down; or it is not known which of two logs the next start finds.
     fn stops(&self, fault: LogFault);
 
-    /// A shorter log took the place of the log: it has so many bytes, and the one before had so many.
+    /// A shorter log replaced the log. The sizes of both are in bytes.
     fn is_shorter(&self, before: u64, now: u64);
 
-    /// A shorter log could not be written, so the store goes on with the one that it has.
+    /// A shorter log could not be written, so the store keeps the one that it has.
     fn is_not_shorter(&self, fault: LogFault);
 
-    /// A removal could not be written. Gives up room on the disk that was kept for it, and tells whether there was some:
-    /// then the removal is tried again.
+    /// A removal could not be written. Frees the room on the disk that is kept for removals, and returns whether there
+    /// was some. If there was, the removal is tried again.
     fn makes_room(&self) -> bool;
 }

@@ -15,16 +15,17 @@ use up_machine::Refusal;
 use up_message::Sequence;
 use up_replay::{Unreplayed, Unrestored, fits};
 
-/// The logs of a store, which are open.
+/// The open logs of a store.
 #[derive(Drop)]
 pub struct Logs<D: Disk> {
     pub changes: Log<D>,
     pub voids: Voids<D>,
-    /// How many entries the changes have.
+    /// How many entries the log of the changes has.
     pub count: u64,
 }
 
-/// Carries out the entry at a place of the log again. What refuses it refused it before, too.
+/// Carries out the entry at a place of the log again. If it is refused, it was refused before, too. The error is that
+/// it is too long for a request, or that memory ran out.
 fn carry_out<B: Naming, R: Wait>(
     rt: &R,
     alloc: Global,
@@ -48,8 +49,8 @@ fn carry_out<B: Naming, R: Wait>(
     }
 }
 
-/// Carries out a batch again, whose first entry has this place in the log, but for those entries that are void. Tells
-/// the place behind it.
+/// Carries out the entries of a batch again, except for those that are void. The first of them has the place `first` in
+/// the log. Returns the place after the batch.
 fn carry_out_all<B: Naming, R: Wait>(
     rt: &R,
     alloc: Global,
@@ -71,8 +72,9 @@ fn carry_out_all<B: Naming, R: Wait>(
     Ok(place)
 }
 
-/// Reads the logs of a store to their ends, and carries out the changes again from this seat of a new board, in their
-/// order: its book is then the one that they define. No more than one batch is in memory besides.
+/// Reads the logs of a store to their ends, and carries out the changes again in their order, from this seat of a new
+/// board. Its book is then the one that the changes define. At most one batch is in memory at a time. The error says
+/// why a log can't be read, or why an entry can't be carried out.
 pub fn restore_on<B: Naming, D: Disk, R: Wait>(
     rt: &R,
     alloc: Global,
@@ -103,7 +105,7 @@ where
     }
 }
 
-/// The same, of a log that has at least so many entries: one that has fewer is damaged.
+/// As `restore_on`, for a log that has at least `least` entries. `Damaged` if it has fewer.
 pub(crate) fn restore_all_on<B: Naming, D: Disk, R: Wait>(
     rt: &R,
     alloc: Global,

@@ -1,4 +1,4 @@
-//! Making the log of a store shorter while it is written to.
+//! Making the log of a store shorter while changes are written to it.
 use crate::ended::EndedUploads;
 use crate::folder::Folder;
 use crate::notices::StoreNotices;
@@ -12,13 +12,14 @@ use std::sync::{Mutex, Wait};
 use up_compact::{Head, Heads};
 use up_log::LogFault;
 
-/// How often what was added meanwhile is added to a shorter log before changes are held up for the rest, at most.
+/// How many times at most a shorter log catches up with entries that were added meanwhile, before changes are held up
+/// for the rest.
 const MOST_ROUNDS: u32 = 16;
 
-/// How many entries are few enough to hold changes up for.
+/// If this many entries or fewer are left, changes are held up for them.
 const FEW: u64 = 64;
 
-/// The heads of a store, and the one that counts.
+/// The heads of a store, and the head that counts.
 #[derive(Drop)]
 pub struct Current<D: Disk> {
     pub heads: Heads<D>,
@@ -28,19 +29,20 @@ pub struct Current<D: Disk> {
 /// What makes the log of a store shorter.
 #[derive(Drop)]
 pub struct Shortening<D: Disk, F> {
-    /// None while a shorter log is written.
+    /// `None` while a shorter log is being written.
     current: Mutex<Option<Current<D>>>,
     pub(crate) ended: EndedUploads,
     folder: F,
     lanes: u64,
-    /// How many bytes a log has, at the least, that is made shorter.
+    /// A log is made shorter only if it has more bytes than this.
     least: u64,
-    /// How many it has before that is tried again.
+    /// The next try is made when the log has more bytes than this.
     next: AtomicU64,
 }
 
 impl<D: Disk, F> Shortening<D, F> {
-    /// For the store of so many lanes that has these heads, once its log has at least so many bytes.
+    /// For the store with these heads and this many lanes. Its log is made shorter only if it has more than `least`
+    /// bytes.
     pub fn new(
         current: Current<D>,
         ended: EndedUploads,
@@ -67,7 +69,7 @@ impl<D: Disk, F> Shortening<D, F> {
         self.current.into_inner()
     }
 
-    /// How many entries the log has, at the least, that the last head tells of.
+    /// How many entries the log has at least, according to the last head.
     pub(crate) fn entries<R: Wait>(&self, rt: &R) -> u64 {
         match self.current.lock(rt).as_ref() {
             Some(current) => current.head.entries,
@@ -75,7 +77,7 @@ impl<D: Disk, F> Shortening<D, F> {
         }
     }
 
-    /// How often the log was made shorter, by the last head.
+    /// How many times the log was made shorter, according to the last head.
     pub(crate) fn generation<R: Wait>(&self, rt: &R) -> u64 {
         match self.current.lock(rt).as_ref() {
             Some(current) => current.head.generation,
@@ -83,7 +85,7 @@ impl<D: Disk, F> Shortening<D, F> {
         }
     }
 
-    /// Whether the log of the store is long, and what it may leave out is over half of it.
+    /// Whether the log of the store is long and works, and more than half of it may be left out.
     fn is_due<N, R: Wait>(&self, rt: &R, store: &Store<D, N>) -> bool {
         let less = self.ended.bytes(rt);
         if less <= self.least / 2 {
@@ -95,8 +97,9 @@ impl<D: Disk, F> Shortening<D, F> {
 }
 
 impl<D: Disk + Drop, F: Folder<D>> Shortening<D, F> {
-    /// Puts a shorter log in the place of a store's, if that is due and nobody is at it. Changes are made meanwhile, but
-    /// for a moment at the end. If it fails the store goes on with the log that it has.
+    /// Replaces the log of a store by a shorter one, if that is due and nobody else does it. Changes are made
+    /// meanwhile, except for a moment at the end. If it fails, the store keeps the log that it has. If it is then not
+    /// known which log the next start finds, no more changes are made.
     pub fn shorten<N: StoreNotices, R: Wait>(&self, rt: &R, alloc: Global, store: &Store<D, N>) {
         if !self.is_due(rt, store) {
             return;
@@ -119,7 +122,7 @@ impl<D: Disk + Drop, F: Folder<D>> Shortening<D, F> {
         *self.current.lock(rt) = Some(current);
     }
 
-    /// Tells why no shorter log took the place of the store's.
+    /// Reports why the log was not replaced.
     fn tell<N: StoreNotices>(&self, store: &Store<D, N>, kept: Kept) {
         match kept {
             Kept::Long => {}
@@ -128,7 +131,7 @@ impl<D: Disk + Drop, F: Folder<D>> Shortening<D, F> {
         }
     }
 
-    /// Writes a shorter log, and puts it in the place of the store's.
+    /// Writes a shorter log, and replaces the log of the store by it. Removes the log that is not used.
     fn replace<N: StoreNotices, R: Wait>(
         &self,
         rt: &R,
@@ -184,7 +187,7 @@ impl<D: Disk + Drop, F: Folder<D>> Shortening<D, F> {
         switched
     }
 
-    /// Adds what is left to a shorter log while the store's line is held up, and switches to it.
+    /// Adds what is left to a shorter log, while the changes of the store are held up, and switches to it.
     fn switch<N, R: Wait>(
         &self,
         rt: &R,
@@ -222,7 +225,7 @@ impl<D: Disk + Drop, F: Folder<D>> Shortening<D, F> {
 }
 
 impl<D: Disk> Current<D> {
-    /// Makes another head the one that counts. If that fails the one before counts, unless it isn't known which does.
+    /// Makes this the head that counts. If that fails, the head before it counts, unless the error is `Unknown`.
     fn change(&mut self, alloc: Global, head: Head) -> Result<(), Kept> {
         match self.heads.add(alloc, &head) {
             Ok(()) => {
@@ -230,7 +233,7 @@ impl<D: Disk> Current<D> {
                 Ok(())
             }
             Err(LogFault::Memory) => Err(Kept::Fault(LogFault::Memory)),
-            // A log that takes the head of before once more has that for its last.
+            // If the log takes the head before once more, that is its last one.
             Err(fault) => match self.heads.add(alloc, &self.head) {
                 Ok(()) => Err(Kept::Fault(fault)),
                 Err(_) => Err(Kept::Unknown(fault)),

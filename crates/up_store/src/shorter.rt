@@ -1,4 +1,4 @@
-//! A shorter log, while it is written.
+//! A shorter log, while it is being written.
 use crate::folder::Folder;
 use crate::store::Store;
 use crate::voids::Voids;
@@ -12,14 +12,14 @@ use up_handed::EndedUpload;
 use up_log::{Log, LogFault, LogReader};
 use up_message::Sequence;
 
-/// Why no shorter log takes the place of a log.
+/// Why a log was not replaced by a shorter one.
 #[derive(Clone, Copy)]
 pub(crate) enum Kept {
-    /// It would not be so much shorter.
+    /// The new one would not be short enough.
     Long,
-    /// It could not be written.
+    /// The new one could not be written.
     Fault(LogFault),
-    /// It isn't known which of the two a start finds, so that no change may be made until then.
+    /// It is not known which of the two the next start finds, so no change may be made until then.
     Unknown(LogFault),
 }
 
@@ -35,14 +35,14 @@ impl From<AllocError> for Kept {
     }
 }
 
-/// A shorter log, and how far the longer one was gone through for it.
+/// A shorter log, and how far the longer log was read for it.
 #[derive(Drop)]
 pub(crate) struct Shorter<D: Disk> {
     pub(crate) changes: Log<D>,
     pub(crate) voids: Voids<D>,
     pub(crate) left_out: LeftOut,
     pub(crate) progress: Progress,
-    /// How many bytes it may have: half as many as the longer one had.
+    /// How many bytes it may have: half as many as the longer log had.
     most: usize,
 }
 
@@ -55,7 +55,7 @@ fn ids_of(alloc: Global, uploads: &[EndedUpload]) -> Result<BTreeSet<Id>, AllocE
     Ok(ids)
 }
 
-/// A new log, which has nothing to read.
+/// Opens a new log, which must have nothing to read. `Foreign` if it has a batch.
 fn emptied<D: Disk>(alloc: Global, reader: LogReader<D>) -> Result<Log<D>, LogFault>
 where
     D: Drop,
@@ -70,7 +70,7 @@ where
     }
 }
 
-/// The uploads of which a shorter log of this store leaves everything out.
+/// The uploads that a shorter log of this store leaves out completely.
 fn survey<D: Disk, N, R: Wait>(
     rt: &R,
     alloc: Global,
@@ -93,7 +93,8 @@ fn survey<D: Disk, N, R: Wait>(
     Ok(survey.left_out(ids_of(alloc, ended)?))
 }
 
-/// How many events of each lane a log leaves out that is to follow the one with this head.
+/// How many events of each lane the next log leaves out: those that the log with this head leaves out, and those of the
+/// uploads that are left out now.
 pub(crate) fn left_out_events(
     alloc: Global,
     head: &Head,
@@ -121,7 +122,8 @@ impl<D: Disk> Shorter<D>
 where
     D: Drop,
 {
-    /// Makes an empty one for the log of a store, which leaves out these uploads where nothing of them has to stay.
+    /// Makes an empty log that is to replace the log of a store. It leaves out those of these uploads of which nothing
+    /// has to stay. `Long` if there are none.
     pub(crate) fn begin<N, F: Folder<D>, R: Wait>(
         rt: &R,
         alloc: Global,
@@ -148,7 +150,8 @@ where
         })
     }
 
-    /// Adds the next batch of the store's log, if all of its entries stand before this place. Tells whether they do.
+    /// Adds the next batch of the store's log, if all of its entries come before the place `end`. Returns whether they
+    /// do. `Long` if the new log has become too long.
     fn add_next<N, R: Wait>(
         &mut self,
         rt: &R,
@@ -177,7 +180,8 @@ where
         Ok(true)
     }
 
-    /// Adds the batches of a store's log all of whose entries had their turn by now. Tells how many entries that were.
+    /// Adds the batches of the store's log whose entries have all had their turn by now. Returns how many entries these
+    /// are.
     pub(crate) fn add_settled<N, R: Wait>(
         &mut self,
         rt: &R,

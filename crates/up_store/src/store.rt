@@ -1,4 +1,4 @@
-//! What seats share whose changes are written to a log first.
+//! What the seats of a store share.
 use crate::held::{Held, LogFile};
 use crate::line::{Line, Next};
 use crate::notices::StoreNotices;
@@ -10,32 +10,32 @@ use std::sync::atomic::{AtomicBool, AtomicU64, Ordering};
 use std::sync::{Condvar, Mutex, Wait};
 use up_log::{Log, LogFault, Spelled};
 
-/// How many bells there are: more connections than these share them.
+/// The number of bells. If there are more connections, they share them.
 const BELLS: u64 = 64;
 
 /// What became of a change whose turn it was.
 #[derive(Clone, Copy, PartialEq, Eq)]
 pub(crate) enum Turn {
-    /// It is on the disk, and was decided on.
+    /// It is on the disk, and the board decided on it.
     Decided,
-    /// It is on the disk, and was not decided on: memory for it was refused, or the board was closed before.
+    /// It is on the disk, and the board did not decide on it: memory ran out, or the board was closed before.
     Void,
     /// It could not be written.
     Lost,
 }
 
-/// A log, and the line of the changes that wait to be written to it and to be made. Whoever waits writes those that
-/// wait, if nobody else does, with no lock held but the log's, which nobody else wants.
+/// A log, and the line of the changes that wait to be written to it and to be made. A thread that waits for its change
+/// writes the changes that wait, if no other thread does. Only the lock of the log is held meanwhile.
 #[derive(Drop)]
 pub struct Store<D: Disk, N> {
     pub(crate) line: Mutex<Line>,
     pub(crate) log: Mutex<Held<D>>,
     pub(crate) voids: Mutex<Option<Voids<D>>>,
-    /// Each wakes those that wait whose number has its place for a remainder.
+    /// A change waits at the bell whose place is its number modulo `BELLS`.
     bells: Vec<Condvar>,
-    /// Wakes who waits until nothing is written and each change had its turn.
+    /// Wakes the thread that waits until nothing is being written and every change has had its turn.
     pub(crate) stillness: Condvar,
-    /// How often a shorter log took the place of the log.
+    /// How many times a shorter log replaced the log.
     generation: AtomicU64,
     /// Whether the last batch could not be written.
     pub(crate) is_failing: AtomicBool,
@@ -43,7 +43,7 @@ pub struct Store<D: Disk, N> {
 }
 
 impl<D: Disk, N> Store<D, N> {
-    /// Over logs that are not read yet, so that nothing can be written. An error is want of memory.
+    /// A store whose logs were not read yet, so that nothing can be written. The error is that memory ran out.
     pub fn unread(alloc: Global, notices: N) -> Result<Store<D, N>, AllocError>
     where
         D: Drop,
@@ -66,7 +66,7 @@ impl<D: Disk, N> Store<D, N> {
         })
     }
 
-    /// Opens it over logs that were read to their ends, and to which nobody else writes.
+    /// Opens the store with logs that were read to their ends, and to which nobody else writes.
     pub fn open<R: Wait>(&self, rt: &R, logs: Logs<D>)
     where
         D: Drop,
@@ -80,7 +80,7 @@ impl<D: Disk, N> Store<D, N> {
         self.hold_logs(rt, changes, voids);
     }
 
-    /// Goes on with shorter logs, while the line is held up.
+    /// Goes on with these shorter logs. It is called while the line is held up.
     pub(crate) fn switch<R: Wait>(&self, rt: &R, logs: Logs<D>)
     where
         D: Drop,
@@ -94,7 +94,7 @@ impl<D: Disk, N> Store<D, N> {
         self.hold_logs(rt, changes, voids);
     }
 
-    /// These are the logs from now on.
+    /// Uses these logs from now on.
     fn hold_logs<R: Wait>(&self, rt: &R, changes: Log<D>, voids: Voids<D>)
     where
         D: Drop,
@@ -103,17 +103,18 @@ impl<D: Disk, N> Store<D, N> {
         *self.log.lock(rt) = Held::Open(changes);
     }
 
-    /// How often a shorter log took the place of the log.
+    /// How many times a shorter log replaced the log.
     pub(crate) fn generation(&self) -> u64 {
         self.generation.load(Ordering::SeqCst)
     }
 
-    /// The log is of this generation.
+    /// The log is now of this generation.
     pub(crate) fn set_generation(&self, generation: u64) {
         self.generation.store(generation, Ordering::SeqCst);
     }
 
-    /// The logs, with all that was written to them. None if it was never opened, or if one of them is closed.
+    /// The logs, with everything that was written to them. `None` if the store was never opened, or if the log of the
+    /// changes is not open.
     pub fn into_logs(self) -> Option<Logs<D>>
     where
         D: Drop,
@@ -128,12 +129,13 @@ impl<D: Disk, N> Store<D, N> {
         })
     }
 
-    /// Draws the next number for a change. The error is want of memory.
+    /// Draws the next number for a change. The error is that memory or the numbers ran out, or that no change is made
+    /// any more.
     pub(crate) fn draw<R: Wait>(&self, rt: &R, change: Spelled) -> Result<u64, AllocError> {
         self.line.lock(rt).draw(change)
     }
 
-    /// The place in the log of the change whose turn it is: how many entries of the log had their turn before.
+    /// The place in the log of the change whose turn it is, which is the number of entries that had their turn before.
     pub(crate) fn place<R: Wait>(&self, rt: &R) -> u64 {
         self.line.lock(rt).place()
     }
@@ -143,21 +145,21 @@ impl<D: Disk, N> Store<D, N> {
         self.line.lock(rt).decided()
     }
 
-    /// Wakes those that wait whose number may be this.
+    /// Wakes the threads that wait at the bell of this number.
     fn ring(&self, number: u64) {
         if let Some(bell) = self.bells.get((number % BELLS) as usize) {
             bell.notify_all();
         }
     }
 
-    /// Wakes those that may go on.
+    /// Wakes the threads that may go on: those at the bells of these two numbers, and one that holds up the line.
     pub(crate) fn go_on(&self, first: (u64, u64)) {
         self.ring(first.0);
         self.ring(first.1);
         self.stillness.notify_all();
     }
 
-    /// What comes next for the change of this number, once anything does.
+    /// Waits until there is something to do for the change with this number, and returns what.
     fn next<R: Wait>(&self, rt: &R, alloc: Global, number: u64) -> Next {
         let line = self.line.lock(rt);
         let Some(bell) = self.bells.get((number % BELLS) as usize) else {
@@ -169,7 +171,7 @@ impl<D: Disk, N> Store<D, N> {
 }
 
 impl<D: Disk + Drop, N: StoreNotices + LogFile<D>> Store<D, N> {
-    /// Writes a batch, tells whom it concerns where that is new, and tells the line.
+    /// Writes a batch, reports it if writing has begun to fail or works again, and notes the result in the line.
     fn write<R: Wait>(&self, rt: &R, alloc: Global, batch: Vec<Spelled>) {
         let written = self
             .log
@@ -187,13 +189,13 @@ impl<D: Disk + Drop, N: StoreNotices + LogFile<D>> Store<D, N> {
         self.go_on(line.first_two());
     }
 
-    /// Gives up room on the disk that was kept for removals. Tells whether there was some.
+    /// Frees the room on the disk that is kept for removals. Returns whether there was some.
     pub(crate) fn makes_room(&self) -> bool {
         self.notices.makes_room()
     }
 
-    /// Waits until it is the turn of the change of this number, and writes others meanwhile if nobody else does. Tells
-    /// whether the change is on the disk.
+    /// Waits for the turn of the change with this number, and writes batches meanwhile if nobody else does. Returns
+    /// whether the change is on the disk and may be made.
     pub(crate) fn await_turn<R: Wait>(&self, rt: &R, alloc: Global, number: u64) -> bool {
         for _ in rt.forever() {
             match self.next(rt, alloc, number) {
@@ -206,8 +208,8 @@ impl<D: Disk + Drop, N: StoreNotices + LogFile<D>> Store<D, N> {
         false
     }
 
-    /// Says that the change whose turn it is is void. If that can't be written no other change can be made, since each
-    /// would be decided otherwise once the log is read again.
+    /// Writes down that the change whose turn it is was not made. If that can't be written, no other change can be
+    /// made, because it might be decided differently when the log is read again.
     fn note_void<R: Wait>(&self, rt: &R, alloc: Global) {
         let place = self.place(rt);
         let written = match self.voids.lock(rt).as_mut() {

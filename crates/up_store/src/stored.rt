@@ -16,7 +16,7 @@ use up_headers::Request;
 use up_log::{Consent, Entry, Spelled};
 use up_machine::{Asked, Done, Plan, Refusal};
 
-/// A board, by one of its seats, and a log. Each change is on the disk before the board hears of it.
+/// A board, through one of its seats, and a log. Each change is on the disk before the board makes it.
 #[derive(Drop)]
 pub struct Stored<'a, B: Naming, D: Disk, N, R: Wait> {
     rt: &'a R,
@@ -25,7 +25,7 @@ pub struct Stored<'a, B: Naming, D: Disk, N, R: Wait> {
     seat: &'a mut Seat<B>,
 }
 
-/// What the closures said, unless one of them refuses.
+/// What the closures answered. `None` if one of them refuses.
 fn consent_of(asked: &Asked) -> Option<Consent>
     ensures said { IfSome result (λ consent. asked_of consent ≡ asked.now) }
     ensures refused { IfNone result (is_refusal asked.now ≡ true) }
@@ -38,7 +38,7 @@ fn consent_of(asked: &Asked) -> Option<Consent>
     }
 }
 
-/// The answer to a change. One that the board didn't take is answered as want of memory is.
+/// The answer to a change. If the board did not decide on it, the answer is that memory ran out.
 fn answer_of(decided: Option<Result<Done, Refusal>>) -> Result<Done, Refusal>
     ensures taken { IfSome decided (λ answer. result ≡ answer) }
     ensures refused { IfNone decided (result ≡ Err NoMemory) }
@@ -50,7 +50,7 @@ fn answer_of(decided: Option<Result<Done, Refusal>>) -> Result<Done, Refusal>
 }
 
 impl<'a, B: Naming, D: Disk + Drop, N: StoreNotices + LogFile<D>, R: Wait> Stored<'a, B, D, N, R> {
-    /// Takes the seat.
+    /// Borrows the seat.
     pub fn new(
         rt: &'a R,
         board: &'a Board<B>,
@@ -58,7 +58,8 @@ impl<'a, B: Naming, D: Disk + Drop, N: StoreNotices + LogFile<D>, R: Wait> Store
         seat: &'a mut Seat<B>,
     ) -> Stored<'a, B, D, N, R>
         ensures state { ⟦<Stored<'a, B, D, N, R> as Keeper>⟧.state result ≡ seat.old }
-        ensures lender { ⟦<Stored<'a, B, D, N, R> as Keeper>⟧.lender result ≡ seat.entry.ghost_name }
+        ensures lender { ⟦<Stored<'a, B, D, N, R> as Keeper>⟧.lender result
+            ≡ seat.entry.ghost_name }
     {
         Stored {
             rt,
@@ -70,8 +71,8 @@ impl<'a, B: Naming, D: Disk + Drop, N: StoreNotices + LogFile<D>, R: Wait> Store
 }
 
 impl<B: Naming, D: Disk + Drop, N: StoreNotices + LogFile<D>, R: Wait> Stored<'_, B, D, N, R> {
-    /// Writes a change, waits for its turn, and tells whether it is on the disk; if it isn't, its turn is over. An error is
-    /// want of memory, and no turn was drawn then.
+    /// Writes a change and waits for its turn. Returns whether it is on the disk and may be made; if not, its turn is
+    /// over. The error is that memory ran out, or that no change is made any more; it has no turn then.
     fn write(&self, alloc: Global, entry: &Entry) -> Result<bool, AllocError> {
         let change = Spelled::new(alloc, entry)?;
         let number = self.store.draw(self.rt, change)?;
@@ -82,7 +83,7 @@ impl<B: Naming, D: Disk + Drop, N: StoreNotices + LogFile<D>, R: Wait> Stored<'_
         Ok(is_on_disk)
     }
 
-    /// The same. If the disk takes no removal, the room that is kept for removals is given up, and it is tried again.
+    /// As `write`. If a removal can't be written, frees the room that is kept for removals, and tries once more.
     fn keep(&self, alloc: Global, entry: &Entry) -> Result<bool, AllocError> {
         if self.write(alloc, entry)? {
             return Ok(true);

@@ -1,4 +1,4 @@
-//! What is done for a store whether or not there are changes.
+//! What is done for a store from time to time, whether or not there are changes.
 use crate::folder::Folder;
 use crate::held::LogFile;
 use crate::keeping::Keeping;
@@ -10,11 +10,11 @@ use std::sync::Wait;
 use std::sync::atomic::Ordering;
 use std::time::Duration;
 
-/// How many seconds pass before the store is looked at again.
+/// How many seconds pass before the store is checked again.
 const PAUSE: u64 = 1;
 
 impl<D: Disk + Drop, N: StoreNotices + LogFile<D>> Store<D, N> {
-    /// Opens the log again if a call on it failed, and tells that it works again.
+    /// Opens the log again if a call on it failed, and reports that it works again.
     pub fn tend<R: Wait>(&self, rt: &R) {
         let mut held = self.log.lock(rt);
         if !held.is_failed() || held.open_again(&self.notices, self.generation()).is_err() {
@@ -27,8 +27,8 @@ impl<D: Disk + Drop, N: StoreNotices + LogFile<D>> Store<D, N> {
 }
 
 impl<D: Disk + Drop, N: StoreNotices + LogFile<D>, F: Folder<D>> Keeping<D, N, F> {
-    /// Tends the store each second, until `stop_tending` is called: opens its log again if a call on it failed, and makes it
-    /// shorter if that is due.
+    /// Tends the store every second, until `stop_tending` is called: opens its log again if a call on it failed, and
+    /// makes it shorter if that is due.
     pub fn tend<R: Wait>(&self, rt: &R, alloc: Global) {
         for _ in rt.forever() {
             self.is_over.park_timeout(rt, 0, Duration::from_secs(PAUSE));

@@ -6,14 +6,15 @@ use up_events::Id;
 use up_headers::Request;
 use up_log::{Consent, Entry, Log, LogFault, LogReader, Spelled};
 
-/// The places of those entries of a log that are on the disk and were not carried out, since memory was wanting then. They
-/// stand in a log of their own, each as an entry that asks for nothing and has the place for its id.
+/// The places of the entries of a log that are on the disk and were not carried out, because memory ran out or the
+/// board was closed. They have a log of their own, where each is an entry that asks for nothing and has the place as
+/// its id.
 #[derive(Drop)]
 pub struct Voids<D: Disk> {
     log: Log<D>,
 }
 
-/// The entry that says it of this place.
+/// The entry for this place.
 fn void_of(place: u64) -> Entry {
     Entry {
         id: Id::new(u128::from(place)),
@@ -22,7 +23,7 @@ fn void_of(place: u64) -> Entry {
     }
 }
 
-/// Adds the places that these entries say.
+/// Adds the places of these entries.
 fn take_places(places: &mut BTreeSet<u64>, entries: &[Entry]) -> Result<(), AllocError> {
     for entry in entries {
         if let Ok(place) = u64::try_from(entry.id.number()) {
@@ -33,7 +34,8 @@ fn take_places(places: &mut BTreeSet<u64>, entries: &[Entry]) -> Result<(), Allo
 }
 
 impl<D: Disk> Voids<D> {
-    /// Reads them to the end.
+    /// Reads the log of the voids to its end, and returns their places too. The error says why it can't be read, or
+    /// that memory ran out.
     pub fn read(alloc: Global, reader: LogReader<D>) -> Result<(Voids<D>, BTreeSet<u64>), LogFault>
     where
         D: Drop,
@@ -52,7 +54,7 @@ impl<D: Disk> Voids<D> {
         }
     }
 
-    /// The places that were said.
+    /// The places of all voids. The error says why the log can't be read, or that memory ran out.
     pub(crate) fn places(&mut self, alloc: Global) -> Result<BTreeSet<u64>, LogFault> {
         let mut places = BTreeSet::new(alloc);
         let mut place = Log::<D>::first_place();
@@ -66,12 +68,12 @@ impl<D: Disk> Voids<D> {
         Ok(places)
     }
 
-    /// The file, which takes no more.
+    /// The file. These voids are then used up.
     pub fn into_device(self) -> D {
         self.log.into_device()
     }
 
-    /// Says it of one place more. It is on the disk at `Ok`.
+    /// Adds a place, and returns once it is on the disk. The error is that of the write, or that memory ran out.
     pub fn add(&mut self, alloc: Global, place: u64) -> Result<(), LogFault> {
         let mut batch = Vec::new(alloc);
         batch.push(Spelled::new(alloc, &void_of(place))?)?;

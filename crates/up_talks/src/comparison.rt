@@ -77,7 +77,8 @@ pub fn compare<'a>(
     served: &'a Served,
 ) -> Result<Comparison<'a>, AllocError>
     ensures written { result ≡ Ok Same → talk.now.wanted.items ≡ served.now.written.items }
-    ensures line { (line : _) → result ≡ Ok (Line line) → talk.now.wanted.items ≢ served.now.written.items }
+    ensures line { (line : _) → result ≡ Ok (Line line)
+        → talk.now.wanted.items ≢ served.now.written.items }
     ensures ended { IsNone talk.now.fault → result ≡ Ok Same → IsOk served.now.ended }
     ensures twin { result ≡ Ok Same → IsPrefix served.now.twin.items served.now.written.items }
 {

@@ -30,7 +30,8 @@ pub fn taken_apart<D: Disk, J: Site>(
     written: Written<D, J>,
     committed: Committed<J>,
 ) -> (Log<D>, Book)
-    ensures tied { length committed ≡ length written → IsTied D.Disk result.0 J.setup J.premise result.1 }
+    ensures tied { length committed ≡ length written
+        → IsTied D.Disk result.0 J.setup J.premise result.1 }
 {
     // For the prover: a law, which does nothing when it runs.
     agree(&written, &committed);

@@ -1,10 +1,12 @@
 //! Reading a body.
-ghost use Rattle.std.specs.Prelude.{◌≡◌, ◌+◌, ◌-◌, ◌<◌, ◌≤◌, ◌⊎◌, ◌∷◌, ◌++◌, [], List, ℕ, length, take, vec_len, true, false, OnOk, IfErr};
+ghost use Rattle.std.specs.Prelude.{◌≡◌, ◌+◌, ◌-◌, ◌<◌, ◌≤◌, ◌⊎◌, ◌∷◌, ◌++◌, []};
+ghost use Rattle.std.specs.Prelude.{List, ℕ, length, take, vec_len, true, false, OnOk, IfErr};
 ghost use Rattle.std.specs.Io.KnownBytes.{Consumes};
 ghost use Rattle.up_wire.specs.Device.{Counts};
 ghost use Rattle.up_wire.specs.Message.{Ending};
 ghost use Rattle.up_wire.specs.Limits.{max_interruptions, large};
-ghost use Rattle.up_wire.specs.Steps.{EndsSo, IsBodyRead, batch_ending, IsBatch, IsBytesRead, IsFrontRead, IsBounded, IsBoundedBy, HasBoundedBody, stopped};
+ghost use Rattle.up_wire.specs.Steps.{EndsSo, IsBodyRead, batch_ending, IsBatch, IsBytesRead};
+ghost use Rattle.up_wire.specs.Steps.{IsFrontRead, IsBounded, IsBoundedBy, HasBoundedBody, stopped};
 
 use crate::chunks::read_chunks;
 use crate::device::{ReadSome, Source};

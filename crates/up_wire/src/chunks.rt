@@ -5,7 +5,8 @@ ghost use Rattle.httparse.specs.Grammar.{HasNoSection};
 ghost use Rattle.up_wire.specs.Device.{Counts};
 ghost use Rattle.up_wire.specs.Message.{Ending};
 ghost use Rattle.up_wire.specs.Limits.{max_interruptions};
-ghost use Rattle.up_wire.specs.Steps.{EndsSo, IsBodyRead, HasBoundedBody, IsLineRead, IsByteRead, IsCrlfRead, AreParsed, IsStopBehind, AreTrailersRead};
+ghost use Rattle.up_wire.specs.Steps.{EndsSo, IsBodyRead, HasBoundedBody, IsLineRead, IsByteRead};
+ghost use Rattle.up_wire.specs.Steps.{IsCrlfRead, AreParsed, IsStopBehind, AreTrailersRead};
 
 use crate::body::{BodyRead, Stop, read_bytes};
 use crate::device::Source;

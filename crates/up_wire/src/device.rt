@@ -1,7 +1,9 @@
 //! Sources and sinks of bytes.
 ghost use Rattle.std.specs.Prelude.{◌≡◌, ℕ, ◌+◌, ◌<◌, ◌≤◌, IsTrue, List, ◌++◌, length, take, vec_len, vec_capacity};
 ghost use Rattle.std.specs.Io.KnownBytes.{Consumes, Appends, Keeps};
-ghost use Rattle.up_wire.specs.Device.{Device, given, is_failed_read, interrupted_reads, EndsAt, IsRun, is_failed_run, interrupted_runs, RunEndsAt, KeepsRoom, IsInLine, taken, is_failed_write, interrupted_writes, TakesSome};
+ghost use Rattle.up_wire.specs.Device.{Device, given, is_failed_read, interrupted_reads, EndsAt, IsRun};
+ghost use Rattle.up_wire.specs.Device.{is_failed_run, interrupted_runs, RunEndsAt, KeepsRoom, IsInLine};
+ghost use Rattle.up_wire.specs.Device.{taken, is_failed_write, interrupted_writes, TakesSome};
 
 /// The result of asking a source for its next byte.
 #[derive(Clone, Copy, Debug, PartialEq, Eq)]

@@ -1,5 +1,6 @@
 //! A reader of std as a source.
-ghost use Rattle.std.specs.Prelude.{◌≡◌, ℕ, ◌<◌, ◌≤◌, ◌⊎◌, ◌↔◌, ◌+◌, false, not, IsTrue, List, [], ◌++◌, Some, IfOk, OnErr, length, take, vec_len, vec_capacity, if◌then◌else◌};
+ghost use Rattle.std.specs.Prelude.{◌≡◌, ◌<◌, ◌≤◌, ◌⊎◌, ◌↔◌, ◌+◌, ◌++◌, [], ℕ, false, not, IsTrue, List};
+ghost use Rattle.std.specs.Prelude.{Some, IfOk, OnErr, length, take, vec_len, vec_capacity, if◌then◌else◌};
 ghost use Rattle.std.specs.Io.KnownBytes.{Consumes, Keeps, IsAtEnd};
 ghost use Rattle.up_wire.specs.Device.{device_of, maybe_byte, IsNoneAtEnd, IsInLine, IsInterruption};
 

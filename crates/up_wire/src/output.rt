@@ -1,6 +1,7 @@
 //! A writer of std as a sink.
 ghost use Rattle.std.specs.Prelude.{◌≡◌, ◌+◌, ◌↔◌, false, IsFalse};
-ghost use Rattle.up_wire.specs.Device.{device_of, IsNothing, is_failed_write, interrupted_writes, IsInterruption, IsWriteAnswer};
+ghost use Rattle.up_wire.specs.Device.{device_of, IsNothing, is_failed_write};
+ghost use Rattle.up_wire.specs.Device.{interrupted_writes, IsInterruption, IsWriteAnswer};
 
 use crate::device::{Sink, WriteSome};
 use std::io::{self, ErrorKind, Write};

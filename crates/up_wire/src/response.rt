@@ -3,7 +3,8 @@ ghost use Rattle.std.specs.Prelude.{◌≡◌, ◌+◌, ◌<◌, ◌≤◌, flat
 ghost use Rattle.up_wire.specs.Device.{GaveUp, Tries, interrupted};
 ghost use Rattle.up_wire.specs.Limits.{max_interruptions};
 ghost use Rattle.up_wire.specs.Steps.{WritesIf};
-ghost use Rattle.up_wire.specs.Response.{Writes, phrase, start_text, field_line, length_line, gap_text, end_text, response_text};
+ghost use Rattle.up_wire.specs.Response.{Writes, phrase, start_text, field_line};
+ghost use Rattle.up_wire.specs.Response.{length_line, gap_text, end_text, response_text};
 ghost use Rattle.up_message.specs.Joins.{pieced};
 
 use crate::device::Sink;

@@ -258,7 +258,8 @@ fn shard_of(serve: &ArgMatches<'_>) -> Option<u8> {
 
 /// A text from the command line, if it is given.
 fn text_of(alloc: Global, matches: &ArgMatches<'_>, id: &str) -> Result<Option<String>, AllocError>
-    ensures { IfOk result (λ text. option_map string_bytes text ≡ first_value (found_of matches.now) id.now) }
+    ensures { IfOk result (λ text.
+        option_map string_bytes text ≡ first_value (found_of matches.now) id.now) }
 {
     match matches.get_str(id) {
         Some(text) => Ok(Some(String::from_str(alloc, text)?)),
