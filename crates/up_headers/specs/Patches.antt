@@ -1,5 +1,5 @@
 -- The PATCH of an upload (tus 1.0.0, PATCH).
-use Rattle.std.specs.Prelude.{ℕ, ◌-◌, ◌^◌, ◌==◌, Bool, List, codes, Option, Some, None, Result, Ok, Err, if◌then◌else◌, min}
+use Rattle.std.specs.Prelude.{ℕ, ◌-◌, ◌^◌, ◌==◌, Bool, List, codes, Option, Some, None, option_map, ok_or, Result, if◌then◌else◌, min}
 use Rattle.std.specs.List.{before_first}
 use Rattle.std.specs.Str.Parse.{digits_value}
 use Rattle.httparse.specs.Ascii.{semicolon}
@@ -7,7 +7,7 @@ use Rattle.up_message.specs.Digits.{is_digits}
 use Rattle.up_message.specs.Fields.{Field, same_name, trim_end_ows}
 use Rattle.up_headers.specs.declared.request.Patch.{Patch}
 use Rattle.up_headers.specs.declared.request.NotDigits.{NotDigits}
-use Rattle.up_headers.specs.Fields.{stands, value_in}
+use Rattle.up_headers.specs.Fields.{value_in, text_in}
 
 -- a content type without its parameters
 abbrev pub before_semicolon : List ℕ → List ℕ
@@ -21,22 +21,16 @@ is_media text = same_name (trim_end_ows (before_semicolon text)) (codes "applica
 abbrev pub number_of : List ℕ → Option ℕ
 number_of text = if is_digits text then Some (min (digits_value 10 text) (2 ^ 64 - 1)) else None
 
--- the number, if there is one
-abbrev pub number_or_fault : Option ℕ → Result ℕ NotDigits
-number_or_fault None = Err (record {})
-number_or_fault (Some number) = Ok number
-
--- the length that is declared, if the field is there
-abbrev pub declared_in : List Field → Option (Result ℕ NotDigits)
-declared_in fields =
-    if stands (codes "upload-length") fields then Some (number_or_fault (number_of (value_in (codes "upload-length") fields))) else None
+-- the length that is declared, if the text is there
+abbrev pub declared_by : Option (List ℕ) → Option (Result ℕ NotDigits)
+declared_by text = option_map (λ digits. ok_or (number_of digits) (record {})) text
 
 -- the PATCH of an upload, from the fields and the body of a message
 abbrev pub patch_of : ℕ → List Field → List ℕ → Patch
 patch_of id fields body = record {
   id = id;
-  media = is_media (value_in (codes "content-type") fields);
-  offset = number_of (value_in (codes "upload-offset") fields);
-  length = declared_in fields;
+  media = is_media (text_in (codes "content-type") fields);
+  offset = number_of (text_in (codes "upload-offset") fields);
+  length = declared_by (value_in (codes "upload-length") fields);
   bytes = body;
 }

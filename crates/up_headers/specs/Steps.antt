@@ -1,16 +1,22 @@
 -- What the steps of the checks return.
-use Rattle.std.specs.Prelude.{◌≡◌, ℕ, ◌⊎◌, List, Option, Some, None, Result, Ok, Err, ⊤}
+use Rattle.std.specs.Borrow.{Bor}
+use Rattle.std.specs.Prelude.{◌≡◌, ℕ, ◌⊎◌, true, false, List, Option, Some, None, option_copied, Result, Ok, Err, ⊤}
 use Rattle.up_message.specs.Fields.{Field}
 use Rattle.up_headers.specs.declared.request.Request.{Request}
-use Rattle.up_headers.specs.declared.request.NewUpload.{NewUpload}
 use Rattle.up_headers.specs.declared.header_fault.HeaderFault.{HeaderFault}
 use Rattle.up_headers.specs.declared.header_fault.HeaderFault.TheVariants as fault
 use Rattle.up_headers.specs.declared.verb.Verb.{Verb}
 use Rattle.up_headers.specs.declared.place.Place.{Place}
 use Rattle.up_headers.specs.Rows.{first_that_holds}
 use Rattle.up_headers.specs.Verbs.{chosen_verb}
-use Rattle.up_headers.specs.Creations.{length_rows, new_length, IsWithin, Creates}
+use Rattle.up_headers.specs.Fields.{is_repeated, value_in}
+use Rattle.up_headers.specs.Creations.{length_rows, new_length, IsWithin}
 use Rattle.up_headers.specs.Table.{early_rows, IsAnswerAt}
+
+-- the value of the only field with this name, if there is one; the fault if there are several
+abbrev pub IsOnce : List ℕ → List Field → Result (Option (Bor (List ℕ))) HeaderFault → Type 0
+IsOnce name fields (Ok value) = (is_repeated name fields ≡ false) × (option_copied value ≡ value_in name fields)
+IsOnce name fields (Err found) = (is_repeated name fields ≡ true) × (found ≡ fault.Repeated)
 
 -- a check that fails returns this fault, and one that succeeds has none
 abbrev pub Passes : Result ⊤ HeaderFault → Option HeaderFault → Type 0
@@ -23,15 +29,10 @@ IsChosen name fields (Ok verb) = (first_that_holds (early_rows name fields) ≡ 
 IsChosen name fields (Err found) = first_that_holds (early_rows name fields) ≡ Some found
 
 -- the length of a new upload, if none of its checks fails
-abbrev pub IsLength : List Field → ℕ → Result (Option ℕ) HeaderFault → Type 0
-IsLength fields max_size (Ok length) = (first_that_holds (length_rows fields max_size) ≡ None) × (length ≡ new_length fields) × IsWithin max_size length
-IsLength fields max_size (Err found) = first_that_holds (length_rows fields max_size) ≡ Some found
-
--- the upload to be created, if none of its checks fails; or memory ran out
-abbrev pub IsCreation : List Field → ℕ → Result NewUpload HeaderFault → Type 0
-IsCreation fields max_size result =
-    (result ≡ Err fault.NoMemory)
-    ⊎ Creates (λ new. new) fields max_size result
+abbrev pub IsLength : List ℕ → Option (List ℕ) → Option (List ℕ) → ℕ → Result (Option ℕ) HeaderFault → Type 0
+IsLength concat length deferred max_size (Ok known) =
+    (first_that_holds (length_rows concat length deferred max_size) ≡ None) × (known ≡ new_length concat length) × IsWithin max_size known
+IsLength concat length deferred max_size (Err found) = first_that_holds (length_rows concat length deferred max_size) ≡ Some found
 
 -- the result of the checks at a place; or memory ran out
 abbrev pub IsStep : Verb → Place → List Field → List ℕ → ℕ → Result Request HeaderFault → Type 0

@@ -1,5 +1,5 @@
 -- What a message asks for: the checks in their order, and the request if none of them fails.
-use Rattle.std.specs.Prelude.{◌≡◌, ℕ, ◌⊎◌, Bool, true, false, not, ◌&&◌, ◌||◌, List, [], ◌∷◌, codes, bytes_eq, Result, Ok, Err}
+use Rattle.std.specs.Prelude.{◌≡◌, ℕ, ◌⊎◌, Bool, true, false, not, List, [], ◌∷◌, codes, bytes_eq, Option, Some, None, Result, Ok, Err}
 use Rattle.std.specs.List.{list_any}
 use Rattle.up_message.specs.Fields.{Field}
 use Rattle.up_message.specs.declared.message.Message.{Message}
@@ -14,19 +14,20 @@ use Rattle.up_headers.specs.declared.place.Place.TheVariants as place
 use Rattle.up_headers.specs.Rows.{Row, first_that_holds, Then}
 use Rattle.up_headers.specs.Verbs.{chosen_verb}
 use Rattle.up_headers.specs.Places.{IsAt, is_creation, is_upload, is_nowhere}
-use Rattle.up_headers.specs.Fields.{stands, is_repeated, value_in}
+use Rattle.up_headers.specs.Fields.{is_repeated, value_in}
 use Rattle.up_headers.specs.Creations.{IsWithin, Creates}
 use Rattle.up_headers.specs.Patches.{patch_of}
 
--- whether the version that was sent is 1.0.0
-abbrev pub is_version : List Field → Bool
-is_version fields = bytes_eq (value_in (codes "tus-resumable") fields) (codes "1.0.0")
+-- whether another version was sent than 1.0.0, or none although it must be
+abbrev pub is_wrong : Bool → Option (List ℕ) → Bool
+is_wrong must None = must
+is_wrong must (Some version) = not (bytes_eq version (codes "1.0.0"))
 
 -- the checks of the version, which must be there, or may be
 abbrev pub version_rows : Bool → List Field → List (Row HeaderFault)
 version_rows must fields =
     (is_repeated (codes "tus-resumable") fields, fault.Repeated)
-    ∷ ((must || stands (codes "tus-resumable") fields) && not (is_version fields), fault.Version)
+    ∷ (is_wrong must (value_in (codes "tus-resumable") fields), fault.Version)
     ∷ []
 
 -- the checks of the version, by the method
@@ -72,7 +73,7 @@ place_rows verb at fields =
 
 -- the request, if no check before has failed
 abbrev pub Asks : Verb → Place → List Field → List ℕ → ℕ → Result Request HeaderFault → Type 0
-Asks method.Post place.Creation fields body max_size result = Creates request.Create fields max_size result
+Asks method.Post place.Creation fields body max_size result = Creates fields max_size result
 Asks method.Head (place.Upload id) fields body max_size result = result ≡ Ok (request.Head id)
 Asks method.Patch (place.Upload id) fields body max_size result = result ≡ Ok (request.Patch (patch_of id fields body))
 Asks method.Delete (place.Upload id) fields body max_size result = result ≡ Ok (request.Delete id)

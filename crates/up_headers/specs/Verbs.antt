@@ -1,8 +1,9 @@
 -- The method that counts.
-use Rattle.std.specs.Prelude.{ℕ, List, [], ◌∷◌, codes, bytes_eq, if◌then◌else◌}
-use Rattle.up_message.specs.Fields.{Field, values}
+use Rattle.std.specs.Prelude.{ℕ, List, codes, bytes_eq, unwrap_or, if◌then◌else◌}
+use Rattle.up_message.specs.Fields.{Field}
 use Rattle.up_headers.specs.declared.verb.Verb.{Verb}
 use Rattle.up_headers.specs.declared.verb.Verb.TheVariants as method
+use Rattle.up_headers.specs.Fields.{value_in}
 
 -- the method with this name; upper and lower case differ
 abbrev pub verb_of : List ℕ → Verb
@@ -15,15 +16,6 @@ verb_of name =
     else (if bytes_eq name (codes "GET") then method.Get
     else method.Other)))))
 
--- the names of the methods that override the message's own
-abbrev pub overrides : List Field → List (List ℕ)
-overrides fields = values (codes "x-http-method-override") fields
-
--- the first of these, or else the message's own
-abbrev pub name_or : List ℕ → List (List ℕ) → List ℕ
-name_or own [] = own
-name_or own (name ∷ more) = name
-
--- the method that counts
+-- the method that counts: that of the override, or else the message's own
 abbrev pub chosen_verb : List ℕ → List Field → Verb
-chosen_verb own fields = verb_of (name_or own (overrides fields))
+chosen_verb own fields = verb_of (unwrap_or (value_in (codes "x-http-method-override") fields) own)

@@ -1,19 +1,19 @@
 //! The checks that turn a message into a request.
 ghost use Rattle.std.specs.Prelude.{◌≡◌, ℕ, List, IfOk};
 ghost use Rattle.up_headers.specs.Rows.{first_that_holds};
-ghost use Rattle.up_headers.specs.Table.{FitsWithin, IsAnswer, IsRouted, method_rows, repeats, version_rows};
+ghost use Rattle.up_headers.specs.Table.{FitsWithin, IsAnswer, IsRouted, method_rows, version_rows};
 ghost use Rattle.up_headers.specs.Steps.{IsChosen, IsStep, Passes};
 
-use crate::creation::new_upload;
-use crate::fields::is_repeated;
+use crate::creation::create_request;
+use crate::fields::once;
 use crate::header_fault::HeaderFault;
-use crate::patch::patch_of;
+use crate::patch::patch_request;
 use crate::place::{Place, place_of};
 use crate::request::Request;
 use crate::verb::{Verb, verb_of};
 use std::alloc::Global;
 use up_events::Id;
-use up_message::{Field, Message, Values, find_value};
+use up_message::{Field, Message};
 
 /// What the message asks for (tus 1.0.0, Core protocol, Creation, Termination and Concatenation). The checks have this
 /// order, and the first one that fails gives the fault:
@@ -46,10 +46,9 @@ fn choose(message: &Message) -> Result<Verb, HeaderFault>
     ensures { IsChosen message.now.method message.now.fields result }
 {
     let fields = message.fields.as_slice();
-    let verb = match find_value(fields, b"x-http-method-override") {
-        Values::Absent => verb_of(message.method.as_str().as_bytes()),
-        Values::One(name) => verb_of(name),
-        Values::Several => return Err(HeaderFault::Repeated),
+    let verb = match once(fields, b"x-http-method-override")? {
+        Some(name) => verb_of(name),
+        None => verb_of(message.method.as_str().as_bytes()),
     };
     check_version(verb, fields)?;
     Ok(verb)
@@ -70,10 +69,9 @@ fn check_version(verb: Verb, fields: &[Field]) -> Result<(), HeaderFault>
 fn check_sent_version(must: bool, fields: &[Field]) -> Result<(), HeaderFault>
     ensures { Passes result (first_that_holds (version_rows must fields.now)) }
 {
-    match find_value(fields, b"tus-resumable") {
-        Values::Several => Err(HeaderFault::Repeated),
-        Values::One(version) if version == b"1.0.0".as_slice() => Ok(()),
-        Values::Absent if !must => Ok(()),
+    match once(fields, b"tus-resumable")? {
+        Some(version) if version == b"1.0.0".as_slice() => Ok(()),
+        None if !must => Ok(()),
         _ => Err(HeaderFault::Version),
     }
 }
@@ -102,11 +100,7 @@ fn at_creation(
     ensures bounded { IfOk result (FitsWithin max_size) }
 {
     match verb {
-        Verb::Post if repeats(verb, fields) => Err(HeaderFault::Repeated),
-        Verb::Post => match new_upload(alloc, fields, max_size) {
-            Ok(new) => Ok(Request::Create(new)),
-            Err(fault) => Err(fault),
-        },
+        Verb::Post => create_request(alloc, fields, max_size),
         _ => Err(HeaderFault::Method { of_upload: false }),
     }
 }
@@ -121,28 +115,7 @@ fn at_upload(verb: Verb, id: Id, message: Message) -> Result<Request, HeaderFaul
         Verb::Head => Ok(Request::Head(id)),
         Verb::Get => Ok(Request::Get(id)),
         Verb::Delete => Ok(Request::Delete(id)),
-        Verb::Patch if repeats(verb, message.fields.as_slice()) => Err(HeaderFault::Repeated),
-        Verb::Patch => Ok(Request::Patch(patch_of(id, message)?)),
+        Verb::Patch => patch_request(id, message),
         _ => Err(HeaderFault::Method { of_upload: true }),
-    }
-}
-
-/// Whether a field that a request with this method reads is there twice.
-fn repeats(verb: Verb, fields: &[Field]) -> bool
-    ensures { result ≡ repeats verb fields.now }
-{
-    match verb {
-        Verb::Post => {
-            is_repeated(fields, b"upload-length")
-                || is_repeated(fields, b"upload-defer-length")
-                || is_repeated(fields, b"upload-metadata")
-                || is_repeated(fields, b"upload-concat")
-        }
-        Verb::Patch => {
-            is_repeated(fields, b"content-type")
-                || is_repeated(fields, b"upload-offset")
-                || is_repeated(fields, b"upload-length")
-        }
-        Verb::Options | Verb::Head | Verb::Delete | Verb::Get | Verb::Other => false,
     }
 }

@@ -1,72 +1,76 @@
 //! An upload to be created.
-ghost use Rattle.std.specs.Prelude.{◌≡◌, IfOk};
-ghost use Rattle.up_headers.specs.Creations.{IsWithin, some_text};
-ghost use Rattle.up_headers.specs.Steps.{IsCreation, IsLength};
+ghost use Rattle.std.specs.Prelude.{◌≡◌, ℕ, List, IfOk, option_copied};
+ghost use Rattle.up_headers.specs.Creations.{some_text};
+ghost use Rattle.up_headers.specs.Steps.{IsLength, IsStep};
+ghost use Rattle.up_headers.specs.Table.{FitsWithin};
 
 use crate::concat::{concat_of, is_final};
-use crate::fields::{stands, value_in};
+use crate::fields::once;
 use crate::header_fault::HeaderFault;
 use crate::metadata::read_pairs;
 use crate::metadata_fault::MetadataFault;
-use crate::request::NewUpload;
+use crate::place::Place;
+use crate::request::{NewUpload, Request};
+use crate::verb::Verb;
 use std::alloc::{AllocError, Global};
 use up_message::{Field, Sequence, is_digits, number};
 
-/// The upload that a creation asks for (tus 1.0.0, Creation and Concatenation), of at most `max_size` bytes if its
-/// length is known. The length is checked first, except for a final upload, then `Upload-Concat`, and then the
-/// metadata.
-pub(crate) fn new_upload(
+/// What a POST to the creation URL asks for (tus 1.0.0, Creation and Concatenation), an upload of at most `max_size` bytes
+/// if its length is known. No field that is read may be there twice. Then the length is checked, except for a final
+/// upload, then `Upload-Concat`, and then the metadata.
+pub(crate) fn create_request(
     alloc: Global,
     fields: &[Field],
     max_size: u64,
-) -> Result<NewUpload, HeaderFault>
-    ensures answer { IsCreation fields.now max_size result }
-    ensures bounded { IfOk result (λ new. IsWithin max_size new.length) }
+) -> Result<Request, HeaderFault>
+    ensures answer { (body : List ℕ)
+        → IsStep Verb.Post Place.Creation fields.now body max_size result }
+    ensures bounded { IfOk result (FitsWithin max_size) }
 {
-    let length = length_of(fields, max_size)?;
-    let concat = value_in(fields, b"upload-concat");
+    let length = once(fields, b"upload-length")?;
+    let deferred = once(fields, b"upload-defer-length")?;
+    let metadata = once(fields, b"upload-metadata")?.unwrap_or(b"");
+    let concat = once(fields, b"upload-concat")?.unwrap_or(b"");
+    let length = length_of(concat, length, deferred, max_size)?;
     let Some((kind, parts)) = concat_of(alloc, concat)? else {
         return Err(HeaderFault::BadConcat);
     };
-    let metadata = value_in(fields, b"upload-metadata");
     let pairs = match read_pairs(alloc, metadata) {
         Ok(pairs) => pairs,
         Err(MetadataFault::NoMemory) => return Err(HeaderFault::NoMemory),
         Err(_) => return Err(HeaderFault::BadMetadata),
     };
-    Ok(NewUpload {
+    Ok(Request::Create(NewUpload {
         kind,
         length,
         parts,
         pairs,
         metadata: some_text(alloc, metadata)?,
         concat: some_text(alloc, concat)?,
-    })
+    }))
 }
 
-/// The length of an upload to be created; `None` if it will be declared later. The length of a final upload is not
-/// checked, and is returned as 0.
-fn length_of(fields: &[Field], max_size: u64) -> Result<Option<u64>, HeaderFault>
-    ensures { IsLength fields.now max_size result }
+/// The length of an upload to be created, from the texts of `Upload-Concat`, `Upload-Length` and `Upload-Defer-Length`;
+/// `None` if it will be declared later. The length of a final upload is not checked, and is returned as 0.
+fn length_of(
+    concat: &[u8],
+    length: Option<&[u8]>,
+    deferred: Option<&[u8]>,
+    max_size: u64,
+) -> Result<Option<u64>, HeaderFault>
+    ensures { IsLength concat.now (option_copied length.entry) (option_copied deferred.entry)
+        max_size result }
 {
-    if is_final(value_in(fields, b"upload-concat")) {
+    if is_final(concat) {
         return Ok(Some(0));
     }
-    if stands(fields, b"upload-defer-length") {
-        if value_in(fields, b"upload-defer-length") != b"1".as_slice()
-            || stands(fields, b"upload-length")
-        {
-            return Err(HeaderFault::BadLength);
-        }
-        return Ok(None);
-    }
-    let text = value_in(fields, b"upload-length");
-    if !is_digits(text) {
-        return Err(HeaderFault::BadLength);
-    }
-    match number(text) {
-        Some(length) if length <= max_size => Ok(Some(length)),
-        _ => Err(HeaderFault::TooLong),
+    match (length, deferred) {
+        (Some(text), None) if is_digits(text) => match number(text) {
+            Some(length) if length <= max_size => Ok(Some(length)),
+            _ => Err(HeaderFault::TooLong),
+        },
+        (None, Some(text)) if text == b"1".as_slice() => Ok(None),
+        _ => Err(HeaderFault::BadLength),
     }
 }
 

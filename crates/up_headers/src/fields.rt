@@ -1,29 +1,16 @@
 //! The fields of a message by their name.
-ghost use Rattle.std.specs.Prelude.{◌≡◌};
-ghost use Rattle.up_headers.specs.Fields.{is_repeated, stands, value_in};
+ghost use Rattle.up_headers.specs.Steps.{IsOnce};
 
+use crate::header_fault::HeaderFault;
 use up_message::{Field, Values, find_value};
 
-/// Whether there is a field with this name.
-pub(crate) fn stands(fields: &[Field], name: &[u8]) -> bool
-    ensures { result ≡ stands name.now fields.now }
-{
-    !matches!(find_value(fields, name), Values::Absent)
-}
-
-/// Whether there is more than one field with this name.
-pub(crate) fn is_repeated(fields: &[Field], name: &[u8]) -> bool
-    ensures { result ≡ is_repeated name.now fields.now }
-{
-    matches!(find_value(fields, name), Values::Several)
-}
-
-/// The value of the only field with this name, empty if there is not exactly one.
-pub(crate) fn value_in<'a>(fields: &'a [Field], name: &[u8]) -> &'a [u8]
-    ensures { result.now ≡ value_in name.now fields.now }
+/// The value of the field with this name, if there is one. The fault is `Repeated` if there are several.
+pub(crate) fn once<'a>(fields: &'a [Field], name: &[u8]) -> Result<Option<&'a [u8]>, HeaderFault>
+    ensures { IsOnce name.now fields.now result }
 {
     match find_value(fields, name) {
-        Values::One(value) => value,
-        Values::Absent | Values::Several => b"",
+        Values::Absent => Ok(None),
+        Values::One(value) => Ok(Some(value)),
+        Values::Several => Err(HeaderFault::Repeated),
     }
 }

@@ -1,30 +1,35 @@
 //! The PATCH of an upload.
-ghost use Rattle.std.specs.Prelude.{◌≡◌, IfOk};
-ghost use Rattle.up_headers.specs.Patches.{before_semicolon, declared_in, is_media, number_of, patch_of};
+ghost use Rattle.std.specs.Prelude.{◌≡◌, ℕ, IfOk, option_copied};
+ghost use Rattle.up_headers.specs.Patches.{before_semicolon, declared_by, is_media, number_of};
+ghost use Rattle.up_headers.specs.Steps.{IsStep};
+ghost use Rattle.up_headers.specs.Table.{FitsWithin};
 
-use crate::fields::{stands, value_in};
-use crate::request::{NotDigits, Patch};
-use std::alloc::AllocError;
+use crate::fields::once;
+use crate::header_fault::HeaderFault;
+use crate::place::Place;
+use crate::request::{NotDigits, Patch, Request};
+use crate::verb::Verb;
 use up_events::Id;
-use up_message::{Field, Message, Piece, is_digits, number, same_name, trim_end_ows};
+use up_message::{Message, Piece, is_digits, number, same_name, trim_end_ows};
 
-/// The PATCH of an upload (tus 1.0.0, PATCH). Its bytes are those of the message, without a copy, and have no more room
-/// than they need.
-pub(crate) fn patch_of(id: Id, message: Message) -> Result<Patch, AllocError>
-    ensures { IfOk result (λ patch. patch ≡ patch_of id message.fields message.body) }
+/// What a PATCH of an upload asks for (tus 1.0.0, PATCH). No field that is read may be there twice. The bytes are those of
+/// the message, without a copy, and have no more room than they need.
+pub(crate) fn patch_request(id: Id, message: Message) -> Result<Request, HeaderFault>
+    ensures answer { (max_size : ℕ)
+        → IsStep Verb.Patch (Place.Upload id) message.fields message.body max_size result }
+    ensures bounded { (max_size : ℕ) → IfOk result (FitsWithin max_size) }
 {
     let fields = message.fields.as_slice();
-    let media = is_media(value_in(fields, b"content-type"));
-    let offset = number_of(value_in(fields, b"upload-offset"));
-    let length = declared_in(fields);
-    let bytes = Piece::from_sequence(message.body)?;
-    Ok(Patch {
+    let media = once(fields, b"content-type")?.unwrap_or(b"");
+    let offset = once(fields, b"upload-offset")?.unwrap_or(b"");
+    let length = once(fields, b"upload-length")?;
+    Ok(Request::Patch(Patch {
         id,
-        media,
-        offset,
-        length,
-        bytes,
-    })
+        media: is_media(media),
+        offset: number_of(offset),
+        length: declared_by(length),
+        bytes: Piece::from_sequence(message.body)?,
+    }))
 }
 
 /// Whether a content type, whatever its parameters (RFC 9110, section 8.3.1), is that of a PATCH.
@@ -46,17 +51,11 @@ fn before_semicolon(text: &[u8]) -> &[u8]
     }
 }
 
-/// The length that is declared, if the field for it is there.
-fn declared_in(fields: &[Field]) -> Option<Result<u64, NotDigits>>
-    ensures { result ≡ declared_in fields.now }
+/// The length that is declared, if its text is there.
+fn declared_by(text: Option<&[u8]>) -> Option<Result<u64, NotDigits>>
+    ensures { result ≡ declared_by (option_copied text.entry) }
 {
-    if !stands(fields, b"upload-length") {
-        return None;
-    }
-    match number_of(value_in(fields, b"upload-length")) {
-        Some(number) => Some(Ok(number)),
-        None => Some(Err(NotDigits)),
-    }
+    Some(number_of(text?).ok_or(NotDigits))
 }
 
 /// The number that was sent, if it is one. A number above 2^64 - 1 counts as 2^64 - 1.
