@@ -1,5 +1,6 @@
 //! The order of changes.
-ghost use Rattle.std.specs.Prelude.{◌≡◌, ◌⊎◌, ◌<◌, ◌↔◌, ◌++◌, [], IfOk, IsErr, OnErr, IsTrue, true, false, min, vec_len, ◌+◌};
+ghost use Rattle.std.specs.Prelude.{◌≡◌, ◌⊎◌, ◌<◌, ◌↔◌, ◌++◌, [], IfOk, IsErr, OnErr, IsTrue, true, false, min};
+ghost use Rattle.std.specs.Prelude.{vec_len, ◌+◌};
 ghost use Rattle.up_store.specs.Lines.{IsLost, IsTurn, MayWrite, Takes};
 ghost use Rattle.up_store.specs.Lines.{has_drawn, has_had_turn, has_lost_rest};
 ghost use Rattle.up_store.specs.declared.line.Next.TheVariants.{Commit, Refuse, Wait, Write};

@@ -5,27 +5,55 @@ use Rattle.std.specs.Io.KnownBytes.{Appends, Keeps}
 use Rattle.std.proofs.KnownBytes.{Appends-trans, Appends-kept}
 use Rattle.std.proofs.lemmas.List.{take_more, take-append-drop}
 use Rattle.std.proofs.lemmas.Grind.{flat_map-append}
+use Rattle.up_wire.specs.Device.{Device}
 use Rattle.up_wire.specs.Response.{WritesFront}
-use Rattle.up_wire.specs.Steps.{WritesIf}
+use Rattle.up_wire.specs.Steps.{WritesIf, HasWritten}
+use Rattle.up_wire.proofs.Counting.{counts_on}
 
 -- a text that was written whole, and some of the next
-pub writes_then : (a b c : Option (List ℕ)) (x y : List ℕ) (done : Bool) → WritesIf a b x true → WritesIf b c y done → WritesIf a c (x ++ y) done
-writes_then a b c x y done first next =
-    let whole = first.3 refl in (
-      x ++ next.0,
-      (next.1.0, ap (λ t. x ++ t) next.1.1 ∙ sym (append_assoc x next.0 next.1.0)),
-      Appends-trans _ _ _ _ _ (subst (Appends a b) whole first.2) next.2,
-      λ yes. ap (λ t. x ++ t) (next.3 yes),
-    )
+pub writes_then : {a b c : Device} {i j k : ℕ} {x y : List ℕ} {done : Bool} → HasWritten a b i j x true → HasWritten b c j k y done → HasWritten a c i k (x ++ y) done
+writes_then {a} {b} {c} {i} {j} {k} {x} {y} first next =
+    let whole = first.written.3 refl in
+    let rest = next.written in
+    record {
+      written = (
+        x ++ rest.0,
+        (rest.1.0, ap (λ t. x ++ t) rest.1.1 ∙ sym (append_assoc x rest.0 rest.1.0)),
+        Appends-trans _ _ _ _ _ (subst (Appends a.bytes b.bytes) whole first.written.2) rest.2,
+        λ yes. ap (λ t. x ++ t) (rest.3 yes),
+      );
+      tries = record {
+        counts = counts_on a b c i j k first.tries.counts next.tries.counts;
+        bounded = next.tries.bounded;
+        patient = next.tries.patient;
+        failed = next.tries.failed;
+      };
+    }
 
 -- some of a text is some of a longer one
-pub writes_cut : (a b : Option (List ℕ)) (x y : List ℕ) → WritesIf a b x false → WritesIf a b (x ++ y) false
-writes_cut a b x y some = (
-  some.0,
-  (some.1.0 ++ y, ap (λ t. t ++ y) some.1.1 ∙ append_assoc some.0 some.1.0 y),
-  some.2,
-  λ yes. absurd (cc),
-)
+pub writes_cut : {a b : Device} {i j : ℕ} {x : List ℕ} (y : List ℕ) → HasWritten a b i j x false → HasWritten a b i j (x ++ y) false
+writes_cut y some =
+    let part = some.written in
+    record {
+      written = (
+        part.0,
+        (part.1.0 ++ y, ap (λ t. t ++ y) part.1.1 ∙ append_assoc part.0 part.1.0 y),
+        part.2,
+        λ yes. absurd (cc),
+      );
+      tries = some.tries;
+    }
+
+-- the same text
+pub writes_as : {a b : Device} {i j : ℕ} {x y : List ℕ} {done : Bool} → x ≡ y → HasWritten a b i j x done → HasWritten a b i j y done
+writes_as {a} {b} {i} {j} {x} {y} {done} same writes = subst (λ t. HasWritten a b i j t done) same writes
+
+-- the same, by what the call returned
+pub cut_at : {a b : Device} {i j : ℕ} {x : List ℕ} {done : Bool} (y : List ℕ) → done ≡ false → HasWritten a b i j x done → HasWritten a b i j (x ++ y) false
+cut_at {a} {b} {i} {j} {x} y cut writes = writes_cut y (subst (HasWritten a b i j x) cut writes)
+
+pub then_at : {a b c : Device} {i j k : ℕ} {x y : List ℕ} {first next : Bool} → first ≡ true → HasWritten a b i j x first → HasWritten b c j k y next → HasWritten a c i k (x ++ y) next
+then_at {a} {b} {c} {i} {j} {k} {x} whole one two = writes_then (subst (HasWritten a b i j x) whole one) two
 
 -- what one more element adds
 pub flat_map-more : {X : Type 0} (f : X → List ℕ) (xs : List X) (i : ℕ) (d : X) → i < length xs → flat_map f (take (i + 1) xs) ≡ flat_map f (take i xs) ++ f (get_or xs i d)
@@ -37,31 +65,19 @@ pub flat_map-split : {X : Type 0} (f : X → List ℕ) (xs : List X) (i : ℕ) �
 flat_map-split f xs i = ap (flat_map f) (sym (take-append-drop i xs)) ∙ flat_map-append f (take i xs) (drop i xs)
 
 -- a list written one by one: it breaks off at an element
-pub each_cut : {X : Type 0} (f : X → List ℕ) (a b c : Option (List ℕ)) (xs : List X) (i : ℕ) (d : X) (done : Bool) → i < length xs
-    → WritesIf a b (flat_map f (take i xs)) true → WritesIf b c (f (get_or xs i d)) done → done ≡ false → WritesIf a c (flat_map f xs) false
-each_cut f a b c xs i d done inside before next cut =
+pub each_cut : {X : Type 0} {a b c : Device} {m j k : ℕ} {done : Bool} (f : X → List ℕ) (xs : List X) (i : ℕ) (d : X) → i < length xs
+    → HasWritten a b m j (flat_map f (take i xs)) true → HasWritten b c j k (f (get_or xs i d)) done → done ≡ false → HasWritten a c m k (flat_map f xs) false
+each_cut {X} {a} {b} {c} {m} {j} {k} f xs i d inside before next cut =
     let one = flat_map-more f xs i d inside in
-    let some = writes_then a b c (flat_map f (take i xs)) (f (get_or xs i d)) false before (subst (WritesIf b c (f (get_or xs i d))) cut next) in
+    let some = writes_then before (subst (HasWritten b c j k (f (get_or xs i d))) cut next) in
     let whole = flat_map-split f xs (i + 1) ∙ ap (λ t. t ++ flat_map f (drop (i + 1) xs)) one in
-    subst (λ t. WritesIf a c t false) (sym whole) (writes_cut a c (flat_map f (take i xs) ++ f (get_or xs i d)) (flat_map f (drop (i + 1) xs)) some)
+    writes_as (sym whole) (writes_cut (flat_map f (drop (i + 1) xs)) some)
 
 -- and it goes on
-pub each_next : {X : Type 0} (f : X → List ℕ) (a b c : Option (List ℕ)) (xs : List X) (i : ℕ) (d : X) (done : Bool) → i < length xs
-    → WritesIf a b (flat_map f (take i xs)) true → WritesIf b c (f (get_or xs i d)) done → done ≡ true → WritesIf a c (flat_map f (take (i + 1) xs)) true
-each_next f a b c xs i d done inside before next whole =
-    subst (λ t. WritesIf a c t true) (sym (flat_map-more f xs i d inside))
-    (writes_then a b c (flat_map f (take i xs)) (f (get_or xs i d)) true before (subst (WritesIf b c (f (get_or xs i d))) whole next))
-
--- the same text
-pub writes_as : (a b : Option (List ℕ)) (x y : List ℕ) (done : Bool) → x ≡ y → WritesIf a b x done → WritesIf a b y done
-writes_as a b x y done same writes = subst (λ t. WritesIf a b t done) same writes
-
--- the same as above, by the answer of the call
-pub cut_at : (a b : Option (List ℕ)) (x y : List ℕ) (done : Bool) → done ≡ false → WritesIf a b x done → WritesIf a b (x ++ y) false
-cut_at a b x y done cut writes = writes_cut a b x y (subst (WritesIf a b x) cut writes)
-
-pub then_at : (a b c : Option (List ℕ)) (x y : List ℕ) (first next : Bool) → first ≡ true → WritesIf a b x first → WritesIf b c y next → WritesIf a c (x ++ y) next
-then_at a b c x y first next whole one two = writes_then a b c x y next (subst (WritesIf a b x) whole one) two
+pub each_next : {X : Type 0} {a b c : Device} {m j k : ℕ} {done : Bool} (f : X → List ℕ) (xs : List X) (i : ℕ) (d : X) → i < length xs
+    → HasWritten a b m j (flat_map f (take i xs)) true → HasWritten b c j k (f (get_or xs i d)) done → done ≡ true → HasWritten a c m k (flat_map f (take (i + 1) xs)) true
+each_next {X} {a} {b} {c} {m} {j} {k} f xs i d inside before next whole =
+    writes_as (sym (flat_map-more f xs i d inside)) (writes_then before (subst (HasWritten b c j k (f (get_or xs i d))) whole next))
 
 -- a text that was written whole, and sent on or not
 pub kept_at : (a b c : Option (List ℕ)) (x : List ℕ) (first done : Bool) → first ≡ true → WritesIf a b x first → Keeps b c → WritesIf a c x done

@@ -1,6 +1,6 @@
 -- What the steps of reading a message return.
 use Rattle.std.specs.Prelude.{◌≡◌, ◌≢◌, ℕ, ◌*◌, ◌<◌, ◌≤◌, ◌⊎◌, ⊤, max, Vec, vec_len, vec_capacity, Bool, true, false, ◌&&◌, ◌==◌, List, [], ◌∷◌, ◌++◌, length, Option, Result, Ok, Err}
-use Rattle.std.specs.Io.KnownBytes.{Appends, IsAtEnd}
+use Rattle.std.specs.Io.KnownBytes.{Consumes, Appends, IsAtEnd}
 use Rattle.std.specs.declared.alloc.Global.{Global}
 use Rattle.httparse.specs.Ascii.{carriage_return, line_feed, crlf_bytes}
 use Rattle.httparse.specs.Grammar.{ReadsSection, HasNoSection, NeverHasSection, MayBecomeSection, ChunkLine, print_chunk_line, chunk_size, RequestHead, ReadsRequest, HasNoRequest, NeverHasRequest, MayBecomeRequest}
@@ -22,7 +22,7 @@ use Rattle.up_wire.specs.declared.framing.Framing.{Framing}
 use Rattle.up_wire.specs.Chunks.{IsLine, IsOpenLine, IsBadLine, IsOpenEnd, IsBadEnd, IsTrailers, AreOpenTrailers, AreBadTrailers}
 use Rattle.up_wire.specs.Message.{IsBody, IsCutBody, IsBodyFault, Ending, open_yet, ended, failed, fields_of, is_bare, IsHead, IsEndOfInput, IsBadHead, IsTooLarge, IsReadFailure, IsBare}
 use Rattle.up_wire.specs.Limits.{max_fields, max_interruptions, first_room}
-use Rattle.up_wire.specs.Device.{Device, GaveUp, HasNoFeed, IsEndedLine}
+use Rattle.up_wire.specs.Device.{Device, GaveUp, Counts, Tries, HasNoFeed, IsEndedLine}
 use Rattle.up_wire.specs.Reading.{IsFront}
 
 -- the bytes of a step
@@ -36,6 +36,19 @@ abbrev pub EndsSo : Ending → Device → ℕ → Type 0
 EndsSo open_yet source count = count < max_interruptions
 EndsSo ended source count = IsAtEnd source.bytes × (count < max_interruptions)
 EndsSo failed source count = GaveUp source count × (count ≤ max_interruptions)
+
+-- a call took these bytes from its source, and counted its interruptions; the input continues so
+pub record Took (before after : Device) (old new : ℕ) (input : List ℕ) (ending : Ending) : Type 0 where
+  pub bytes : Consumes before.bytes after.bytes input
+  pub counts : Counts before after old new
+  pub ends : EndsSo ending after new
+
+-- what a call that reads did: the bytes that it took, how the input continues after them, and what both are
+pub record HasRead (before after : Device) (old new : ℕ) (Is : List ℕ → Ending → Type 0) : Type 0 where
+  pub input : List ℕ
+  pub ending : Ending
+  pub took : Took before after old new input ending
+  pub is : Is input ending
 
 -- the ending that a step means
 abbrev pub step_ending : Step → Ending
@@ -221,3 +234,9 @@ AreTrailersRead input ending (Err stop) = IsStop ending (AreOpenTrailers input) 
 abbrev pub WritesIf : Option (List ℕ) → Option (List ℕ) → List ℕ → Bool → Type 0
 WritesIf before after text done =
     (front : List ℕ) × IsFront front text × Appends before after front × (done ≡ true → front ≡ text)
+
+-- what a call that writes this text did: it wrote a prefix, all of it if `done`, and counted the interruptions of its
+-- sink
+pub record HasWritten (before after : Device) (old new : ℕ) (text : List ℕ) (done : Bool) : Type 0 where
+  pub written : WritesIf before.bytes after.bytes text done
+  pub tries : Tries before after old new done

@@ -1,12 +1,9 @@
 //! Reading a body.
-ghost use Rattle.std.specs.Prelude.{◌≡◌, ◌+◌, ◌-◌, ◌<◌, ◌≤◌, ◌⊎◌, ◌∷◌, ◌++◌, []};
-ghost use Rattle.std.specs.Prelude.{List, ℕ, length, take, vec_len, true, false, OnOk, IfErr};
-ghost use Rattle.std.specs.Io.KnownBytes.{Consumes};
-ghost use Rattle.up_wire.specs.Device.{Counts};
-ghost use Rattle.up_wire.specs.Message.{Ending};
+ghost use Rattle.std.specs.Prelude.{◌≡◌, ◌+◌, ◌-◌, ◌<◌, ◌≤◌, ◌⊎◌, ◌∷◌, ◌++◌, [], List, ℕ, length, take, vec_len, true};
+ghost use Rattle.std.specs.Prelude.{false, OnOk, IfErr};
 ghost use Rattle.up_wire.specs.Limits.{max_interruptions, large};
-ghost use Rattle.up_wire.specs.Steps.{EndsSo, IsBodyRead, batch_ending, IsBatch, IsBytesRead};
-ghost use Rattle.up_wire.specs.Steps.{IsFrontRead, IsBounded, IsBoundedBy, HasBoundedBody, stopped};
+ghost use Rattle.up_wire.specs.Steps.{Took, HasRead, IsBodyRead, batch_ending, IsBatch, IsBytesRead, IsFrontRead};
+ghost use Rattle.up_wire.specs.Steps.{IsBounded, IsBoundedBy, HasBoundedBody, stopped};
 
 use crate::chunks::read_chunks;
 use crate::device::{ReadSome, Source};
@@ -56,13 +53,10 @@ pub(crate) fn read_body<R: Source>(
     framing: Framing,
 ) -> BodyRead
     requires { interruptions.old < max_interruptions }
-    ensures answer { (input : List ℕ) × (ending : Ending)
-        × Consumes (R.device source.old).bytes (R.device source.new).bytes input
-        × EndsSo ending (R.device source.new) interruptions.new
-        × IsBodyRead limit framing input ending result }
+    ensures answer { HasRead (R.device source.old) (R.device source.new)
+        interruptions.old interruptions.new
+        (λ input ending. IsBodyRead limit framing input ending result) }
     ensures bounded { HasBoundedBody result }
-    ensures counts { Counts (R.device source.old) (R.device source.new)
-        interruptions.old interruptions.new }
 {
     match framing {
         Framing::NoBody => BodyRead::Whole(Vec::new(alloc)),
@@ -80,13 +74,10 @@ fn read_sized<R: Source>(
     size: u64,
 ) -> BodyRead
     requires { interruptions.old < max_interruptions }
-    ensures answer { (input : List ℕ) × (ending : Ending)
-        × Consumes (R.device source.old).bytes (R.device source.new).bytes input
-        × EndsSo ending (R.device source.new) interruptions.new
-        × IsBodyRead limit (Framing.Sized size) input ending result }
+    ensures answer { HasRead (R.device source.old) (R.device source.new)
+        interruptions.old interruptions.new
+        (λ input ending. IsBodyRead limit (Framing.Sized size) input ending result) }
     ensures bounded { HasBoundedBody result }
-    ensures counts { Counts (R.device source.old) (R.device source.new)
-        interruptions.old interruptions.new }
 {
     let mut body = Vec::new(alloc);
     if let Err(stop) = read_front(source, interruptions, &mut body, size) {
@@ -112,12 +103,9 @@ fn read_front<R: Source>(
     requires patient { interruptions.old < max_interruptions }
     requires empty { body.old.items ≡ [] }
     requires bounded { IsBounded body.old }
-    ensures answer { (run : List ℕ) × (ending : Ending)
-        × Consumes (R.device source.old).bytes (R.device source.new).bytes run
-        × EndsSo ending (R.device source.new) interruptions.new
-        × IsFrontRead size run ending body.new result }
-    ensures counts { Counts (R.device source.old) (R.device source.new)
-        interruptions.old interruptions.new }
+    ensures { HasRead (R.device source.old) (R.device source.new)
+        interruptions.old interruptions.new
+        (λ run ending. IsFrontRead size run ending body.new result) }
 {
     if size < LARGE as u64 {
         return Ok(());
@@ -143,12 +131,9 @@ fn read_large_front<R: Source>(
     requires empty { body.old.items ≡ [] }
     requires large { large ≤ size }
     requires bounded { IsBounded body.old }
-    ensures answer { (run : List ℕ) × (ending : Ending)
-        × Consumes (R.device source.old).bytes (R.device source.new).bytes run
-        × EndsSo ending (R.device source.new) interruptions.new
-        × IsFrontRead size (first ∷ run) ending body.new result }
-    ensures counts { Counts (R.device source.old) (R.device source.new)
-        interruptions.old interruptions.new }
+    ensures { HasRead (R.device source.old) (R.device source.new)
+        interruptions.old interruptions.new
+        (λ run ending. IsFrontRead size (first ∷ run) ending body.new result) }
 {
     let mut front = [0; LARGE];
     front[0] = first;
@@ -201,14 +186,11 @@ pub(crate) fn read_bytes<R: Source>(
     requires patient { interruptions.old < max_interruptions }
     requires within { (vec_len body.old ≤ size) × (size ≤ most) }
     requires bounded { IsBounded body.old }
-    ensures answer { (run : List ℕ) × (ending : Ending)
-        × Consumes (R.device source.old).bytes (R.device source.new).bytes run
-        × EndsSo ending (R.device source.new) interruptions.new
-        × (body.new.items ≡ body.old.items ++ run)
-        × IsBytesRead size body.new.items ending result }
+    ensures answer { HasRead (R.device source.old) (R.device source.new)
+        interruptions.old interruptions.new
+        (λ run ending. (body.new.items ≡ body.old.items ++ run)
+        × IsBytesRead size body.new.items ending result) }
     ensures bounded { (result ≡ Err Stop.NoMemory) ⊎ IsBounded body.new }
-    ensures counts { Counts (R.device source.old) (R.device source.new)
-        interruptions.old interruptions.new }
 {
     let mut filled = body.len();
     'batches: while (filled as u64) < size {
@@ -292,13 +274,11 @@ fn fill<R: Source>(
 ) -> Batch
     requires patient { interruptions.old < max_interruptions }
     requires some { filled < length whole.old }
-    ensures bytes { (run : List ℕ)
-        × Consumes (R.device source.old).bytes (R.device source.new).bytes run
+    ensures { (run : List ℕ)
+        × Took (R.device source.old) (R.device source.new)
+        interruptions.old interruptions.new run (batch_ending result)
         × (take (filled + length run) whole.new ≡ take filled whole.old ++ run)
         × IsBatch result (length whole.old - filled) run }
-    ensures counts { Counts (R.device source.old) (R.device source.new)
-        interruptions.old interruptions.new }
-    ensures ends { EndsSo (batch_ending result) (R.device source.new) interruptions.new }
 {
     take_batch(source, interruptions, &mut whole[filled..])
 }
@@ -307,12 +287,10 @@ fn fill<R: Source>(
 fn take_batch<R: Source>(source: &mut R, interruptions: &mut u32, into: &mut [u8]) -> Batch
     requires patient { interruptions.old < max_interruptions }
     requires some { 0 < length into.old }
-    ensures bytes { (run : List ℕ)
-        × Consumes (R.device source.old).bytes (R.device source.new).bytes run
+    ensures { (run : List ℕ)
+        × Took (R.device source.old) (R.device source.new)
+        interruptions.old interruptions.new run (batch_ending result)
         × (take (length run) into.new ≡ run) × IsBatch result (length into.old) run }
-    ensures counts { Counts (R.device source.old) (R.device source.new)
-        interruptions.old interruptions.new }
-    ensures ends { EndsSo (batch_ending result) (R.device source.new) interruptions.new }
 {
     'tries: loop {
         match source.take_into(into) {

@@ -1,12 +1,9 @@
 //! Reading a chunked body.
-ghost use Rattle.std.specs.Prelude.{◌<◌, List, ℕ};
-ghost use Rattle.std.specs.Io.KnownBytes.{Consumes};
+ghost use Rattle.std.specs.Prelude.{◌<◌};
 ghost use Rattle.httparse.specs.Grammar.{HasNoSection};
-ghost use Rattle.up_wire.specs.Device.{Counts};
-ghost use Rattle.up_wire.specs.Message.{Ending};
 ghost use Rattle.up_wire.specs.Limits.{max_interruptions};
-ghost use Rattle.up_wire.specs.Steps.{EndsSo, IsBodyRead, HasBoundedBody, IsLineRead, IsByteRead};
-ghost use Rattle.up_wire.specs.Steps.{IsCrlfRead, AreParsed, IsStopBehind, AreTrailersRead};
+ghost use Rattle.up_wire.specs.Steps.{HasRead, IsBodyRead, HasBoundedBody, IsLineRead, IsByteRead, IsCrlfRead};
+ghost use Rattle.up_wire.specs.Steps.{AreParsed, IsStopBehind, AreTrailersRead};
 
 use crate::body::{BodyRead, Stop, read_bytes};
 use crate::device::Source;
@@ -31,13 +28,10 @@ pub(crate) fn read_chunks<R: Source>(
     limit: u64,
 ) -> BodyRead
     requires { interruptions.old < max_interruptions }
-    ensures answer { (input : List ℕ) × (ending : Ending)
-        × Consumes (R.device source.old).bytes (R.device source.new).bytes input
-        × EndsSo ending (R.device source.new) interruptions.new
-        × IsBodyRead limit Framing.Chunked input ending result }
+    ensures answer { HasRead (R.device source.old) (R.device source.new)
+        interruptions.old interruptions.new
+        (λ input ending. IsBodyRead limit Framing.Chunked input ending result) }
     ensures bounded { HasBoundedBody result }
-    ensures counts { Counts (R.device source.old) (R.device source.new)
-        interruptions.old interruptions.new }
 {
     let mut body = Vec::new(alloc);
     let mut line = Vec::new(alloc);
@@ -72,12 +66,9 @@ fn read_line<R: Source>(
     text: &mut Vec<u8>,
 ) -> Result<u64, Stop>
     requires { interruptions.old < max_interruptions }
-    ensures answer { (input : List ℕ) × (ending : Ending)
-        × Consumes (R.device source.old).bytes (R.device source.new).bytes input
-        × EndsSo ending (R.device source.new) interruptions.new
-        × IsLineRead input ending result }
-    ensures counts { Counts (R.device source.old) (R.device source.new)
-        interruptions.old interruptions.new }
+    ensures { HasRead (R.device source.old) (R.device source.new)
+        interruptions.old interruptions.new
+        (λ input ending. IsLineRead input ending result) }
 {
     text.clear();
     match take_line(source, interruptions, text, MAX_LINE) {
@@ -96,12 +87,9 @@ fn read_line<R: Source>(
 /// Reads the CRLF after a chunk.
 fn read_crlf<R: Source>(source: &mut R, interruptions: &mut u32) -> Result<(), Stop>
     requires { interruptions.old < max_interruptions }
-    ensures answer { (input : List ℕ) × (ending : Ending)
-        × Consumes (R.device source.old).bytes (R.device source.new).bytes input
-        × EndsSo ending (R.device source.new) interruptions.new
-        × IsCrlfRead input ending result }
-    ensures counts { Counts (R.device source.old) (R.device source.new)
-        interruptions.old interruptions.new }
+    ensures { HasRead (R.device source.old) (R.device source.new)
+        interruptions.old interruptions.new
+        (λ input ending. IsCrlfRead input ending result) }
 {
     match read_byte(source, interruptions, b'\r') {
         Ok(()) => read_byte(source, interruptions, b'\n'),
@@ -112,12 +100,9 @@ fn read_crlf<R: Source>(source: &mut R, interruptions: &mut u32) -> Result<(), S
 /// Reads this byte.
 fn read_byte<R: Source>(source: &mut R, interruptions: &mut u32, wanted: u8) -> Result<(), Stop>
     requires { interruptions.old < max_interruptions }
-    ensures answer { (input : List ℕ) × (ending : Ending)
-        × Consumes (R.device source.old).bytes (R.device source.new).bytes input
-        × EndsSo ending (R.device source.new) interruptions.new
-        × IsByteRead wanted input ending result }
-    ensures counts { Counts (R.device source.old) (R.device source.new)
-        interruptions.old interruptions.new }
+    ensures { HasRead (R.device source.old) (R.device source.new)
+        interruptions.old interruptions.new
+        (λ input ending. IsByteRead wanted input ending result) }
 {
     match take_step(source, interruptions) {
         Step::Byte(byte) if byte == wanted => Ok(()),
@@ -168,12 +153,9 @@ fn read_trailers<R: Source>(
     interruptions: &mut u32,
 ) -> Result<(), Stop>
     requires { interruptions.old < max_interruptions }
-    ensures answer { (input : List ℕ) × (ending : Ending)
-        × Consumes (R.device source.old).bytes (R.device source.new).bytes input
-        × EndsSo ending (R.device source.new) interruptions.new
-        × AreTrailersRead input ending result }
-    ensures counts { Counts (R.device source.old) (R.device source.new)
-        interruptions.old interruptions.new }
+    ensures { HasRead (R.device source.old) (R.device source.new)
+        interruptions.old interruptions.new
+        (λ input ending. AreTrailersRead input ending result) }
 {
     let mut text = Vec::new(alloc);
     'lines: loop {

@@ -1,11 +1,9 @@
 //! Reading a head.
-ghost use Rattle.std.specs.Prelude.{◌≡◌, ◌<◌, List, ℕ, false};
-ghost use Rattle.std.specs.Io.KnownBytes.{Consumes};
+ghost use Rattle.std.specs.Prelude.{◌≡◌, ◌<◌, false};
 ghost use Rattle.httparse.specs.Grammar.{HasNoRequest};
-ghost use Rattle.up_wire.specs.Device.{Counts};
-ghost use Rattle.up_wire.specs.Message.{Ending, is_crlfs};
+ghost use Rattle.up_wire.specs.Message.{is_crlfs};
 ghost use Rattle.up_wire.specs.Limits.{max_interruptions};
-ghost use Rattle.up_wire.specs.Steps.{EndsSo, IsStanding, IsHeadRead};
+ghost use Rattle.up_wire.specs.Steps.{HasRead, IsStanding, IsHeadRead};
 
 use crate::device::Source;
 use crate::head::{Head, MAX_FIELDS, Parsed, parse};
@@ -66,12 +64,9 @@ pub(crate) fn read_head<R: Source>(
     interruptions: &mut u32,
 ) -> HeadRead
     requires { interruptions.old < max_interruptions }
-    ensures answer { (input : List ℕ) × (ending : Ending)
-        × Consumes (R.device source.old).bytes (R.device source.new).bytes input
-        × EndsSo ending (R.device source.new) interruptions.new
-        × IsHeadRead input ending result }
-    ensures counts { Counts (R.device source.old) (R.device source.new)
-        interruptions.old interruptions.new }
+    ensures { HasRead (R.device source.old) (R.device source.new)
+        interruptions.old interruptions.new
+        (λ input ending. IsHeadRead input ending result) }
 {
     let mut text = Vec::new(alloc);
     let mut is_begun = false;

@@ -1,10 +1,7 @@
 //! Reading one line of a source.
-ghost use Rattle.std.specs.Prelude.{◌≡◌, ◌+◌, ◌<◌, ◌≤◌, ◌++◌, List, ℕ, vec_len};
-ghost use Rattle.std.specs.Io.KnownBytes.{Consumes};
-ghost use Rattle.up_wire.specs.Device.{Counts};
-ghost use Rattle.up_wire.specs.Message.{Ending};
+ghost use Rattle.std.specs.Prelude.{◌≡◌, ◌+◌, ◌<◌, ◌≤◌, ◌++◌, vec_len};
 ghost use Rattle.up_wire.specs.Limits.{max_interruptions};
-ghost use Rattle.up_wire.specs.Steps.{EndsSo, EndsInFeed, is_line_end, IsLineTaken};
+ghost use Rattle.up_wire.specs.Steps.{HasRead, EndsInFeed, is_line_end, IsLineTaken};
 
 use crate::device::{ReadSome, Source};
 use crate::room::make_room;
@@ -55,13 +52,10 @@ pub(crate) fn take_line<R: Source>(
 ) -> Line
     requires patient { interruptions.old < max_interruptions }
     requires within { vec_len text.old ≤ most }
-    ensures answer { (line : List ℕ) × (ending : Ending)
-        × Consumes (R.device source.old).bytes (R.device source.new).bytes line
-        × EndsSo ending (R.device source.new) interruptions.new
-        × (text.new.items ≡ text.old.items ++ line)
-        × IsLineTaken most text.new.items line ending result }
-    ensures counts { Counts (R.device source.old) (R.device source.new)
-        interruptions.old interruptions.new }
+    ensures answer { HasRead (R.device source.old) (R.device source.new)
+        interruptions.old interruptions.new
+        (λ line ending. (text.new.items ≡ text.old.items ++ line)
+        × IsLineTaken most text.new.items line ending result) }
     ensures within { vec_len text.new ≤ most }
 {
     'runs: while text.len() < most {

@@ -1,10 +1,10 @@
 //! Writing a response.
 ghost use Rattle.std.specs.Prelude.{◌≡◌, ◌+◌, ◌<◌, ◌≤◌, flat_map, OnOk, OnErr};
-ghost use Rattle.up_wire.specs.Device.{GaveUp, Tries, interrupted};
+ghost use Rattle.up_wire.specs.Device.{GaveUp, interrupted};
 ghost use Rattle.up_wire.specs.Limits.{max_interruptions};
-ghost use Rattle.up_wire.specs.Steps.{WritesIf};
-ghost use Rattle.up_wire.specs.Response.{Writes, phrase, start_text, field_line};
-ghost use Rattle.up_wire.specs.Response.{length_line, gap_text, end_text, response_text};
+ghost use Rattle.up_wire.specs.Steps.{HasWritten};
+ghost use Rattle.up_wire.specs.Response.{Writes, phrase, start_text, field_line, length_line, gap_text, end_text};
+ghost use Rattle.up_wire.specs.Response.{response_text};
 ghost use Rattle.up_message.specs.Joins.{pieced};
 
 use crate::device::Sink;
@@ -16,10 +16,8 @@ use up_message::{Field, Piece, Response, Run, Segments};
 
 fn write_field<W: Sink>(sink: &mut W, field: &Field, interruptions: &mut u32) -> bool
     requires { interruptions.old < max_interruptions }
-    ensures written { WritesIf (W.device sink.old).bytes (W.device sink.new).bytes
-        (field_line field.now) result }
-    ensures tries { Tries (W.device sink.old) (W.device sink.new)
-        interruptions.old interruptions.new result }
+    ensures { HasWritten (W.device sink.old) (W.device sink.new)
+        interruptions.old interruptions.new (field_line field.now) result }
 {
     let pieces: [&[u8]; 4] = [field.0.as_slice(), b": ", field.1.as_slice(), b"\r\n"];
     write_each(sink, &pieces, interruptions)
@@ -28,10 +26,8 @@ fn write_field<W: Sink>(sink: &mut W, field: &Field, interruptions: &mut u32) ->
 /// Writes the lines of the fields.
 fn write_fields<W: Sink>(sink: &mut W, fields: &[Field], interruptions: &mut u32) -> bool
     requires { interruptions.old < max_interruptions }
-    ensures written { WritesIf (W.device sink.old).bytes (W.device sink.new).bytes
-        (flat_map field_line fields.now) result }
-    ensures tries { Tries (W.device sink.old) (W.device sink.new)
-        interruptions.old interruptions.new result }
+    ensures { HasWritten (W.device sink.old) (W.device sink.new)
+        interruptions.old interruptions.new (flat_map field_line fields.now) result }
 {
     for field in fields {
         if !write_field(sink, field, interruptions) {
@@ -53,10 +49,8 @@ fn phrase(status: u16) -> &'static str
 
 fn write_start<W: Sink>(sink: &mut W, status: u16, interruptions: &mut u32) -> bool
     requires { interruptions.old < max_interruptions }
-    ensures written { WritesIf (W.device sink.old).bytes (W.device sink.new).bytes
-        (start_text status) result }
-    ensures tries { Tries (W.device sink.old) (W.device sink.new)
-        interruptions.old interruptions.new result }
+    ensures { HasWritten (W.device sink.old) (W.device sink.new)
+        interruptions.old interruptions.new (start_text status) result }
 {
     let mut digits = Buffer::new();
     let pieces: [&[u8]; 5] = [
@@ -76,10 +70,8 @@ fn write_length<W: Sink>(
     interruptions: &mut u32,
 ) -> bool
     requires { interruptions.old < max_interruptions }
-    ensures written { WritesIf (W.device sink.old).bytes (W.device sink.new).bytes
-        (length_line bare response.now) result }
-    ensures tries { Tries (W.device sink.old) (W.device sink.new)
-        interruptions.old interruptions.new result }
+    ensures { HasWritten (W.device sink.old) (W.device sink.new)
+        interruptions.old interruptions.new (length_line bare response.now) result }
 {
     if bare || response.status == 204 {
         return true;
@@ -96,9 +88,8 @@ fn write_length<W: Sink>(
 /// Writes the pieces of a run, in order.
 fn write_run<W: Sink>(sink: &mut W, run: &Run, interruptions: &mut u32) -> bool
     requires { interruptions.old < max_interruptions }
-    ensures written { WritesIf (W.device sink.old).bytes (W.device sink.new).bytes run.now result }
-    ensures tries { Tries (W.device sink.old) (W.device sink.new)
-        interruptions.old interruptions.new result }
+    ensures { HasWritten (W.device sink.old) (W.device sink.new)
+        interruptions.old interruptions.new run.now result }
 {
     write_pieces(sink, run.pieces(), interruptions)
 }
@@ -106,10 +97,8 @@ fn write_run<W: Sink>(sink: &mut W, run: &Run, interruptions: &mut u32) -> bool
 /// Writes pieces, in order.
 fn write_pieces<W: Sink>(sink: &mut W, pieces: &[Piece], interruptions: &mut u32) -> bool
     requires { interruptions.old < max_interruptions }
-    ensures written { WritesIf (W.device sink.old).bytes (W.device sink.new).bytes
-        (pieced pieces.now) result }
-    ensures tries { Tries (W.device sink.old) (W.device sink.new)
-        interruptions.old interruptions.new result }
+    ensures { HasWritten (W.device sink.old) (W.device sink.new)
+        interruptions.old interruptions.new (pieced pieces.now) result }
 {
     for piece in pieces {
         if !write_all(sink, piece.as_slice(), interruptions) {
@@ -122,10 +111,8 @@ fn write_pieces<W: Sink>(sink: &mut W, pieces: &[Piece], interruptions: &mut u32
 /// Writes runs, in order.
 fn write_runs<W: Sink>(sink: &mut W, runs: &[Run], interruptions: &mut u32) -> bool
     requires { interruptions.old < max_interruptions }
-    ensures written { WritesIf (W.device sink.old).bytes (W.device sink.new).bytes
-        (pieced runs.now) result }
-    ensures tries { Tries (W.device sink.old) (W.device sink.new)
-        interruptions.old interruptions.new result }
+    ensures { HasWritten (W.device sink.old) (W.device sink.new)
+        interruptions.old interruptions.new (pieced runs.now) result }
 {
     for run in runs {
         if !write_run(sink, run, interruptions) {
@@ -138,9 +125,8 @@ fn write_runs<W: Sink>(sink: &mut W, runs: &[Run], interruptions: &mut u32) -> b
 /// Writes a body.
 fn write_body<W: Sink>(sink: &mut W, body: &Segments, interruptions: &mut u32) -> bool
     requires { interruptions.old < max_interruptions }
-    ensures written { WritesIf (W.device sink.old).bytes (W.device sink.new).bytes body.now result }
-    ensures tries { Tries (W.device sink.old) (W.device sink.new)
-        interruptions.old interruptions.new result }
+    ensures { HasWritten (W.device sink.old) (W.device sink.new)
+        interruptions.old interruptions.new body.now result }
 {
     let (front, last) = body.runs();
     if !write_runs(sink, front, interruptions) {
@@ -152,10 +138,8 @@ fn write_body<W: Sink>(sink: &mut W, body: &Segments, interruptions: &mut u32) -
 /// Writes the lines between the length and the body.
 fn write_gap<W: Sink>(sink: &mut W, close: bool, interruptions: &mut u32) -> bool
     requires { interruptions.old < max_interruptions }
-    ensures written { WritesIf (W.device sink.old).bytes (W.device sink.new).bytes
-        (gap_text close) result }
-    ensures tries { Tries (W.device sink.old) (W.device sink.new)
-        interruptions.old interruptions.new result }
+    ensures { HasWritten (W.device sink.old) (W.device sink.new)
+        interruptions.old interruptions.new (gap_text close) result }
 {
     let closing: &[u8] = if close { b"Connection: close\r\n" } else { b"" };
     let pieces: [&[u8]; 2] = [closing, b"\r\n"];
@@ -171,10 +155,8 @@ fn write_end<W: Sink>(
     interruptions: &mut u32,
 ) -> bool
     requires { interruptions.old < max_interruptions }
-    ensures written { WritesIf (W.device sink.old).bytes (W.device sink.new).bytes
-        (end_text bare close body.now) result }
-    ensures tries { Tries (W.device sink.old) (W.device sink.new)
-        interruptions.old interruptions.new result }
+    ensures { HasWritten (W.device sink.old) (W.device sink.new)
+        interruptions.old interruptions.new (end_text bare close body.now) result }
 {
     if !write_gap(sink, close, interruptions) {
         return false;
@@ -220,10 +202,8 @@ fn write_parts<W: Sink>(
     interruptions: &mut u32,
 ) -> bool
     requires { interruptions.old < max_interruptions }
-    ensures written { WritesIf (W.device sink.old).bytes (W.device sink.new).bytes
-        (response_text response.now bare close) result }
-    ensures tries { Tries (W.device sink.old) (W.device sink.new)
-        interruptions.old interruptions.new result }
+    ensures { HasWritten (W.device sink.old) (W.device sink.new)
+        interruptions.old interruptions.new (response_text response.now bare close) result }
 {
     if !write_start(sink, response.status, interruptions) {
         return false;

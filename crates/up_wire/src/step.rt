@@ -1,9 +1,7 @@
 //! Reading one byte of a source. An interrupted read is retried.
 ghost use Rattle.std.specs.Prelude.{◌<◌};
-ghost use Rattle.std.specs.Io.KnownBytes.{Consumes};
-ghost use Rattle.up_wire.specs.Device.{Counts};
 ghost use Rattle.up_wire.specs.Limits.{max_interruptions};
-ghost use Rattle.up_wire.specs.Steps.{step_bytes, step_ending, EndsSo};
+ghost use Rattle.up_wire.specs.Steps.{step_bytes, step_ending, Took};
 
 use crate::device::{NextByte, Source};
 
@@ -21,11 +19,8 @@ pub(crate) enum Step {
 /// Takes the next byte. Retries an interrupted read.
 pub(crate) fn take_step<R: Source>(source: &mut R, interruptions: &mut u32) -> Step
     requires { interruptions.old < max_interruptions }
-    ensures bytes { Consumes (R.device source.old).bytes (R.device source.new).bytes
-        (step_bytes result) }
-    ensures counts { Counts (R.device source.old) (R.device source.new)
-        interruptions.old interruptions.new }
-    ensures ends { EndsSo (step_ending result) (R.device source.new) interruptions.new }
+    ensures { Took (R.device source.old) (R.device source.new)
+        interruptions.old interruptions.new (step_bytes result) (step_ending result) }
 {
     'tries: loop {
         match source.next_byte() {

@@ -1,11 +1,10 @@
 //! Writing to a sink.
-ghost use Rattle.std.specs.Prelude.{◌≡◌, ◌<◌, ℕ, List, true, false, length};
-ghost use Rattle.std.specs.Io.KnownBytes.{Appends, Keeps};
+ghost use Rattle.std.specs.Prelude.{◌≡◌, ◌<◌, false, length};
+ghost use Rattle.std.specs.Io.KnownBytes.{Keeps};
 ghost use Rattle.up_wire.specs.Framing.{has_body, interim};
-ghost use Rattle.up_wire.specs.Reading.{IsFront};
 ghost use Rattle.up_wire.specs.Device.{Tries};
 ghost use Rattle.up_wire.specs.Response.{joined};
-ghost use Rattle.up_wire.specs.Steps.{WritesIf};
+ghost use Rattle.up_wire.specs.Steps.{HasWritten};
 ghost use Rattle.up_wire.specs.Limits.{max_interruptions};
 
 use crate::connection;
@@ -17,11 +16,8 @@ use crate::step::MAX_INTERRUPTIONS;
 /// Writes all bytes. Retries an interrupted write. Returns whether all bytes were taken.
 pub(crate) fn write_all<W: Sink>(sink: &mut W, bytes: &[u8], interruptions: &mut u32) -> bool
     requires { interruptions.old < max_interruptions }
-    ensures written { (front : List ℕ) × IsFront front bytes.now
-        × Appends (W.device sink.old).bytes (W.device sink.new).bytes front
-        × (result ≡ true → front ≡ bytes.now) }
-    ensures tries { Tries (W.device sink.old) (W.device sink.new)
-        interruptions.old interruptions.new result }
+    ensures { HasWritten (W.device sink.old) (W.device sink.new)
+        interruptions.old interruptions.new bytes.now result }
 {
     let mut rest = bytes;
     'pieces: while !rest.is_empty() {
@@ -42,10 +38,8 @@ pub(crate) fn write_all<W: Sink>(sink: &mut W, bytes: &[u8], interruptions: &mut
 /// Writes the pieces, in order. Returns whether all bytes were taken.
 pub(crate) fn write_each<W: Sink>(sink: &mut W, pieces: &[&[u8]], interruptions: &mut u32) -> bool
     requires { interruptions.old < max_interruptions }
-    ensures written { WritesIf (W.device sink.old).bytes (W.device sink.new).bytes
-        (joined pieces.now) result }
-    ensures tries { Tries (W.device sink.old) (W.device sink.new)
-        interruptions.old interruptions.new result }
+    ensures { HasWritten (W.device sink.old) (W.device sink.new)
+        interruptions.old interruptions.new (joined pieces.now) result }
 {
     for piece in pieces {
         if !write_all(sink, piece, interruptions) {
@@ -95,13 +89,10 @@ pub(crate) fn continue_if_asked<W: Sink>(
     interruptions: &mut u32,
 ) -> bool
     requires { interruptions.old < max_interruptions }
-    ensures written { (front : List ℕ)
-        × IsFront front (interim framing head.now.minor head.now.fields)
-        × Appends (W.device sink.old).bytes (W.device sink.new).bytes front
-        × (result ≡ true → front ≡ interim framing head.now.minor head.now.fields) }
+    ensures written { HasWritten (W.device sink.old) (W.device sink.new)
+        interruptions.old interruptions.new
+        (interim framing head.now.minor head.now.fields) result }
     ensures due { result ≡ false → 0 < length (interim framing head.now.minor head.now.fields) }
-    ensures tries { Tries (W.device sink.old) (W.device sink.new)
-        interruptions.old interruptions.new result }
 {
     if has_body(framing) && connection::asks_to_continue(head.minor, head.fields.as_slice()) {
         if !write_all(sink, b"HTTP/1.1 100 Continue\r\n\r\n", interruptions) {

@@ -1,8 +1,8 @@
-use Rattle.std.proofs.Common.{arith, ◌∷◌}
-use Rattle.std.proofs.lemmas.Grind.{common_steps}
+use Rattle.std.proofs.Common.{◌∷◌}
+use Rattle.up_wire.proofs.Counting.{took_on}
 use Rattle.up_wire.proofs.body.read_front.Goals as goal
 
-pub returns-in-Byte-clause-answer : goal.returns-in-Byte-clause-answer
-returns-in-Byte-clause-answer g c =
-    let answer = c.read_large_front.ensures.answer in
-    (c.in-Byte.first ∷ answer.0, answer.1, grind (arith, common_steps), answer.3, answer.4)
+pub returns-in-Byte : goal.returns-in-Byte
+returns-in-Byte g c =
+    let more = c.read_large_front.ensures in
+    record { input = c.in-Byte.first ∷ more.input; ending = more.ending; took = took_on c.in-Byte.ensures more.took; is = more.is }

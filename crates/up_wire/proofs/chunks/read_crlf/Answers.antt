@@ -1,10 +1,15 @@
 use Rattle.std.proofs.Common.{◌++◌}
-use Rattle.std.proofs.KnownBytes.{Consumes-trans}
 use Rattle.up_wire.proofs.ChunkedTexts.{crlf_after}
+use Rattle.up_wire.proofs.Counting.{took_on, took_so}
 use Rattle.up_wire.proofs.chunks.read_crlf.Goals as goal
 
-pub returns-in-Ok-clause-answer : goal.returns-in-Ok-clause-answer
-returns-in-Ok-clause-answer g c =
-    let a = c.in-Ok.ensures.answer in
-    let b = c.read_byte-in-Ok.ensures.answer in
-    (a.0 ++ b.0, b.1, Consumes-trans _ _ _ _ _ a.2 b.2, b.3, crlf_after a.0 b.0 b.1 c.read_byte-in-Ok.result a.4.0 b.4)
+pub returns-in-Ok : goal.returns-in-Ok
+returns-in-Ok g c =
+    let a = c.in-Ok.ensures in
+    let b = c.read_byte-in-Ok.ensures in
+    record {
+      input = a.input ++ b.input;
+      ending = b.ending;
+      took = took_on (took_so a.took a.is.1) b.took;
+      is = crlf_after a.input b.input b.ending c.read_byte-in-Ok.result a.is.0 b.is;
+    }

@@ -1,11 +1,9 @@
 use Rattle.std.proofs.Common.{◌≡◌, ◌<◌, ◌≤◌, ℕ, List, [], ◌++◌, length, All, false, refl, sym, ap, ◌∙◌, subst, arith, inl, inr}
 use Rattle.std.proofs.lemmas.Grind.{common_steps}
-use Rattle.std.specs.Io.KnownBytes.{Consumes}
-use Rattle.std.proofs.KnownBytes.{Consumes-nil, Consumes-trans}
 use Rattle.httparse.specs.Grammar.{HasNoRequest, NeverHasRequest}
 use Rattle.up_wire.specs.Message.{open_yet, failed, IsBlank}
 use Rattle.up_wire.specs.Limits.{max_head}
-use Rattle.up_wire.specs.Steps.{IsParsed, IsStanding, IsHeadRead, is_line_end, EndsSo}
+use Rattle.up_wire.specs.Steps.{IsParsed, IsStanding, IsHeadRead, is_line_end}
 use Rattle.up_wire.specs.declared.wire_fault.WireFault.{WireFault}
 use Rattle.up_wire.specs.declared.wire_fault.WireFault.TheVariants.{ReadFailed, HeadTooLarge}
 use Rattle.up_wire.specs.declared.head.Parsed.TheVariants as Parsed
@@ -15,7 +13,7 @@ use Rattle.std.proofs.lemmas.List.Elements.{All-nil}
 use Rattle.up_wire.proofs.BlankLines.{IsEnd}
 use Rattle.up_wire.proofs.EmptyLines.{whole_head, part_no_head, line_waits, not_same}
 use Rattle.up_wire.proofs.Lines.{rest_of}
-use Rattle.up_wire.proofs.Counting.{counts_none, counts_on}
+use Rattle.up_wire.proofs.Counting.{took_none, took_on, took_as, took_so}
 use Rattle.up_wire.proofs.head_reader.read_head.Goals as goal
 
 -- a read failed over bytes that are no head
@@ -36,149 +34,145 @@ pub lines-init : goal.lines-init
 lines-init g c =
     let none = c.new-text.ensures.items in
     record {
-      bytes = subst (Consumes _ _) (sym none) (Consumes-nil _);
-      counts = counts_none _ _;
-      patient = c.requires;
+      took = took_as (took_none _ _ c.requires) (sym none);
       short = omega (arith, ap length none);
       no_head = subst HasNoRequest (sym none) no_head_at_first;
       blank = λ not. subst (All IsEnd) (sym none) (All-nil IsEnd);
     }
 
-pub returns-in-Whole-parse-clause-answer : goal.returns-in-Whole-parse-clause-answer
-returns-in-Whole-parse-clause-answer g c =
+pub returns-in-Whole-parse : goal.returns-in-Whole-parse
+returns-in-Whole-parse g c =
     let old = c.lines.invariant in
     let a = c.in-Whole.ensures.answer in
     let text = c.lines.text.items in
-    let same = c.deref-then-is_begun-is_empty.ensures.value ∙ a.4 in
+    let same = c.deref-then-is_begun-is_empty.ensures.value ∙ a.is.0 in
     let parsed = subst (λ t. IsParsed t (Parsed.Whole c.in-Whole-parse.head)) same c.in-Whole-parse.ensures in
-    let short : length (text ++ a.0) ≤ max_head = omega (arith, ap length a.4, c.in-Whole.ensures.within) in
-    let alone = whole_head text a.0 parsed.0 parsed.1 old.no_head a.5.0 short parsed.2 parsed.3 in
-    (text ++ a.0, a.1, Consumes-trans _ _ _ _ _ old.bytes a.2, a.3, record { head = parsed.0; is_head = alone; keeps = parsed.4; goes_on = a.5.1 })
+    let short : length (text ++ a.input) ≤ max_head = omega (arith, ap length a.is.0, c.in-Whole.ensures.within) in
+    let alone = whole_head text a.input parsed.0 parsed.1 old.no_head a.is.1.0 short parsed.2 parsed.3 in
+    record { input = text ++ a.input; ending = a.ending; took = took_on old.took a.took; is = record { head = parsed.0; is_head = alone; keeps = parsed.4; goes_on = a.is.1.1 } }
 
-pub returns-in-NoMemory-parse-clause-answer : goal.returns-in-NoMemory-parse-clause-answer
-returns-in-NoMemory-parse-clause-answer g c =
+pub returns-in-NoMemory-parse : goal.returns-in-NoMemory-parse
+returns-in-NoMemory-parse g c =
     let old = c.lines.invariant in
     let a = c.in-Whole.ensures.answer in
     let text = c.lines.text.items in
-    let same = c.deref-then-is_begun-is_empty.ensures.value ∙ a.4 in
+    let same = c.deref-then-is_begun-is_empty.ensures.value ∙ a.is.0 in
     let parsed = subst (λ t. IsParsed t (Parsed.NoMemory c.in-NoMemory-parse.bare)) same c.in-NoMemory-parse.ensures in
-    let short : length (text ++ a.0) ≤ max_head = omega (arith, ap length a.4, c.in-Whole.ensures.within) in
-    let alone = whole_head text a.0 parsed.0 parsed.1 old.no_head a.5.0 short parsed.2 parsed.3 in
-    (text ++ a.0, a.1, Consumes-trans _ _ _ _ _ old.bytes a.2, a.3, inr (parsed.0, [], alone, parsed.4))
+    let short : length (text ++ a.input) ≤ max_head = omega (arith, ap length a.is.0, c.in-Whole.ensures.within) in
+    let alone = whole_head text a.input parsed.0 parsed.1 old.no_head a.is.1.0 short parsed.2 parsed.3 in
+    record { input = text ++ a.input; ending = a.ending; took = took_on old.took a.took; is = inr (parsed.0, [], alone, parsed.4) }
 
-pub returns-in-Invalid-clause-answer : goal.returns-in-Invalid-clause-answer
-returns-in-Invalid-clause-answer g c =
+pub returns-in-Invalid : goal.returns-in-Invalid
+returns-in-Invalid g c =
     let old = c.lines.invariant in
     let a = c.in-Whole.ensures.answer in
     let text = c.lines.text.items in
-    let same = c.deref-then-is_begun-is_empty.ensures.value ∙ a.4 in
+    let same = c.deref-then-is_begun-is_empty.ensures.value ∙ a.is.0 in
     let never = subst NeverHasRequest same c.in-Invalid.ensures in
-    let short : length (text ++ a.0) ≤ max_head = omega (arith, ap length a.4, c.in-Whole.ensures.within) in
-    (text ++ a.0, a.1, Consumes-trans _ _ _ _ _ old.bytes a.2, a.3, subst (IsHeadRead (text ++ a.0) a.1) (sym c.refuse.ensures) (inl (short, never), refl))
+    let short : length (text ++ a.input) ≤ max_head = omega (arith, ap length a.is.0, c.in-Whole.ensures.within) in
+    record { input = text ++ a.input; ending = a.ending; took = took_on old.took a.took; is = subst (IsHeadRead (text ++ a.input) a.ending) (sym c.refuse.ensures) (inl (short, never), refl) }
 
-pub returns-in-TooManyFields-clause-answer : goal.returns-in-TooManyFields-clause-answer
-returns-in-TooManyFields-clause-answer g c =
+pub returns-in-TooManyFields : goal.returns-in-TooManyFields
+returns-in-TooManyFields g c =
     let old = c.lines.invariant in
     let a = c.in-Whole.ensures.answer in
     let text = c.lines.text.items in
-    let same = c.deref-then-is_begun-is_empty.ensures.value ∙ a.4 in
+    let same = c.deref-then-is_begun-is_empty.ensures.value ∙ a.is.0 in
     let parsed = subst (λ t. IsParsed t Parsed.TooManyFields) same c.in-TooManyFields.ensures in
-    let short : length (text ++ a.0) ≤ max_head = omega (arith, ap length a.4, c.in-Whole.ensures.within) in (
-      text ++ a.0,
-      a.1,
-      Consumes-trans _ _ _ _ _ old.bytes a.2,
-      a.3,
-      subst (IsHeadRead (text ++ a.0) a.1) (sym c.refuse-in-TooManyFields.ensures) (inl (short, parsed), refl),
-    )
+    let short : length (text ++ a.input) ≤ max_head = omega (arith, ap length a.is.0, c.in-Whole.ensures.within) in
+    record {
+      input = text ++ a.input;
+      ending = a.ending;
+      took = took_on old.took a.took;
+      is = subst (IsHeadRead (text ++ a.input) a.ending) (sym c.refuse-in-TooManyFields.ensures) (inl (short, parsed), refl);
+    }
 
 pub lines-preserved : goal.lines-preserved
 lines-preserved g c =
     let old = c.lines.invariant in
     let a = c.in-Whole.ensures.answer in
     let text = c.lines.text.items in
-    let line : c.is_line_end-is_empty.result ≡ is_line_end a.0 =
-    c.is_line_end-is_empty.ensures ∙ ap is_line_end (rest_of text a.0 c.deref.result.now c.len-start.result (c.deref.ensures.value ∙ a.4) (omega (arith, c.len-start.ensures))) in
-    let waits = line_waits text a.0 c.lines.is_begun c.is_line_end-is_empty.result line (not_same c.lines.is_begun c.is_line_end-is_empty.result c.if-is_begun-is_empty.false) old.no_head old.blank a.5.0 in
+    let line : c.is_line_end-is_empty.result ≡ is_line_end a.input =
+    c.is_line_end-is_empty.ensures ∙ ap is_line_end (rest_of text a.input c.deref.result.now c.len-start.result (c.deref.ensures.value ∙ a.is.0) (omega (arith, c.len-start.ensures))) in
+    let waits = line_waits text a.input c.lines.is_begun c.is_line_end-is_empty.result line (not_same c.lines.is_begun c.is_line_end-is_empty.result c.if-is_begun-is_empty.false) old.no_head old.blank a.is.1.0 in
     record {
-      bytes = subst (Consumes _ _) (sym a.4) (Consumes-trans _ _ _ _ _ old.bytes a.2);
-      counts = counts_on _ _ _ _ _ _ old.counts c.in-Whole.ensures.counts;
-      patient = subst (λ e. EndsSo e (g.R.Source.device c.take_line.new.source) c.take_line.new.interruptions) a.5.1 a.3;
+      took = took_as (took_on old.took (took_so a.took a.is.1.1)) (sym a.is.0);
       short = omega (arith, c.in-Whole.ensures.within);
-      no_head = subst HasNoRequest (sym a.4) waits.0;
-      blank = λ not. subst (All IsEnd) (sym a.4) (waits.1 not);
+      no_head = subst HasNoRequest (sym a.is.0) waits.0;
+      blank = λ not. subst (All IsEnd) (sym a.is.0) (waits.1 not);
     }
 
 pub fault_of-requires : goal.fault_of-requires
 fault_of-requires g c =
     let a = c.in-Full.ensures.answer in
-    subst HasNoRequest (sym (c.deref-in-Full.ensures.value ∙ a.4)) (part_no_head c.lines.text.items a.0 c.lines.invariant.no_head a.5.0)
+    subst HasNoRequest (sym (c.deref-in-Full.ensures.value ∙ a.is.0)) (part_no_head c.lines.text.items a.input c.lines.invariant.no_head a.is.1.0)
 
-pub returns-in-Full-clause-answer : goal.returns-in-Full-clause-answer
-returns-in-Full-clause-answer g c =
+pub returns-in-Full : goal.returns-in-Full
+returns-in-Full g c =
     let old = c.lines.invariant in
     let a = c.in-Full.ensures.answer in
     let text = c.lines.text.items in
-    let standing = subst (λ t. IsStanding t HeadTooLarge c.fault_of.result) (c.deref-in-Full.ensures.value ∙ a.4) c.fault_of.ensures in
-    let full : length (text ++ a.0) ≡ max_head = omega (arith, ap length a.4, a.5.1) in (
-      text ++ a.0,
-      open_yet,
-      Consumes-trans _ _ _ _ _ old.bytes a.2,
-      subst (λ e. EndsSo e (g.R.Source.device c.take_line.new.source) c.take_line.new.interruptions) a.5.2 a.3,
-      subst (IsHeadRead (text ++ a.0) open_yet) (sym c.refuse-in-Full.ensures) (standing_full (text ++ a.0) c.fault_of.result standing (part_no_head text a.0 old.no_head a.5.0) full),
-    )
+    let standing = subst (λ t. IsStanding t HeadTooLarge c.fault_of.result) (c.deref-in-Full.ensures.value ∙ a.is.0) c.fault_of.ensures in
+    let full : length (text ++ a.input) ≡ max_head = omega (arith, ap length a.is.0, a.is.1.1) in
+    record {
+      input = text ++ a.input;
+      ending = open_yet;
+      took = took_on old.took (took_so a.took a.is.1.2);
+      is = subst (IsHeadRead (text ++ a.input) open_yet) (sym c.refuse-in-Full.ensures) (standing_full (text ++ a.input) c.fault_of.result standing (part_no_head text a.input old.no_head a.is.1.0) full);
+    }
 
-pub returns-then-is_blank-clause-answer : goal.returns-then-is_blank-clause-answer
-returns-then-is_blank-clause-answer g c =
+pub returns-then-is_blank : goal.returns-then-is_blank
+returns-then-is_blank g c =
     let old = c.lines.invariant in
     let a = c.in-Ended.ensures.answer in
     let text = c.lines.text.items in
-    let blank : IsBlank (text ++ a.0) = subst IsBlank (c.deref-in-Ended.ensures.value ∙ a.4) (cc (c.if-is_blank.ensures)) in
-    (text ++ a.0, a.1, Consumes-trans _ _ _ _ _ old.bytes a.2, a.3, ((omega (arith, ap length a.4, a.5.1), blank), a.5.2))
+    let blank : IsBlank (text ++ a.input) = subst IsBlank (c.deref-in-Ended.ensures.value ∙ a.is.0) (cc (c.if-is_blank.ensures)) in
+    record { input = text ++ a.input; ending = a.ending; took = took_on old.took a.took; is = ((omega (arith, ap length a.is.0, a.is.1.1), blank), a.is.1.2) }
 
-pub returns-in-Ended-clause-answer : goal.returns-in-Ended-clause-answer
-returns-in-Ended-clause-answer g c =
+pub returns-in-Ended : goal.returns-in-Ended
+returns-in-Ended g c =
     let old = c.lines.invariant in
     let a = c.in-Ended.ensures.answer in
     let text = c.lines.text.items in
-    let same = c.deref-in-Ended.ensures.value ∙ a.4 in (
-      text ++ a.0,
-      a.1,
-      Consumes-trans _ _ _ _ _ old.bytes a.2,
-      a.3,
-      subst (IsHeadRead (text ++ a.0) a.1) (sym c.refuse-in-Ended.ensures)
-          (inr (a.5.2, part_no_head text a.0 old.no_head a.5.0, omega (arith, ap length a.4, a.5.1), λ blank. cc (blank, c.if-is_blank.ensures, same)), refl),
-    )
+    let same = c.deref-in-Ended.ensures.value ∙ a.is.0 in
+    record {
+      input = text ++ a.input;
+      ending = a.ending;
+      took = took_on old.took a.took;
+      is = subst (IsHeadRead (text ++ a.input) a.ending) (sym c.refuse-in-Ended.ensures)
+          (inr (a.is.1.2, part_no_head text a.input old.no_head a.is.1.0, omega (arith, ap length a.is.0, a.is.1.1), λ blank. cc (blank, c.if-is_blank.ensures, same)), refl);
+    }
 
 pub fault_of-requires-in-Failed : goal.fault_of-requires-in-Failed
 fault_of-requires-in-Failed g c =
     let a = c.in-Failed.ensures.answer in
-    subst HasNoRequest (sym (c.deref-in-Failed.ensures.value ∙ a.4)) (part_no_head c.lines.text.items a.0 c.lines.invariant.no_head a.5.0)
+    subst HasNoRequest (sym (c.deref-in-Failed.ensures.value ∙ a.is.0)) (part_no_head c.lines.text.items a.input c.lines.invariant.no_head a.is.1.0)
 
-pub returns-in-Failed-clause-answer : goal.returns-in-Failed-clause-answer
-returns-in-Failed-clause-answer g c =
+pub returns-in-Failed : goal.returns-in-Failed
+returns-in-Failed g c =
     let old = c.lines.invariant in
     let a = c.in-Failed.ensures.answer in
     let text = c.lines.text.items in
-    let standing = subst (λ t. IsStanding t ReadFailed c.fault_of-in-Failed.result) (c.deref-in-Failed.ensures.value ∙ a.4) c.fault_of-in-Failed.ensures in
-    let short : length (text ++ a.0) < max_head = omega (arith, ap length a.4, a.5.1) in (
-      text ++ a.0,
-      failed,
-      Consumes-trans _ _ _ _ _ old.bytes a.2,
-      subst (λ e. EndsSo e (g.R.Source.device c.take_line.new.source) c.take_line.new.interruptions) a.5.2 a.3,
-      subst (IsHeadRead (text ++ a.0) failed) (sym c.refuse-in-Failed.ensures) (standing_failed (text ++ a.0) c.fault_of-in-Failed.result standing (part_no_head text a.0 old.no_head a.5.0) short),
-    )
+    let standing = subst (λ t. IsStanding t ReadFailed c.fault_of-in-Failed.result) (c.deref-in-Failed.ensures.value ∙ a.is.0) c.fault_of-in-Failed.ensures in
+    let short : length (text ++ a.input) < max_head = omega (arith, ap length a.is.0, a.is.1.1) in
+    record {
+      input = text ++ a.input;
+      ending = failed;
+      took = took_on old.took (took_so a.took a.is.1.2);
+      is = subst (IsHeadRead (text ++ a.input) failed) (sym c.refuse-in-Failed.ensures) (standing_failed (text ++ a.input) c.fault_of-in-Failed.result standing (part_no_head text a.input old.no_head a.is.1.0) short);
+    }
 
-pub returns-in-NoMemory-clause-answer : goal.returns-in-NoMemory-clause-answer
-returns-in-NoMemory-clause-answer g c =
+pub returns-in-NoMemory : goal.returns-in-NoMemory
+returns-in-NoMemory g c =
     let old = c.lines.invariant in
     let a = c.in-NoMemory.ensures.answer in
-    let text = c.lines.text.items in (
-      text ++ a.0,
-      a.1,
-      Consumes-trans _ _ _ _ _ old.bytes a.2,
-      a.3,
-      subst (IsHeadRead (text ++ a.0) a.1) (sym c.refuse-in-NoMemory.ensures) (inl (part_no_head text a.0 old.no_head a.5.0, refl)),
-    )
+    let text = c.lines.text.items in
+    record {
+      input = text ++ a.input;
+      ending = a.ending;
+      took = took_on old.took a.took;
+      is = subst (IsHeadRead (text ++ a.input) a.ending) (sym c.refuse-in-NoMemory.ensures) (inl (part_no_head text a.input old.no_head a.is.1.0, refl));
+    }
 
 pub slice_bounds-is_line_end-count : goal.slice_bounds-is_line_end-count
 slice_bounds-is_line_end-count g c = grind (arith, common_steps)

@@ -1,14 +1,13 @@
-use Rattle.std.proofs.Common.{◌≡◌, ◌+◌, ◌-◌, ◌<◌, ◌≤◌, List, ℕ, ◌++◌, length, vec_len}
-use Rattle.std.specs.Io.KnownBytes.{Consumes}
+use Rattle.std.proofs.Common.{◌≡◌, ◌+◌, ◌-◌, ◌≤◌, List, ℕ, ◌++◌, length, vec_len}
 use Rattle.up_wire.specs.Limits.{max_interruptions}
-use Rattle.up_wire.specs.Device.{Counts, HasNoFeed}
+use Rattle.up_wire.specs.Device.{HasNoFeed}
+use Rattle.up_wire.specs.Message.{open_yet}
+use Rattle.up_wire.specs.Steps.{Took}
 use Rattle.up_wire.proofs.line.take_line.Given as goal
 
 abbrev pub invariant-runs : goal.invariant-runs
 invariant-runs g l = record {
-  line : (line : List ℕ) × Consumes (g.R.Source.device l.fn.source).bytes (g.R.Source.device l.source).bytes line × (l.text.items ≡ l.fn.text.items ++ line) × HasNoFeed line;
-  counts : Counts (g.R.Source.device l.fn.source) (g.R.Source.device l.source) l.fn.interruptions l.interruptions;
-  patient : l.interruptions < max_interruptions;
+  line : (line : List ℕ) × Took (g.R.Source.device l.fn.source) (g.R.Source.device l.source) l.fn.interruptions l.interruptions line open_yet × (l.text.items ≡ l.fn.text.items ++ line) × HasNoFeed line;
   within : length l.text.items ≤ l.most;
 }
 

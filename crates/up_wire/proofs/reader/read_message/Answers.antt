@@ -7,45 +7,45 @@ use Rattle.up_wire.proofs.reader.read_message.Goals as goal
 
 pub returns-in-Fault : goal.returns-in-Fault
 returns-in-Fault g c =
-    let a = c.in-Fault.ensures.answer in
-    let counted = c.in-Fault.ensures.counts.counted in
-    let both = head_fault c.args.limits.now.max_body a.0 a.1 c.in-Fault.fault c.in-Fault.bare a.4 in
+    let a = c.in-Fault.ensures in
+    let counted = a.took.counts.counted in
+    let both = head_fault c.args.limits.now.max_body a.input a.ending c.in-Fault.fault c.in-Fault.bare a.is in
     record {
-      input = a.0;
-      ending = a.1;
+      input = a.input;
+      ending = a.ending;
       line = [];
-      took = a.2;
+      took = a.took.bytes;
       wrote = Appends-nil _;
-      shows = shows_of a.1 _ _ _ _ a.3 (omega arith) (λ often. omega (arith, counted, often));
-      is_patient = patient_of a.1 _ _ _ _ a.3 (omega arith);
+      shows = shows_of a.ending _ _ _ _ a.took.ends (omega arith) (λ often. omega (arith, counted, often));
+      is_patient = patient_of a.ending _ _ _ _ a.took.ends (omega arith);
       is_answer = both.0;
       is_interim = both.1;
-      is_unwritten = λ failed. absurd (no_write c.in-Fault.fault c.in-Fault.bare (head_written a.0 a.1 c.in-Fault.fault c.in-Fault.bare a.4) failed);
+      is_unwritten = λ failed. absurd (no_write c.in-Fault.fault c.in-Fault.bare (head_written a.input a.ending c.in-Fault.fault c.in-Fault.bare a.is) failed);
     }
 
 pub returns-in-Err : goal.returns-in-Err
 returns-in-Err g c =
-    let a = c.in-Whole.ensures.answer in
-    let counted = c.in-Whole.ensures.counts.counted in
+    let a = c.in-Whole.ensures in
+    let counted = a.took.counts.counted in
     let limit = c.args.limits.now.max_body in
     let h = c.in-Whole.head in
-    let head = a.4.head in
-    let has = a.4.keeps in
+    let head = a.is.head in
+    let has = a.is.keeps in
     let fault = c.in-Err.fault in
     let framed = framing_is limit h head c.as_slice.result.now (Err fault) has c.as_slice.ensures c.in-Err.ensures in
     let bare = bare_is h head c.is_bare-bare.result has c.is_bare-bare.ensures in
-    let both = framing_fault limit a.0 open_yet fault c.is_bare-bare.result []
+    let both = framing_fault limit a.input open_yet fault c.is_bare-bare.result []
     (framing_error limit head.minor (fields_of head) fault framed)
-    (record { head = head; behind = []; is_head = a.4.is_head; is_fault = inl (framed, refl); bare_is = bare })
-    (head, [], a.4.is_head, sym (ap (λ r. interim_after r head) framed)) in
+    (record { head = head; behind = []; is_head = a.is.is_head; is_fault = inl (framed, refl); bare_is = bare })
+    (head, [], a.is.is_head, sym (ap (λ r. interim_after r head) framed)) in
     record {
-      input = a.0;
+      input = a.input;
       ending = open_yet;
       line = [];
-      took = a.2;
+      took = a.took.bytes;
       wrote = Appends-nil _;
       shows = tt;
-      is_patient = inl (omega (arith, still_open a.1 _ _ a.4.goes_on a.3, c.in-Whole.ensures.counts.counted));
+      is_patient = inl (omega (arith, still_open a.ending _ _ a.is.goes_on a.took.ends, a.took.counts.counted));
       is_answer = both.0;
       is_interim = both.1;
       is_unwritten = λ failed. absurd (no_write fault c.is_bare-bare.result (error_written fault (framing_error limit head.minor (fields_of head) fault framed)) failed);
@@ -53,131 +53,135 @@ returns-in-Err g c =
 
 pub returns-then-not-continue_if_asked : goal.returns-then-not-continue_if_asked
 returns-then-not-continue_if_asked g c =
-    let a = c.in-Whole.ensures.answer in
+    let a = c.in-Whole.ensures in
     let limit = c.args.limits.now.max_body in
     let h = c.in-Whole.head in
-    let head = a.4.head in
-    let has = a.4.keeps in
+    let head = a.is.head in
+    let has = a.is.keeps in
     let framed = framing_is limit h head c.as_slice.result.now (Ok c.in-Ok.framing) has c.as_slice.ensures c.in-Ok.ensures in
-    let written = c.continue_if_asked.ensures.written in
+    let wrote = c.continue_if_asked.ensures.written in
+    let written = wrote.written in
     record {
-      input = a.0;
+      input = a.input;
       ending = open_yet;
       line = written.0;
-      took = a.2;
+      took = a.took.bytes;
       wrote = written.2;
       shows = tt;
-      is_patient = patient_write open_yet c.is_bare-bare.result _ _ c.continue_if_asked.ensures.tries.bounded (omega (arith, c.in-Whole.ensures.counts.counted, c.continue_if_asked.ensures.tries.counts.counted));
-      is_answer = (head, a.4.is_head, bare_is h head c.is_bare-bare.result has c.is_bare-bare.ensures);
-      is_interim = (_, (head, [], a.4.is_head, due_is limit h head c.in-Ok.framing _ has framed refl), c.continue_if_asked.ensures.due c.if-not-continue_if_asked.true, written.1);
+      is_patient = patient_write open_yet c.is_bare-bare.result _ _ wrote.tries.bounded (omega (arith, a.took.counts.counted, wrote.tries.counts.counted));
+      is_answer = (head, a.is.is_head, bare_is h head c.is_bare-bare.result has c.is_bare-bare.ensures);
+      is_interim = (_, (head, [], a.is.is_head, due_is limit h head c.in-Ok.framing _ has framed refl), c.continue_if_asked.ensures.due c.if-not-continue_if_asked.true, written.1);
       is_unwritten = λ failed. broke
           (g.W.Sink.device c.args.sink.now)
           (g.W.Sink.device c.continue_if_asked.new.sink)
-          _ _ (c.continue_if_asked.ensures.tries.failed c.if-not-continue_if_asked.true) c.continue_if_asked.ensures.tries.bounded
-          (omega (arith, c.in-Whole.ensures.counts.counted, c.continue_if_asked.ensures.tries.counts.counted))
-          (λ often. omega (arith, often, still_open a.1 _ _ a.4.goes_on a.3, c.continue_if_asked.ensures.tries.counts.counted));
+          _ _ (wrote.tries.failed c.if-not-continue_if_asked.true) wrote.tries.bounded
+          (omega (arith, a.took.counts.counted, wrote.tries.counts.counted))
+          (λ often. omega (arith, often, still_open a.ending _ _ a.is.goes_on a.took.ends, wrote.tries.counts.counted));
     }
 
 pub returns-in-Whole-read_body : goal.returns-in-Whole-read_body
 returns-in-Whole-read_body g c =
-    let a = c.in-Whole.ensures.answer in
+    let a = c.in-Whole.ensures in
     let limit = c.args.limits.now.max_body in
     let h = c.in-Whole.head in
-    let head = a.4.head in
-    let has = a.4.keeps in
+    let head = a.is.head in
+    let has = a.is.keeps in
     let framed = framing_is limit h head c.as_slice.result.now (Ok c.in-Ok.framing) has c.as_slice.ensures c.in-Ok.ensures in
-    let written = c.continue_if_asked.ensures.written in
+    let wrote = c.continue_if_asked.ensures.written in
+    let written = wrote.written in
     let all = written.3 c.if-not-continue_if_asked.false in
     let b = c.in-Whole-read_body.ensures.answer in
-    let counted = c.in-Whole-read_body.ensures.counts.counted in
+    let counted = b.took.counts.counted in
     let m = c.into_message in
-    let whole = head_more a.0 head b.0 a.4.is_head in
+    let whole = head_more a.input head b.input a.is.is_head in
     record {
-      input = a.0 ++ b.0;
-      ending = b.1;
+      input = a.input ++ b.input;
+      ending = b.ending;
       line = written.0;
-      took = Consumes-trans _ _ _ _ _ a.2 b.2;
+      took = Consumes-trans _ _ _ _ _ a.took.bytes b.took.bytes;
       wrote = written.2;
-      shows = shows_of b.1 _ _ _ _ b.3 (omega arith) (λ often. omega (arith, often, counted, c.in-Whole.ensures.counts.counted, c.continue_if_asked.ensures.tries.patient c.if-not-continue_if_asked.false));
-      is_patient = patient_of b.1 _ _ _ _ b.3 (omega arith);
+      shows = shows_of b.ending _ _ _ _ b.took.ends (omega arith) (λ often. omega (arith, often, counted, a.took.counts.counted, wrote.tries.patient c.if-not-continue_if_asked.false));
+      is_patient = patient_of b.ending _ _ _ _ b.took.ends (omega arith);
       is_answer = record {
         head = head;
-        behind = b.0;
+        behind = b.input;
         is_head = whole;
         framing = c.in-Ok.framing;
         is_framed = framed;
-        text = b.0;
-        is_body = subst (λ bytes. IsBody limit c.in-Ok.framing bytes b.0) (sym (m.ensures.body ∙ c.from_vec.ensures)) b.4.0;
-        behind_is = sym (append-nil b.0);
+        text = b.input;
+        is_body = subst (λ bytes. IsBody limit c.in-Ok.framing bytes b.input) (sym (m.ensures.body ∙ c.from_vec.ensures)) b.is.0;
+        behind_is = sym (append-nil b.input);
         parts = parts_are h head m.result has m.ensures.method m.ensures.target m.ensures.fields m.ensures.bare m.ensures.close;
       };
-      is_interim = (head, b.0, whole, due_is limit h head c.in-Ok.framing written.0 has framed all);
+      is_interim = (head, b.input, whole, due_is limit h head c.in-Ok.framing written.0 has framed all);
       is_unwritten = λ failed. absurd (cc (failed.1));
     }
 
 pub returns-in-Cut : goal.returns-in-Cut
 returns-in-Cut g c =
-    let a = c.in-Whole.ensures.answer in
+    let a = c.in-Whole.ensures in
     let limit = c.args.limits.now.max_body in
     let h = c.in-Whole.head in
-    let head = a.4.head in
-    let has = a.4.keeps in
+    let head = a.is.head in
+    let has = a.is.keeps in
     let framed = framing_is limit h head c.as_slice.result.now (Ok c.in-Ok.framing) has c.as_slice.ensures c.in-Ok.ensures in
-    let written = c.continue_if_asked.ensures.written in
+    let wrote = c.continue_if_asked.ensures.written in
+    let written = wrote.written in
     let all = written.3 c.if-not-continue_if_asked.false in
     let b = c.in-Cut.ensures.answer in
-    let counted = c.in-Cut.ensures.counts.counted in
+    let counted = b.took.counts.counted in
     let m = c.into_message-in-Cut in
-    let whole = head_more a.0 head b.0 a.4.is_head in
+    let whole = head_more a.input head b.input a.is.is_head in
     record {
-      input = a.0 ++ b.0;
-      ending = b.1;
+      input = a.input ++ b.input;
+      ending = b.ending;
       line = written.0;
-      took = Consumes-trans _ _ _ _ _ a.2 b.2;
+      took = Consumes-trans _ _ _ _ _ a.took.bytes b.took.bytes;
       wrote = written.2;
-      shows = shows_of b.1 _ _ _ _ b.3 (omega arith) (λ often. omega (arith, often, counted, c.in-Whole.ensures.counts.counted, c.continue_if_asked.ensures.tries.patient c.if-not-continue_if_asked.false));
-      is_patient = patient_of b.1 _ _ _ _ b.3 (omega arith);
+      shows = shows_of b.ending _ _ _ _ b.took.ends (omega arith) (λ often. omega (arith, often, counted, a.took.counts.counted, wrote.tries.patient c.if-not-continue_if_asked.false));
+      is_patient = patient_of b.ending _ _ _ _ b.took.ends (omega arith);
       is_answer = (
         record {
           head = head;
-          behind = b.0;
+          behind = b.input;
           is_head = whole;
           framing = c.in-Ok.framing;
           is_framed = framed;
-          is_cut = subst (λ bytes. IsCutBody limit c.in-Ok.framing bytes b.0) (sym (m.ensures.body ∙ c.from_vec-in-Cut.ensures)) b.4.0;
+          is_cut = subst (λ bytes. IsCutBody limit c.in-Ok.framing bytes b.input) (sym (m.ensures.body ∙ c.from_vec-in-Cut.ensures)) b.is.0;
           parts = parts_are h head m.result has m.ensures.method m.ensures.target m.ensures.fields m.ensures.bare m.ensures.close;
         },
-        b.4.1,
+        b.is.1,
       );
-      is_interim = (head, b.0, whole, due_is limit h head c.in-Ok.framing written.0 has framed all);
+      is_interim = (head, b.input, whole, due_is limit h head c.in-Ok.framing written.0 has framed all);
       is_unwritten = λ failed. absurd (cc (failed.1));
     }
 
 pub returns-in-Fault-read_body : goal.returns-in-Fault-read_body
 returns-in-Fault-read_body g c =
-    let a = c.in-Whole.ensures.answer in
+    let a = c.in-Whole.ensures in
     let limit = c.args.limits.now.max_body in
     let h = c.in-Whole.head in
-    let head = a.4.head in
-    let has = a.4.keeps in
+    let head = a.is.head in
+    let has = a.is.keeps in
     let framed = framing_is limit h head c.as_slice.result.now (Ok c.in-Ok.framing) has c.as_slice.ensures c.in-Ok.ensures in
-    let written = c.continue_if_asked.ensures.written in
+    let wrote = c.continue_if_asked.ensures.written in
+    let written = wrote.written in
     let all = written.3 c.if-not-continue_if_asked.false in
     let b = c.in-Fault-read_body.ensures.answer in
-    let counted = c.in-Fault-read_body.ensures.counts.counted in
-    let whole = head_more a.0 head b.0 a.4.is_head in
+    let counted = b.took.counts.counted in
+    let whole = head_more a.input head b.input a.is.is_head in
     let bare = bare_is h head c.is_bare-bare.result has c.is_bare-bare.ensures in
     let due = due_is limit h head c.in-Ok.framing written.0 has framed all in
-    let both = fault_behind limit (a.0 ++ b.0) b.1 c.in-Fault-read_body.fault c.is_bare-bare.result written.0 head b.0 c.in-Ok.framing whole framed bare due b.4 in
+    let both = fault_behind limit (a.input ++ b.input) b.ending c.in-Fault-read_body.fault c.is_bare-bare.result written.0 head b.input c.in-Ok.framing whole framed bare due b.is in
     record {
-      input = a.0 ++ b.0;
-      ending = b.1;
+      input = a.input ++ b.input;
+      ending = b.ending;
       line = written.0;
-      took = Consumes-trans _ _ _ _ _ a.2 b.2;
+      took = Consumes-trans _ _ _ _ _ a.took.bytes b.took.bytes;
       wrote = written.2;
-      shows = shows_of b.1 _ _ _ _ b.3 (omega arith) (λ often. omega (arith, often, counted, c.in-Whole.ensures.counts.counted, c.continue_if_asked.ensures.tries.patient c.if-not-continue_if_asked.false));
-      is_patient = patient_of b.1 _ _ _ _ b.3 (omega arith);
+      shows = shows_of b.ending _ _ _ _ b.took.ends (omega arith) (λ often. omega (arith, often, counted, a.took.counts.counted, wrote.tries.patient c.if-not-continue_if_asked.false));
+      is_patient = patient_of b.ending _ _ _ _ b.took.ends (omega arith);
       is_answer = both.0;
       is_interim = both.1;
-      is_unwritten = λ failed. absurd (no_write c.in-Fault-read_body.fault c.is_bare-bare.result (body_written limit c.in-Ok.framing b.0 c.in-Fault-read_body.fault b.4) failed);
+      is_unwritten = λ failed. absurd (no_write c.in-Fault-read_body.fault c.is_bare-bare.result (body_written limit c.in-Ok.framing b.input c.in-Fault-read_body.fault b.is) failed);
     }

@@ -3,20 +3,16 @@ use Rattle.std.specs.Prelude.{codes}
 use Rattle.std.proofs.lemmas.Bool.{cond-true, cond-false}
 use Rattle.httparse.specs.Ascii.{crlf_bytes}
 use Rattle.std.specs.List.{concat}
-use Rattle.up_wire.specs.Response.{close_line, gap_text}
+use Rattle.up_wire.specs.Response.{close_line}
 use Rattle.up_wire.proofs.Writing.{writes_as}
 use Rattle.up_wire.proofs.response.write_gap.Goals.{then-close, else-close}
 use Rattle.up_wire.proofs.response.write_gap.Goals as goal
 
-pub returns-clause-written : goal.returns-clause-written
-returns-clause-written g c =
+pub returns : goal.returns
+returns g c =
     let line = codes "Connection: close\r\n" in
     let closing : c.if-close.closing.now ≡ close_line c.args.close = elim c.if-close.branch [
       | then-close w ↦ ap (λ s. s.now) w.closing-is ∙ sym (cond-true c.args.close line [] w.if-close.true)
       | else-close w ↦ ap (λ s. s.now) w.closing-is ∙ sym (cond-false c.args.close line [] w.if-close.false)
     ] in
-    writes_as _ _
-    (concat (c.if-close.closing.now ∷ crlf_bytes ∷ []))
-    (gap_text c.args.close) c.write_each.result
-    (λ i. concat (closing i ∷ crlf_bytes ∷ []))
-    c.write_each.ensures.written
+    writes_as (λ i. concat (closing i ∷ crlf_bytes ∷ [])) c.write_each.ensures

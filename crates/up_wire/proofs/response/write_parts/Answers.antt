@@ -1,49 +1,31 @@
-use Rattle.std.proofs.Common.{◌++◌, false, ap}
+use Rattle.std.proofs.Common.{◌++◌, ap}
 use Rattle.std.specs.List.{flat_map}
-use Rattle.up_wire.specs.Response.{start_text, field_line, length_line, end_text}
+use Rattle.up_wire.specs.Response.{field_line, length_line, end_text}
 use Rattle.up_wire.proofs.Writing.{writes_as, cut_at, then_at}
 use Rattle.up_wire.proofs.response.write_parts.Goals as goal
 
-pub returns-then-not-write_start-clause-written : goal.returns-then-not-write_start-clause-written
-returns-then-not-write_start-clause-written g c =
+pub returns-then-not-write_start : goal.returns-then-not-write_start
+returns-then-not-write_start g c =
     let r = c.args.response.now in
-    let start = start_text r.status in
-    let fields = flat_map field_line r.fields in
-    let size = length_line c.args.bare r in
-    let end = end_text c.args.bare c.args.close r.body in
-    cut_at _ _ start (fields ++ (size ++ end)) c.write_start.result c.if-not-write_start.true c.write_start.ensures.written
+    let after = length_line c.args.bare r ++ end_text c.args.bare c.args.close r.body in
+    cut_at (flat_map field_line r.fields ++ after) c.if-not-write_start.true c.write_start.ensures
 
-pub returns-then-not-write_fields-clause-written : goal.returns-then-not-write_fields-clause-written
-returns-then-not-write_fields-clause-written g c =
+pub returns-then-not-write_fields : goal.returns-then-not-write_fields
+returns-then-not-write_fields g c =
     let r = c.args.response.now in
-    let start = start_text r.status in
-    let fields = flat_map field_line r.fields in
-    let size = length_line c.args.bare r in
-    let end = end_text c.args.bare c.args.close r.body in
-    let lines = writes_as _ _ (flat_map field_line c.as_slice.result.now) fields c.write_fields.result (ap (flat_map field_line) c.as_slice.ensures) c.write_fields.ensures.written in
-    then_at _ _ _ start (fields ++ (size ++ end)) c.write_start.result false c.if-not-write_start.false c.write_start.ensures.written
-    (cut_at _ _ fields (size ++ end) c.write_fields.result c.if-not-write_fields.true lines)
+    let after = length_line c.args.bare r ++ end_text c.args.bare c.args.close r.body in
+    let fields = writes_as (ap (flat_map field_line) c.as_slice.ensures) c.write_fields.ensures in
+    then_at c.if-not-write_start.false c.write_start.ensures (cut_at after c.if-not-write_fields.true fields)
 
-pub returns-then-not-write_length-clause-written : goal.returns-then-not-write_length-clause-written
-returns-then-not-write_length-clause-written g c =
-    let r = c.args.response.now in
-    let start = start_text r.status in
-    let fields = flat_map field_line r.fields in
-    let size = length_line c.args.bare r in
-    let end = end_text c.args.bare c.args.close r.body in
-    let lines = writes_as _ _ (flat_map field_line c.as_slice.result.now) fields c.write_fields.result (ap (flat_map field_line) c.as_slice.ensures) c.write_fields.ensures.written in
-    then_at _ _ _ start (fields ++ (size ++ end)) c.write_start.result false c.if-not-write_start.false c.write_start.ensures.written
-    (then_at _ _ _ fields (size ++ end) c.write_fields.result false c.if-not-write_fields.false lines
-    (cut_at _ _ size end c.write_length.result c.if-not-write_length.true c.write_length.ensures.written))
+pub returns-then-not-write_length : goal.returns-then-not-write_length
+returns-then-not-write_length g c =
+    let end = end_text c.args.bare c.args.close c.args.response.now.body in
+    let fields = writes_as (ap (flat_map field_line) c.as_slice.ensures) c.write_fields.ensures in
+    then_at c.if-not-write_start.false c.write_start.ensures
+    (then_at c.if-not-write_fields.false fields (cut_at end c.if-not-write_length.true c.write_length.ensures))
 
-pub returns-clause-written : goal.returns-clause-written
-returns-clause-written g c =
-    let r = c.args.response.now in
-    let start = start_text r.status in
-    let fields = flat_map field_line r.fields in
-    let size = length_line c.args.bare r in
-    let end = end_text c.args.bare c.args.close r.body in
-    let lines = writes_as _ _ (flat_map field_line c.as_slice.result.now) fields c.write_fields.result (ap (flat_map field_line) c.as_slice.ensures) c.write_fields.ensures.written in
-    then_at _ _ _ start (fields ++ (size ++ end)) c.write_start.result c.write_end.result c.if-not-write_start.false c.write_start.ensures.written
-    (then_at _ _ _ fields (size ++ end) c.write_fields.result c.write_end.result c.if-not-write_fields.false lines
-    (then_at _ _ _ size end c.write_length.result c.write_end.result c.if-not-write_length.false c.write_length.ensures.written c.write_end.ensures.written))
+pub returns : goal.returns
+returns g c =
+    let fields = writes_as (ap (flat_map field_line) c.as_slice.ensures) c.write_fields.ensures in
+    then_at c.if-not-write_start.false c.write_start.ensures
+    (then_at c.if-not-write_fields.false fields (then_at c.if-not-write_length.false c.write_length.ensures c.write_end.ensures))

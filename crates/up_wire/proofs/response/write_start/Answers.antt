@@ -1,17 +1,15 @@
 use Rattle.std.proofs.Common.{◌≡◌, [], ◌∷◌, ◌∙◌}
 use Rattle.std.specs.Prelude.{codes, decimal}
 use Rattle.std.specs.List.{concat}
-use Rattle.up_wire.specs.Response.{phrase, start_text}
+use Rattle.up_wire.specs.Response.{phrase}
 use Rattle.up_wire.proofs.Writing.{writes_as}
 use Rattle.up_wire.proofs.response.write_start.Goals as goal
 
-pub returns-clause-written : goal.returns-clause-written
-returns-clause-written g c =
+pub returns : goal.returns
+returns g c =
     let status = c.args.status in
     let digits : c.as_bytes.result.now ≡ decimal status = c.as_bytes.ensures.value ∙ c.format.ensures.text in
     let reason : c.as_bytes-2.result.now ≡ phrase status = c.as_bytes-2.ensures.value ∙ c.phrase.ensures in
-    writes_as _ _
-    (concat (codes "HTTP/1.1 " ∷ c.as_bytes.result.now ∷ codes " " ∷ c.as_bytes-2.result.now ∷ codes "\r\nTus-Resumable: 1.0.0\r\nCache-Control: no-store\r\n" ∷ []))
-    (start_text status) c.write_each.result
+    writes_as
     (λ i. concat (codes "HTTP/1.1 " ∷ digits i ∷ codes " " ∷ reason i ∷ codes "\r\nTus-Resumable: 1.0.0\r\nCache-Control: no-store\r\n" ∷ []))
-    c.write_each.ensures.written
+    c.write_each.ensures

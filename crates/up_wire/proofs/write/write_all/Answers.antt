@@ -13,5 +13,5 @@ pieces-preserved-in-Took g c =
     front.1 ∙ ap (λ r. front.0 ++ r) (sym (take-append-drop count rest)) ∙ sym (append_assoc front.0 (take count rest) (drop count rest)) in
     ((front.0 ++ take count rest, simp take_rest split, Appends-trans _ _ _ _ _ front.2 c.in-Took.ensures.bytes), c.pieces.invariant.1, record { rose = omega (arith, c.pieces.invariant.2.rose); counted = omega (arith, c.in-Took.ensures.interrupted, c.pieces.invariant.2.counted) })
 
-pub returns-clause-written : goal.returns-clause-written
-returns-clause-written g c = grind (arith, common_steps)
+pub returns : goal.returns
+returns g c = grind (arith, common_steps)
