@@ -14,7 +14,9 @@ use std::marker::{Send, Sync};
 use std::sync::Wait;
 use std::thread;
 use std::thread::{Scope, Threads};
-use up_dispatch::{Board, BoardParts, Counting, Ended, Naming, Report, Seat, converse_at};
+use up_dispatch::{
+    Board, BoardParts, Counting, Ended, Exchange, Naming, Report, Seat, converse_at,
+};
 use up_events::NoMemory;
 use up_hooks::{PostHook, PreHooks};
 use up_lanes::{Lane, LaneEnd};
@@ -35,6 +37,22 @@ pub struct Served<H> {
     pub ended: Ended,
 }
 
+/// An exchange over these.
+fn exchange_of<'x, R: Source, W: Sink>(
+    ids: &'x mut Counting,
+    source: &'x mut R,
+    sink: &'x mut W,
+) -> Exchange<'x, Counting, R, W>
+    ensures same_ids { result.ids.ghost_name ≡ ids.entry.ghost_name }
+    ensures same_source { result.source.ghost_name ≡ source.entry.ghost_name }
+    ensures same_sink { result.sink.ghost_name ≡ sink.entry.ghost_name }
+    ensures ids { result.ids.now ≡ ids.old }
+    ensures source { result.source.now ≡ source.old }
+    ensures sink { result.sink.now ≡ sink.old }
+{
+    Exchange { ids, source, sink }
+}
+
 /// Serves one conversation from a seat, its ids counted from 1.
 fn converse_from<B: Naming, R: Source, W: Sink, T: Wait>(
     rt: &T,
@@ -49,7 +67,8 @@ fn converse_from<B: Naming, R: Source, W: Sink, T: Wait>(
         (R.device source.old) (R.device source.new) (W.device sink.old) (W.device sink.new) result }
 {
     let mut ids = Counting::new();
-    converse_at(rt, alloc, board, seat, hooks, &mut ids, source, sink)
+    let mut exchange = exchange_of(&mut ids, source, sink);
+    converse_at(rt, alloc, board, seat, hooks, &mut exchange)
 }
 
 /// Starts the lanes in the scope, serves one conversation from the seat, closes the board, and waits for the lanes.
