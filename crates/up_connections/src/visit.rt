@@ -27,8 +27,8 @@ const LINGERING: u64 = 2000;
 /// How many times bytes are read and dropped of a connection that is being closed.
 const MOST_DROPPED: usize = MOST_BYTES as usize / DROPPED;
 
-/// Serves a connection from a seat. An error is a connection that can't be set up, or want of memory for its buffers; nothing was served
-/// then.
+/// Serves a connection from a seat. An error means that the connection can't be set up, or that memory ran out for its
+/// buffers; nothing was served then.
 fn talk<'x, B: Naming, I: Ids, S: Service, T: Wait>(
     rt: &'x T,
     alloc: Global,

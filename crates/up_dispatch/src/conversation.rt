@@ -120,8 +120,8 @@ fn send<W: Sink>(sink: &mut W, response: &Response, bare: bool, close: bool) -> 
     }
 }
 
-/// Reads a message and answers it, and tells how the conversation ended if it did. A message that can't be read is
-/// answered and closes the conversation; after a failed read or write, or where a body broke off, nothing is answered.
+/// Reads a message and answers it. Returns how the conversation ended, if it did. A message that can't be read is
+/// answered and closes the conversation. After a failed read or write, or if a body broke off, nothing is answered.
 fn take_turn<K: Keeper, I: Ids, R: Source, W: Sink>(
     alloc: Global,
     keeper: &mut K,
