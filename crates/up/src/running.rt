@@ -22,7 +22,7 @@ use up_dispatch::{AtOnce, Service};
 use up_events::Event;
 use up_handed::continue_each;
 use up_hooks::{Outcome, PostHook, PreHooks, Recorder, Teller, new_recorders, new_tellers};
-use up_server::{EventLines, ServerFault, Shown, keep_serving, replay, serve};
+use up_server::{Connections, EventLines, Hooks, ServerFault, Shown, keep_serving, replay, serve};
 use up_store::{EndedUploads, Folder, Keeping, LogFile, Shortening, StoreNotices};
 use up_wire::{Output, Sink};
 use up_words::{Settings, Words};
@@ -181,16 +181,21 @@ fn run_on<
     requires new { All (λ h. H.is_sound h × (H.handed h ≡ [])) post_hooks.items }
 {
     let mut sink = Output::new(BufWriter::new(rt.alloc(), io::writer(rt))?);
-    let ids = Drawn::new(rt, beside.words.shard())?;
+    let hooks = Hooks {
+        pre: hooks,
+        post: post_hooks,
+    };
+    let connections = Connections {
+        listener,
+        visits,
+        ids: Drawn::new(rt, beside.words.shard())?,
+    };
     keep_serving(
         rt,
         rt.alloc(),
         hooks,
-        post_hooks,
         &beside.settings,
-        listener,
-        visits,
-        ids,
+        connections,
         &mut sink,
     )?;
     Ok(())
@@ -330,24 +335,22 @@ fn run_over<
 {
     let alloc = rt.alloc();
     let settings = &beside.settings;
+    let hooks = Hooks {
+        pre: hooks,
+        post: recorders,
+    };
     let mut sink = Output::new(BufWriter::new(alloc, io::writer(rt))?);
     let visits = visits_of(beside, &AtOnce);
     let (Some(listener), Some(visits)) = (listener, visits) else {
         let mut source = up_wire::Input::new(BufReader::new(alloc, rt.reader())?);
-        replay(
-            rt,
-            alloc,
-            hooks,
-            recorders,
-            settings,
-            &mut source,
-            &mut sink,
-        )?;
+        replay(rt, alloc, hooks, settings, &mut source, &mut sink)?;
         return Ok(());
     };
-    let ids = Drawn::new(rt, beside.words.shard())?;
-    serve(
-        rt, alloc, hooks, recorders, settings, listener, &visits, ids, &mut sink,
-    )?;
+    let connections = Connections {
+        listener,
+        visits: &visits,
+        ids: Drawn::new(rt, beside.words.shard())?,
+    };
+    serve(rt, alloc, hooks, settings, connections, &mut sink)?;
     Ok(())
 }

@@ -8,12 +8,13 @@ use std::process::Abort;
 use std::sync::{Mutex, Wait};
 use std::test::Fail;
 use up_dispatch::{
-    Board, BoardParts, Counting, Ended, Ids, Keeper, Lent, Naming, Seated, SharedIds, converse,
+    Board, BoardParts, Counting, Ended, Exchange, Ids, Keeper, Lent, Naming, Seated, SharedIds,
+    converse,
 };
 use up_events::Id;
 use up_hooks::PreHooks;
 use up_machine::Book;
-use up_wire::{Input, Output};
+use up_wire::{Input, Output, Sink, Source};
 
 const MAX_SIZE: u64 = 1 << 20;
 
@@ -33,6 +34,15 @@ const CREATIONS: &str =
     DELETE /files/00000000000000000000000000000005 HTTP/1.1\r\nHost: a\r\nTus-Resumable: 1.0.0\r\n\r\n\
     POST /files/ HTTP/1.1\r\nHost: a\r\nTus-Resumable: 1.0.0\r\nUpload-Length: 1\r\n\r\n";
 
+/// An exchange over these.
+fn exchange_of<'x, I: Ids, R: Source, W: Sink>(
+    ids: &'x mut I,
+    source: &'x mut R,
+    sink: &'x mut W,
+) -> Exchange<'x, I, R, W> {
+    Exchange { ids, source, sink }
+}
+
 /// How a conversation ends, and what it writes.
 pub fn talk<K: Keeper, I: Ids>(
     alloc: Global,
@@ -43,7 +53,8 @@ pub fn talk<K: Keeper, I: Ids>(
 ) -> (Ended, Vec<u8>) {
     let mut source = Input::new(asked);
     let mut sink = Output::new(Vec::new(alloc));
-    let ended = converse(alloc, keeper, hooks, ids, MAX_SIZE, &mut source, &mut sink);
+    let mut exchange = exchange_of(ids, &mut source, &mut sink);
+    let ended = converse(alloc, keeper, hooks, MAX_SIZE, &mut exchange);
     (ended, sink.into_inner())
 }
 

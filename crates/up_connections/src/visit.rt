@@ -6,7 +6,7 @@ use std::io::{self, BufReader, BufWriter, Read};
 use std::net::{Shutdown, TcpStream};
 use std::sync::Wait;
 use std::time::Duration;
-use up_dispatch::{Ended, Ids, Naming, Seat, Service, SharedIds};
+use up_dispatch::{Ended, Exchange, Ids, Naming, Seat, Service, SharedIds};
 use up_events::MOST_BYTES;
 use up_hooks::PreHooks;
 use up_wire::{Input, Output};
@@ -27,16 +27,16 @@ const LINGERING: u64 = 2000;
 /// How many times bytes are read and dropped of a connection that is being closed.
 const MOST_DROPPED: usize = MOST_BYTES as usize / DROPPED;
 
-/// Serves a connection from a seat. An error is a connection that can't be set up, or want of memory for its buffers; nothing was served
-/// then.
-fn talk<B: Naming, I: Ids, S: Service, T: Wait>(
-    rt: &T,
+/// Serves a connection from a seat. An error means that the connection can't be set up, or that memory ran out for its
+/// buffers; nothing was served then.
+fn talk<'x, B: Naming, I: Ids, S: Service, T: Wait>(
+    rt: &'x T,
     alloc: Global,
-    hall: &Hall<'_, B, I>,
+    hall: &'x Hall<'x, B, I>,
     hooks: &PreHooks,
     service: &S,
     seat: &mut Seat<B>,
-    stream: &TcpStream,
+    stream: &'x TcpStream,
 ) -> io::Result<Ended> {
     stream.set_nodelay(true)?;
     hall.patience.set_on(stream)?;
@@ -50,16 +50,12 @@ fn talk<B: Naming, I: Ids, S: Service, T: Wait>(
     let mut source = Input::new(BufReader::with_capacity(alloc, READ_BUFFER, reading)?);
     let mut sink = Output::new(BufWriter::with_capacity(alloc, WRITE_BUFFER, writing)?);
     let mut ids = SharedIds { rt, ids: &hall.ids };
-    Ok(service.converse(
-        rt,
-        alloc,
-        hall.board,
-        seat,
-        hooks,
-        &mut ids,
-        &mut source,
-        &mut sink,
-    ))
+    let mut exchange = Exchange {
+        ids: &mut ids,
+        source: &mut source,
+        sink: &mut sink,
+    };
+    Ok(service.converse(rt, alloc, hall.board, seat, hooks, &mut exchange))
 }
 
 /// Closes a connection behind its last answer. What the client has sent without being heard, or goes on sending, is read and dropped: the
@@ -96,7 +92,7 @@ pub fn attend<B: Naming, I: Ids, S: Service, T: Wait>(
 ) {
     if let Some(mut seat) = hall.seats.take(rt, hall.board) {
         hall.begin_reading(rt, &stream);
-        let ended = talk(rt, alloc, hall, hooks, service, &mut seat, &stream);
+        let ended = talk(&*rt, alloc, &*hall, hooks, service, &mut seat, &stream);
         hall.end_reading(rt, &stream);
         hall.seats.put_back(rt, seat);
         if matches!(ended, Ok(Ended::Closed)) {

@@ -1,4 +1,4 @@
--- A conversation over a book that was borrowed for it.
+-- A conversation over a book, ids, a source and a sink that were borrowed for it.
 use Rattle.std.proofs.Common.{◌≡◌, ℕ, sym, subst}
 use Rattle.up_machine.specs.State.{State}
 use Rattle.up_wire.specs.Device.{Device}
@@ -8,12 +8,25 @@ use Rattle.up_dispatch.specs.Keeps.{Gives}
 use Rattle.up_dispatch.specs.Turn.{Converses, stand}
 use Rattle.up_dispatch.specs.declared.conversation.Ended.{Ended}
 
--- the book that was lent is the one before, and the one after is the one that came back
+-- the same holds of what came back
+pub came_back :
+    {S I R W : Type 0} (P : S → I → R → W → Type 0) (s s' : S) (i i' : I) (r r' : R) (w w' : W)
+    → s' ≡ s → i' ≡ i → r' ≡ r → w' ≡ w → P s i r w → P s' i' r' w'
+came_back P s s' i i' r r' w w' p q u v is =
+    subst (λ a. P a i' r' w') (sym p) (
+    subst (λ a. P s a r' w') (sym q) (
+    subst (λ a. P s i a w') (sym u) (
+    subst (λ a. P s i r a) (sym v) is)))
+
+-- the book that was lent is the one before, and what there is after is what came back
 pub over_book :
-    (gives : Gives) (max_size : ℕ) (first lent kept final : State) (d e : ℕ) (i j k l : Device) (ended : Ended)
-    → lent ≡ first → final ≡ kept
-    → Converses (IsAnsweredTo gives) max_size (stand (course lent d) i j) (stand (course kept e) k l) ended
-    → Converses (IsAnsweredTo gives) max_size (stand (course first d) i j) (stand (course final e) k l) ended
-over_book gives max_size first lent kept final d e i j k l ended p q converses =
-    subst (λ (s : State). Converses (IsAnsweredTo gives) max_size (stand (course s d) i j) (stand (course final e) k l) ended) p
-    (subst (λ (s : State). Converses (IsAnsweredTo gives) max_size (stand (course lent d) i j) (stand (course s e) k l) ended) (sym q) converses)
+    {R W : Type 0} (gives : Gives) (max_size : ℕ) (source : R → Device) (sink : W → Device)
+    (first lent kept final : State) (d e e' : ℕ) (r s s' : R) (w x x' : W) (ended : Ended)
+    → lent ≡ first → final ≡ kept → e' ≡ e → s' ≡ s → x' ≡ x
+    → Converses (IsAnsweredTo gives) max_size (stand (course lent d) (source r) (sink w)) (stand (course kept e) (source s) (sink x)) ended
+    → Converses (IsAnsweredTo gives) max_size (stand (course first d) (source r) (sink w)) (stand (course final e') (source s') (sink x')) ended
+over_book gives max_size source sink first lent kept final d e e' r s s' w x x' ended p q t u v converses =
+    subst (λ (b : State). Converses (IsAnsweredTo gives) max_size (stand (course b d) (source r) (sink w)) (stand (course final e') (source s') (sink x')) ended) p
+    (came_back
+    (λ b i a c. Converses (IsAnsweredTo gives) max_size (stand (course lent d) (source r) (sink w)) (stand (course b i) (source a) (sink c)) ended)
+    kept final e e' s s' x x' q t u v converses)

@@ -2,6 +2,7 @@ pub mod Answering
 pub mod ByBook
 pub mod Commits
 pub mod Counts
+pub mod Exchanges
 pub mod Fed
 pub mod Idle
 pub mod Keepers

@@ -3,10 +3,12 @@ ghost use Rattle.std.specs.Prelude.{◌≡◌, ◌≤◌};
 ghost use Rattle.up_hooks.specs.Gives.{ClosuresGive};
 ghost use Rattle.up_wire.specs.Response.{response_text};
 ghost use Rattle.up_dispatch.specs.Answering.{Serves, TakesId, course};
+ghost use Rattle.up_dispatch.specs.Exchanges.{KeepsBorrows, stand_in};
 ghost use Rattle.up_dispatch.specs.Keeps.{keeping};
-ghost use Rattle.up_dispatch.specs.Turn.{IsTurn, IsCutTurn, Converses, Sends, TakesTurn, stand, unanswered};
+ghost use Rattle.up_dispatch.specs.Turn.{IsTurn, IsCutTurn, Converses, Sends, TakesTurn, unanswered};
 
 use crate::answering::answer;
+use crate::exchange::Exchange;
 use crate::ids::Ids;
 use crate::keeper::Keeper;
 use crate::reply::{reply_to_header_fault, reply_to_wire_fault};
@@ -118,44 +120,43 @@ fn send<W: Sink>(sink: &mut W, response: &Response, bare: bool, close: bool) -> 
     }
 }
 
-/// Reads a message and answers it, and tells how the conversation ended if it did. A message that can't be read is
-/// answered and closes the conversation; after a failed read or write, or where a body broke off, nothing is answered.
+/// Reads a message and answers it. Returns how the conversation ended, if it did. A message that can't be read is
+/// answered and closes the conversation. After a failed read or write, or if a body broke off, nothing is answered.
 fn take_turn<K: Keeper, I: Ids, R: Source, W: Sink>(
     alloc: Global,
     keeper: &mut K,
     hooks: &PreHooks,
-    ids: &mut I,
     max_size: u64,
-    source: &mut R,
-    sink: &mut W,
+    exchange: &mut Exchange<'_, I, R, W>,
     is_last: bool,
 ) -> Option<Ended>
     requires small { max_size ≤ MOST_BYTES }
-    ensures turn { TakesTurn (Serves (keeping K.plans K.commits (ClosuresGive hooks.now)) I.draws) max_size is_last
-        (stand (course (K.state keeper.old) ids.old) (R.device source.old) (W.device sink.old))
-        (stand (course (K.state keeper.new) ids.new) (R.device source.new) (W.device sink.new))
-        result }
+    ensures turn { TakesTurn
+        (Serves (keeping K.plans K.commits (ClosuresGive hooks.now)) I.draws) max_size is_last
+        (stand_in R.device W.device (K.state keeper.old) exchange.old)
+        (stand_in R.device W.device (K.state keeper.new) exchange.new) result }
     ensures lender { K.lender keeper.new ≡ K.lender keeper.old }
+    ensures borrows { KeepsBorrows exchange.old exchange.new }
 {
     let limits = Limits { max_body: max_size };
-    match read_message(alloc, source, sink, &limits) {
+    match read_message(alloc, exchange.source, exchange.sink, &limits) {
         Taken::End => Some(Ended::Closed),
         Taken::Cut(message) => {
-            carry_out_cut(alloc, keeper, hooks, ids, message, max_size);
+            carry_out_cut(alloc, keeper, hooks, exchange.ids, message, max_size);
             Some(Ended::Cut)
         }
         Taken::Fault { fault, bare } => match unanswered(fault) {
             Some(ended) => Some(ended),
             None => {
                 let response = reply_to_wire_fault(alloc, fault);
-                send(sink, &response, bare, true)
+                send(exchange.sink, &response, bare, true)
             }
         },
         Taken::Message(message) => {
             let bare = message.bare;
             let close = is_last | message.close;
-            let response = answer_to(alloc, keeper, hooks, ids, message, max_size);
-            send(sink, &response, bare, close)
+            let response = answer_to(alloc, keeper, hooks, exchange.ids, message, max_size);
+            send(exchange.sink, &response, bare, close)
         }
     }
 }
@@ -166,21 +167,20 @@ pub fn converse<K: Keeper, I: Ids, R: Source, W: Sink>(
     alloc: Global,
     keeper: &mut K,
     hooks: &PreHooks,
-    ids: &mut I,
     max_size: u64,
-    source: &mut R,
-    sink: &mut W,
+    exchange: &mut Exchange<'_, I, R, W>,
 ) -> Ended
     requires small { max_size ≤ MOST_BYTES }
-    ensures turns { Converses (Serves (keeping K.plans K.commits (ClosuresGive hooks.now)) I.draws) max_size
-        (stand (course (K.state keeper.old) ids.old) (R.device source.old) (W.device sink.old))
-        (stand (course (K.state keeper.new) ids.new) (R.device source.new) (W.device sink.new))
-        result }
+    ensures turns { Converses
+        (Serves (keeping K.plans K.commits (ClosuresGive hooks.now)) I.draws) max_size
+        (stand_in R.device W.device (K.state keeper.old) exchange.old)
+        (stand_in R.device W.device (K.state keeper.new) exchange.new) result }
     ensures lender { K.lender keeper.new ≡ K.lender keeper.old }
+    ensures borrows { KeepsBorrows exchange.old exchange.new }
 {
     for turn in 0..MOST_MESSAGES {
         let is_last = turn + 1 == MOST_MESSAGES;
-        if let Some(ended) = take_turn(alloc, keeper, hooks, ids, max_size, source, sink, is_last) {
+        if let Some(ended) = take_turn(alloc, keeper, hooks, max_size, exchange, is_last) {
             return ended;
         }
     }

@@ -12,6 +12,7 @@ ghost use Rattle.up_dispatch.specs.Turn.{Converses, Stand, stand};
 ghost use Rattle.up_dispatch.specs.declared.conversation.Ended.{Ended};
 
 use crate::conversation::{Ended, MOST_MESSAGES, converse};
+use crate::exchange::Exchange;
 use crate::ids::Counting;
 use crate::keeper::Lent;
 use std::alloc::Global;
@@ -56,5 +57,6 @@ pub fn converse_by_book<R: Source, W: Sink>(
 {
     lent_conversation_is_exact(hooks);
     let mut lent = Lent::new(book);
-    converse(alloc, &mut lent, hooks, ids, max_size, source, sink)
+    let mut exchange = Exchange { ids, source, sink };
+    converse(alloc, &mut lent, hooks, max_size, &mut exchange)
 }

@@ -1,12 +1,14 @@
 //! How conversations are held.
 ghost use Rattle.std.specs.Prelude.{◌≡◌};
 ghost use Rattle.up_hooks.specs.Gives.{ClosuresGive};
-ghost use Rattle.up_dispatch.specs.Answering.{Serves, course};
+ghost use Rattle.up_dispatch.specs.Answering.{Serves};
+ghost use Rattle.up_dispatch.specs.Exchanges.{KeepsBorrows, stand_in};
 ghost use Rattle.up_dispatch.specs.Keepers.{by_seat};
-ghost use Rattle.up_dispatch.specs.Turn.{Converses, stand};
+ghost use Rattle.up_dispatch.specs.Turn.{Converses};
 
 use crate::board::Board;
 use crate::conversation::{Ended, converse};
+use crate::exchange::Exchange;
 use crate::ids::Ids;
 use crate::keeper::Seated;
 use crate::naming::Naming;
@@ -17,25 +19,24 @@ use std::sync::Wait;
 use up_hooks::PreHooks;
 use up_wire::{Sink, Source};
 
-/// Serves one conversation from a seat of the board, with ids of this source. No body may be larger than an upload of the board.
+/// Serves one conversation from a seat of the board. No body may be larger than an upload of the board.
 pub fn converse_at<B: Naming, I: Ids, R: Source, W: Sink, T: Wait>(
     rt: &T,
     alloc: Global,
     board: &Board<B>,
     seat: &mut Seat<B>,
     hooks: &PreHooks,
-    ids: &mut I,
-    source: &mut R,
-    sink: &mut W,
+    exchange: &mut Exchange<'_, I, R, W>,
 ) -> Ended
     ensures served { Converses
         (Serves (by_seat B.queue B.lanes B.max_size (ClosuresGive hooks.now)) I.draws) B.max_size
-        (stand (course seat.old ids.old) (R.device source.old) (W.device sink.old))
-        (stand (course seat.new ids.new) (R.device source.new) (W.device sink.new)) result }
+        (stand_in R.device W.device seat.old exchange.old)
+        (stand_in R.device W.device seat.new exchange.new) result }
+    ensures borrows { KeepsBorrows exchange.old exchange.new }
 {
     let max_size = board.max_size();
     let mut seated = Seated::new(rt, board, seat);
-    converse(alloc, &mut seated, hooks, ids, max_size, source, sink)
+    converse(alloc, &mut seated, hooks, max_size, exchange)
 }
 
 /// How the conversations of a server are held.
@@ -50,7 +51,7 @@ pub trait Service: Sync {
         seat: Seat<B>,
     ) -> (Seat<B>, bool);
 
-    /// Holds one conversation from a seat of the board, with ids of this source.
+    /// Holds one conversation from a seat of the board.
     fn converse<B: Naming, I: Ids, R: Source, W: Sink, T: Wait>(
         &self,
         rt: &T,
@@ -58,9 +59,7 @@ pub trait Service: Sync {
         board: &Board<B>,
         seat: &mut Seat<B>,
         hooks: &PreHooks,
-        ids: &mut I,
-        source: &mut R,
-        sink: &mut W,
+        exchange: &mut Exchange<'_, I, R, W>,
     ) -> Ended;
 }
 
@@ -88,10 +87,8 @@ impl Service for AtOnce {
         board: &Board<B>,
         seat: &mut Seat<B>,
         hooks: &PreHooks,
-        ids: &mut I,
-        source: &mut R,
-        sink: &mut W,
+        exchange: &mut Exchange<'_, I, R, W>,
     ) -> Ended {
-        converse_at(rt, alloc, board, seat, hooks, ids, source, sink)
+        converse_at(rt, alloc, board, seat, hooks, exchange)
     }
 }

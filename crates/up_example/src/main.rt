@@ -10,7 +10,7 @@ use std::io::{self, BufReader, BufWriter};
 use up_events::{Event, Hook};
 use up_hooks::{Outcome, PreHook, PreHooks, new_recorders};
 use up_machine::{Ask, Point, Verdict};
-use up_server::{finishes_at_most, needs_key, refuse, replay};
+use up_server::{Hooks, finishes_at_most, needs_key, refuse, replay};
 use up_wire::{Input, Output};
 use up_words::Settings;
 
@@ -61,15 +61,10 @@ fn main(rt: HostRuntime) -> anyhow::Result<()> {
 
     let mut source = Input::new(BufReader::new(rt.alloc(), rt.reader())?);
     let mut sink = Output::new(BufWriter::new(rt.alloc(), io::writer(&rt))?);
-    let hooks = PreHooks::new(hooks);
-    replay(
-        &rt,
-        rt.alloc(),
-        hooks,
-        recorders,
-        &settings,
-        &mut source,
-        &mut sink,
-    )?;
+    let hooks = Hooks {
+        pre: PreHooks::new(hooks),
+        post: recorders,
+    };
+    replay(&rt, rt.alloc(), hooks, &settings, &mut source, &mut sink)?;
     Ok(())
 }

@@ -18,6 +18,6 @@ served_so queue gives lanes own_lanes size own_size first last none count i j k 
     subst (λ n. IsServedFrom queue own_lanes gives own_size n count i j k l ended) r (
     subst (λ n. IsServedFrom queue own_lanes gives own_size first n i j k l ended) s served)))
 
--- what was lent three times came back so
+-- what holds of three values holds of what is equal to them
 pub come_back : {X Y Z : Type 0} (P : X → Y → Z → Type 0) (x x' : X) (y y' : Y) (z z' : Z) → x' ≡ x → y' ≡ y → z' ≡ z → P x y z → P x' y' z'
 come_back P x x' y y' z z' p q r is = subst (λ a. P a y' z') (sym p) (subst (λ b. P x b z') (sym q) (subst (λ c. P x y c) (sym r) is))

@@ -3,8 +3,10 @@
 //! connections of a listener.
 #![tactic(auto)]
 
+mod beside;
 mod boards;
 mod event_lines;
+mod hooks;
 mod lanes;
 mod listening;
 mod report;
@@ -17,7 +19,8 @@ mod status;
 mod telling;
 
 pub use event_lines::EventLines;
-pub use listening::{keep_serving, serve, serve_with};
+pub use hooks::Hooks;
+pub use listening::{Connections, keep_serving, serve, serve_with};
 pub use server_fault::ServerFault;
 pub use serving::replay;
 pub use shown::Shown;

@@ -7,8 +7,9 @@ ghost use Rattle.up_hooks.specs.declared.recorder.Recorder.{Recorder};
 ghost use Rattle.up_server.specs.ReportText.{report_by};
 ghost use Rattle.up_server.specs.Reported.{IsReportOf, IsTold, IsToldAs, any_stopped};
 
+use crate::beside::run_beside;
 use crate::boards;
-use crate::lanes::{end_all, start_all};
+use crate::hooks::Hooks;
 use crate::runner::{OnStderr, Runner};
 use crate::server_fault::ServerFault;
 use crate::shown::Shown;
@@ -28,7 +29,17 @@ use up_lanes::{Lane, LaneEnd};
 use up_wire::Sink;
 use up_words::Settings;
 
-/// Starts the lanes in the scope, and what says how the server stands, serves the connections, closes the board, and waits for the lanes.
+/// The connections of a server: where they are accepted, which are served, and where the ids of their uploads come
+/// from.
+#[derive(Drop)]
+pub struct Connections<'a, I, N, S> {
+    pub listener: TcpListener,
+    pub visits: &'a Visits<'a, N, S>,
+    pub ids: I,
+}
+
+/// Runs the lanes while connections are served, and a thread that says how the server stands, if somebody watches it.
+/// Then closes the board and waits for the lanes.
 fn attend_in<
     's,
     E,
@@ -45,23 +56,27 @@ fn attend_in<
     runner: &'s Runner<'s, B, OnStderr<'s, T>>,
     lanes: Vec<Lane<H>>,
     hooks: &PreHooks,
-    listener: &TcpListener,
-    visits: &Visits<'s, N, S>,
-    ids: I,
+    connections: Connections<'s, I, N, S>,
 ) -> Result<(Vec<Seat<B>>, Vec<LaneEnd<H>>), AllocError>
     requires lanes { EachAt (λ k l. (l.lane ≡ k) × (l.queue ≡ B.queue k)) lanes.items }
     ensures count { IfOk result (λ r. vec_len r.1 ≡ vec_len lanes) }
-    ensures ends { IfOk result (λ r. EachAt (λ k e. H.is_sound e.hook × (e.lane ≡ k) × (e.take_end.queue ≡ B.queue k)) r.1.items) }
+    ensures ends { IfOk result (λ r. EachAt (λ k e. H.is_sound e.hook
+        × (e.lane ≡ k) × (e.take_end.queue ≡ B.queue k)) r.1.items) }
 {
+    let Connections {
+        listener,
+        visits,
+        ids,
+    } = connections;
     start_saying(scope, rt, runner, visits.watch)?;
-    let running = start_all(scope, rt, alloc, runner, lanes)?;
-    let seats = serve_connections(rt, alloc, runner.board, hooks, ids, listener, visits);
-    let ends = end_all(rt, runner, running)?;
+    let (seats, ends) = run_beside(rt, alloc, runner, lanes, || {
+        serve_connections(rt, alloc, runner.board, hooks, ids, &listener, visits)
+    })?;
     Ok((seats?, ends))
 }
 
-/// Runs the lanes in threads of their own while connections are served, and then closes the board. A lane whose post-hook is refused memory
-/// waits for it. Gives back the seats, and the ends of the lanes.
+/// Runs the lanes in threads of their own while connections are served, and then closes the board. A lane whose
+/// post-hook is refused memory waits for it. Returns the seats, and the ends of the lanes.
 fn attend<
     B: Naming + Send + Sync,
     H: PostHook + Drop,
@@ -75,30 +90,27 @@ fn attend<
     board: &Board<B>,
     lanes: Vec<Lane<H>>,
     hooks: &PreHooks,
-    listener: &TcpListener,
-    visits: &Visits<'_, N, S>,
-    ids: I,
+    connections: Connections<'_, I, N, S>,
 ) -> Result<(Vec<Seat<B>>, Vec<LaneEnd<H>>), AllocError>
     requires lanes { EachAt (λ k l. (l.lane ≡ k) × (l.queue ≡ B.queue k)) lanes.items }
     ensures count { IfOk result (λ r. vec_len r.1 ≡ vec_len lanes) }
-    ensures ends { IfOk result (λ r. EachAt (λ k e. H.is_sound e.hook × (e.lane ≡ k) × (e.take_end.queue ≡ B.queue k)) r.1.items) }
+    ensures ends { IfOk result (λ r. EachAt (λ k e. H.is_sound e.hook
+        × (e.lane ≡ k) × (e.take_end.queue ≡ B.queue k)) r.1.items) }
 {
     let notices = &OnStderr::new(rt);
     let runner = &Runner::lasting(board, notices);
+    let watch = connections.visits.watch;
     let ended = thread::scope(
         thread::scope_env(),
         rt,
         move |scope| -> Result<(Vec<Seat<B>>, Vec<LaneEnd<H>>), AllocError>
             requires lanes { EachAt (λ k l. (l.lane ≡ k) × (l.queue ≡ B.queue k)) lanes.items }
             ensures count { IfOk result (λ r. vec_len r.1 ≡ vec_len lanes) }
-            ensures ends { IfOk result (λ r. EachAt (λ k e. H.is_sound e.hook × (e.lane ≡ k) × (e.take_end.queue ≡ B.queue k)) r.1.items) }
-        {
-            attend_in(
-                scope, rt, alloc, runner, lanes, hooks, listener, visits, ids,
-            )
-        },
+            ensures ends { IfOk result (λ r. EachAt (λ k e. H.is_sound e.hook
+                × (e.lane ≡ k) × (e.take_end.queue ≡ B.queue k)) r.1.items) }
+        { attend_in(scope, rt, alloc, runner, lanes, hooks, connections) },
     );
-    say(rt, runner, visits.watch);
+    say(rt, runner, watch);
     ended
 }
 
@@ -114,34 +126,34 @@ fn run<
     rt: &T,
     alloc: Global,
     parts: BoardParts,
-    hooks: &PreHooks,
-    post_hooks: Vec<H>,
+    hooks: Hooks<H>,
     settings: &Settings,
-    listener: &TcpListener,
-    visits: &Visits<'_, N, S>,
-    ids: I,
+    connections: Connections<'_, I, N, S>,
 ) -> Result<Report<H>, NoMemory>
     requires named { IsNamed B.name B.parts B.queue B.lanes parts }
     requires lanes { settings.now.lanes ≡ B.lanes }
     requires sized { settings.now.max_size ≡ B.max_size }
-    requires one_for_each { vec_len post_hooks ≡ settings.now.lanes }
-    requires new { All (λ h. H.is_sound h × (H.handed h ≡ [])) post_hooks.items }
+    requires one_for_each { vec_len hooks.post ≡ settings.now.lanes }
+    requires new { All (λ h. H.is_sound h × (H.handed h ≡ [])) hooks.post.items }
     ensures report { IfOk result (λ r. IsReportOf H.handed settings.now.lanes r) }
     ensures sound { IfOk result (λ r. All (λ x. H.is_sound x.hook) r.lanes.items) }
 {
-    let (board, lanes) = boards::open::<B, _>(alloc, parts, post_hooks, settings)?;
-    let (seats, ends) = attend(rt, alloc, &board, lanes, hooks, listener, visits, ids)?;
+    let Hooks { pre, post } = hooks;
+    let (board, lanes) = boards::open::<B, _>(alloc, parts, post, settings)?;
+    let (seats, ends) = attend(rt, alloc, &board, lanes, &pre, connections)?;
     boards::finish(alloc, board, seats, ends)
 }
 
-/// Serves connections that the listener accepts, each as a conversation of its own in a thread of its own, on a new board with ids of this
-/// source, while each lane hands its events to the post-hook at its place in a thread of its own. Once the last connection has ended, the
-/// lanes end, and what they handed over is reported. The closures of `hooks` are asked before an upload is made, completed or removed. What
-/// goes wrong on a connection ends that one alone. An error is want of memory for what all connections share.
+/// Serves each connection that the listener accepts as a conversation of its own, in a thread of its own, on a new
+/// board. Each lane hands its events to the post-hook at its place, in a thread of its own. After the last connection
+/// has ended the lanes end, and the report says what they handed over. The closures of `hooks` are asked before an
+/// upload is made, completed or removed. A fault on a connection ends only that connection. An error means that memory
+/// ran out for what all connections share.
 ///
-/// A lane whose post-hook is refused memory is tried again after 100 ms, and then after a pause that doubles up to 10 s, until the post-hook
-/// has room for an event; the lane then goes on where it stood. Once the last connection has ended it is tried three times more, and then it
-/// is reported as stopped. Standard error is told when a lane begins to wait, and when it goes on.
+/// A lane whose post-hook is refused memory is tried again after 100 ms, and then after a pause that doubles up to
+/// 10 s, until the post-hook has room for an event; the lane then continues where it stopped. After the last
+/// connection has ended it is tried three times more, and then it is reported as stopped. Standard error says when a
+/// lane begins to wait, and when it continues.
 pub fn serve_with<
     H: PostHook + Drop,
     I: Ids + Send + Drop,
@@ -151,29 +163,21 @@ pub fn serve_with<
 >(
     rt: &T,
     alloc: Global,
-    hooks: PreHooks,
-    post_hooks: Vec<H>,
+    hooks: Hooks<H>,
     settings: &Settings,
-    listener: TcpListener,
-    visits: &Visits<'_, N, S>,
-    ids: I,
+    connections: Connections<'_, I, N, S>,
 ) -> Result<Report<H>, NoMemory>
-    requires one_for_each { vec_len post_hooks ≡ settings.now.lanes }
-    requires new { All (λ h. H.is_sound h × (H.handed h ≡ [])) post_hooks.items }
+    requires one_for_each { vec_len hooks.post ≡ settings.now.lanes }
+    requires new { All (λ h. H.is_sound h × (H.handed h ≡ [])) hooks.post.items }
     ensures report { IfOk result (λ r. IsReportOf H.handed settings.now.lanes r) }
     ensures sound { IfOk result (λ r. All (λ x. H.is_sound x.hook) r.lanes.items) }
 {
     let parts = BoardParts::new(alloc, settings.lanes, settings.capacity)?;
-    run::<Brand, _, _, _, _, _>(
-        rt, alloc, parts, &hooks, post_hooks, settings, &listener, visits, ids,
-    )
+    run::<Brand, _, _, _, _, _>(rt, alloc, parts, hooks, settings, connections)
 }
 
-/// Serves connections that the listener accepts, each as a conversation of its own in a thread of its own, on a new board with ids of this
-/// source, while each lane hands its events to the recorder at its place in a thread of its own. Once the last connection has ended, the
-/// lanes end, and the report is written to `sink`. The closures of `hooks` are asked before an upload is made, completed or removed. What
-/// goes wrong on a connection ends that one alone. Of what else went wrong the first in the order of `ServerFault` is answered; after
-/// `Memory` and `Write` there may be no report.
+/// Serves connections as `serve_with` does, with recorders, and writes the report to `sink`. Returns the first fault in
+/// the order of `ServerFault`; after `Memory` and `Write` there may be no report.
 pub fn serve<
     F: Fn(&Event) -> Outcome + Send + Drop,
     I: Ids + Send + Drop,
@@ -184,30 +188,28 @@ pub fn serve<
 >(
     rt: &T,
     alloc: Global,
-    hooks: PreHooks,
-    recorders: Vec<Recorder<F>>,
+    hooks: Hooks<Recorder<F>>,
     settings: &Settings,
-    listener: TcpListener,
-    visits: &Visits<'_, N, S>,
-    ids: I,
+    connections: Connections<'_, I, N, S>,
     sink: &mut W,
 ) -> Result<(), ServerFault>
-    requires one_for_each { length recorders.items ≡ settings.now.lanes }
-    requires new { All (λ r. ⟦<Recorder<F> as PostHook>⟧.is_sound r × (⟦<Recorder<F> as PostHook>⟧.handed r ≡ [])) recorders.items }
+    requires one_for_each { length hooks.post.items ≡ settings.now.lanes }
+    requires new { All (λ r. ⟦<Recorder<F> as PostHook>⟧.is_sound r
+        × (⟦<Recorder<F> as PostHook>⟧.handed r ≡ [])) hooks.post.items }
     ensures { (result ≡ Err ServerFault.Memory) ⊎ ((report : Report (Recorder F))
         × IsReportOf ⟦<Recorder<F> as PostHook>⟧.handed settings.now.lanes report
         × All (λ lane. ⟦<Recorder<F> as PostHook>⟧.is_sound lane.hook) report.lanes.items
         × IsTold report (W.device sink.old) (W.device sink.new) result) }
 {
-    match serve_with(rt, alloc, hooks, recorders, settings, listener, visits, ids) {
+    match serve_with(rt, alloc, hooks, settings, connections) {
         Ok(report) => tell_report(sink, &report),
         Err(_) => Err(ServerFault::Memory),
     }
 }
 
-/// The same, with any post-hooks of which a report can tell. With tellers nothing is kept of the changes and events that went by, so it may
-/// run without an end. What it holds are the uploads that are there, a few words for each id that was ever given, and the events that wait for
-/// their lane.
+/// The same, with any post-hooks that a report can show. With tellers no change and no event is kept after it was
+/// handed over, so it may run without an end. It then holds the uploads that there are, a few words for each id that
+/// was ever given, and the events that wait for their lane.
 pub fn keep_serving<
     H: Shown + Drop,
     I: Ids + Send + Drop,
@@ -218,25 +220,20 @@ pub fn keep_serving<
 >(
     rt: &T,
     alloc: Global,
-    hooks: PreHooks,
-    post_hooks: Vec<H>,
+    hooks: Hooks<H>,
     settings: &Settings,
-    listener: TcpListener,
-    visits: &Visits<'_, N, S>,
-    ids: I,
+    connections: Connections<'_, I, N, S>,
     sink: &mut W,
 ) -> Result<(), ServerFault>
-    requires one_for_each { length post_hooks.items ≡ settings.now.lanes }
-    requires new { All (λ h. H.is_sound h × (H.handed h ≡ [])) post_hooks.items }
+    requires one_for_each { length hooks.post.items ≡ settings.now.lanes }
+    requires new { All (λ h. H.is_sound h × (H.handed h ≡ [])) hooks.post.items }
     ensures { (result ≡ Err ServerFault.Memory) ⊎ ((report : Report H)
         × IsReportOf H.handed settings.now.lanes report
         × All (λ lane. H.is_sound lane.hook) report.lanes.items
         × IsToldAs (report_by H.count H.text report) (any_stopped report.lanes.items)
         (W.device sink.old) (W.device sink.new) result) }
 {
-    match serve_with(
-        rt, alloc, hooks, post_hooks, settings, listener, visits, ids,
-    ) {
+    match serve_with(rt, alloc, hooks, settings, connections) {
         Ok(counts) => tell_report(sink, &counts),
         Err(_) => Err(ServerFault::Memory),
     }

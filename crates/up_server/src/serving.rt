@@ -7,6 +7,7 @@ ghost use Rattle.up_wire.specs.Device.{Device};
 ghost use Rattle.up_server.specs.Run.{IsRun, IsReported};
 ghost use Rattle.up_server.specs.declared.running.Served.{Served};
 
+use crate::hooks::Hooks;
 use crate::running::{Served, run};
 use crate::server_fault::ServerFault;
 use crate::telling::tell;
@@ -16,42 +17,37 @@ use std::sync::Wait;
 use std::thread::Threads;
 use up_dispatch::BoardParts;
 use up_events::Event;
-use up_hooks::{Outcome, PostHook, PreHooks, Recorder};
+use up_hooks::{Outcome, PostHook, Recorder};
 use up_wire::{Sink, Source};
 use up_words::Settings;
 
-/// Serves the messages of `source` as one conversation on a new board, with ids counted from 1, while each lane hands its events to the
-/// recorder at its place in a thread of its own; writes the replies to `sink`, ends the lanes and writes the report. The closures of `hooks`
-/// are asked before an upload is made, completed or removed. Of what went wrong the first in the order of `ServerFault` is answered; after
-/// `Memory` and `Write` there may be no report.
+/// Serves the messages of `source` as one conversation on a new board, with ids counted from 1, while each lane hands
+/// its events to the recorder at its place in a thread of its own. Writes the replies to `sink`, ends the lanes and
+/// writes the report. The closures of `hooks` are asked before an upload is made, completed or removed. Returns the
+/// first fault in the order of `ServerFault`; after `Memory` and `Write` there may be no report.
 pub fn replay<F: Fn(&Event) -> Outcome + Send + Drop, R: Source, W: Sink, T: Threads + Wait + Sync>(
     rt: &T,
     alloc: Global,
-    hooks: PreHooks,
-    recorders: Vec<Recorder<F>>,
+    hooks: Hooks<Recorder<F>>,
     settings: &Settings,
     source: &mut R,
     sink: &mut W,
 ) -> Result<(), ServerFault>
-    requires one_for_each { length recorders.items ≡ settings.now.lanes }
-    requires new { All (λ r. ⟦<Recorder<F> as PostHook>⟧.is_sound r × (⟦<Recorder<F> as PostHook>⟧.handed r ≡ [])) recorders.items }
-    ensures { (result ≡ Err ServerFault.Memory) ⊎ ((queue : ℕ → QueueId) × (served : Served (Recorder F)) × (replied : Device)
-        × IsRun ⟦<Recorder<F> as PostHook>⟧.handed queue (ClosuresGive hooks) settings.now served
-        (R.device source.old)
-        (R.device source.new)
-        (W.device sink.old)
-        replied
+    requires one_for_each { length hooks.post.items ≡ settings.now.lanes }
+    requires new { All (λ r. ⟦<Recorder<F> as PostHook>⟧.is_sound r
+        × (⟦<Recorder<F> as PostHook>⟧.handed r ≡ [])) hooks.post.items }
+    ensures { (result ≡ Err ServerFault.Memory)
+        ⊎ ((queue : ℕ → QueueId) × (served : Served (Recorder F)) × (replied : Device)
+        × IsRun ⟦<Recorder<F> as PostHook>⟧.handed queue (ClosuresGive hooks.pre) settings.now
+        served (R.device source.old) (R.device source.new) (W.device sink.old) replied
         × All (λ lane. ⟦<Recorder<F> as PostHook>⟧.is_sound lane.hook) served.report.lanes.items
-        × IsReported served replied
-        (W.device sink.new)
-        result) }
+        × IsReported served replied (W.device sink.new) result) }
 {
     let Ok(parts) = BoardParts::new(alloc, settings.lanes, settings.capacity) else {
         return Err(ServerFault::Memory);
     };
-    let Ok(served) = run::<Brand, _, _, _, _>(
-        rt, alloc, parts, &hooks, recorders, settings, source, sink,
-    ) else {
+    let Ok(served) = run::<Brand, _, _, _, _>(rt, alloc, parts, hooks, settings, source, sink)
+    else {
         return Err(ServerFault::Memory);
     };
     tell(sink, &served)

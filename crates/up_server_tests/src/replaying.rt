@@ -7,7 +7,7 @@ use std::sync::Wait;
 use std::thread::Threads;
 use up_events::Event;
 use up_hooks::{Outcome, PreHooks, new_recorders};
-use up_server::{ServerFault, replay};
+use up_server::{Hooks, ServerFault, replay};
 use up_wire::{Output, Source};
 use up_words::Settings;
 
@@ -26,8 +26,11 @@ pub fn replayed<F: Fn(&Event) -> Outcome + Send + Copy + Drop, R: Source, T: Thr
     let Ok(recorders) = new_recorders(alloc, settings.lanes, answer) else {
         return (Err(ServerFault::Memory), Vec::new(alloc));
     };
-    let hooks = PreHooks::new(Vec::new(alloc));
+    let hooks = Hooks {
+        pre: PreHooks::new(Vec::new(alloc)),
+        post: recorders,
+    };
     let mut sink = Output::new(Vec::new(alloc));
-    let ended = replay(rt, alloc, hooks, recorders, &settings, source, &mut sink);
+    let ended = replay(rt, alloc, hooks, &settings, source, &mut sink);
     (ended, sink.into_inner())
 }

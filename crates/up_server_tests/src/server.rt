@@ -16,7 +16,7 @@ use std::test::Fail;
 use std::thread::Threads;
 use up_events::Event;
 use up_hooks::{Outcome, PreHooks, new_recorders};
-use up_server::{ServerFault, replay};
+use up_server::{Hooks, ServerFault, replay};
 use up_wire::{Input, Output, Sink, Source};
 use up_words::Settings;
 
@@ -170,7 +170,11 @@ fn run_with<R: Source, W: Sink, T: Threads + Wait + Sync>(
     let Ok(recorders) = new_recorders(alloc, settings.lanes, answer) else {
         return Err(ServerFault::Memory);
     };
-    replay(rt, alloc, hooks, recorders, settings, source, sink)
+    let hooks = Hooks {
+        pre: hooks,
+        post: recorders,
+    };
+    replay(rt, alloc, hooks, settings, source, sink)
 }
 
 /// A run without closures.

@@ -15,7 +15,7 @@ use up_connections::{Notices, Visits};
 use up_dispatch::{AtOnce, Counting};
 use up_events::Event;
 use up_hooks::{Outcome, PostHook, PreHooks, Recorder, new_recorders};
-use up_server::{ServerFault, serve};
+use up_server::{Connections, Hooks, ServerFault, serve};
 use up_wire::Output;
 use up_words::Settings;
 
@@ -44,10 +44,16 @@ pub fn reported<
     let Ok(recorders) = new_recorders(alloc, settings.lanes, answer) else {
         return Err(ServerFault::Memory);
     };
-    let ids = Counting::new();
+    let hooks = Hooks {
+        pre: hooks,
+        post: recorders,
+    };
+    let connections = Connections {
+        listener,
+        visits,
+        ids: Counting::new(),
+    };
     let mut sink = Output::new(Vec::new(alloc));
-    serve(
-        rt, alloc, hooks, recorders, settings, listener, visits, ids, &mut sink,
-    )?;
+    serve(rt, alloc, hooks, settings, connections, &mut sink)?;
     Ok(sink.into_inner())
 }

@@ -1,8 +1,9 @@
 //! Conversations whose changes are written to a log before they are made.
 ghost use Rattle.std.specs.Prelude.{◌≡◌};
 ghost use Rattle.up_hooks.specs.Gives.{ClosuresGive};
-ghost use Rattle.up_dispatch.specs.Answering.{Serves, course};
-ghost use Rattle.up_dispatch.specs.Turn.{Converses, stand};
+ghost use Rattle.up_dispatch.specs.Answering.{Serves};
+ghost use Rattle.up_dispatch.specs.Exchanges.{KeepsBorrows, stand_in};
+ghost use Rattle.up_dispatch.specs.Turn.{Converses};
 ghost use Rattle.up_store.specs.StoredCommits.{by_stored_seat};
 
 use crate::ended::EndedUploads;
@@ -18,7 +19,7 @@ use std::alloc::{AllocError, Global};
 use std::marker::{Send, Sync};
 use std::sync::atomic::AtomicU64;
 use std::sync::{Mutex, Wait};
-use up_dispatch::{Board, Ended, Ids, Naming, Seat, Service, converse};
+use up_dispatch::{Board, Ended, Exchange, Ids, Naming, Seat, Service, converse};
 use up_hooks::PreHooks;
 use up_log::LogReader;
 use up_wire::{Sink, Source};
@@ -63,8 +64,7 @@ impl<D: Disk, N, F> Keeping<D, N, F> {
     }
 }
 
-/// Holds one conversation from a seat of the board, with ids of this source. Each change is in the log before the board
-/// hears of it.
+/// Holds one conversation from a seat of the board. Each change is in the log before the board hears of it.
 pub fn converse_stored<
     B: Naming,
     D: Disk + Drop,
@@ -80,18 +80,18 @@ pub fn converse_stored<
     store: &Store<D, N>,
     seat: &mut Seat<B>,
     hooks: &PreHooks,
-    ids: &mut I,
-    source: &mut R,
-    sink: &mut W,
+    exchange: &mut Exchange<'_, I, R, W>,
 ) -> Ended
     ensures served { Converses
-        (Serves (by_stored_seat B.queue B.lanes B.max_size (ClosuresGive hooks.now)) I.draws) B.max_size
-        (stand (course seat.old ids.old) (R.device source.old) (W.device sink.old))
-        (stand (course seat.new ids.new) (R.device source.new) (W.device sink.new)) result }
+        (Serves (by_stored_seat B.queue B.lanes B.max_size (ClosuresGive hooks.now)) I.draws)
+        B.max_size
+        (stand_in R.device W.device seat.old exchange.old)
+        (stand_in R.device W.device seat.new exchange.new) result }
+    ensures borrows { KeepsBorrows exchange.old exchange.new }
 {
     let max_size = board.max_size();
     let mut stored = Stored::new(rt, board, store, seat);
-    converse(alloc, &mut stored, hooks, ids, max_size, source, sink)
+    converse(alloc, &mut stored, hooks, max_size, exchange)
 }
 
 impl<
@@ -134,11 +134,8 @@ impl<
         board: &Board<B>,
         seat: &mut Seat<B>,
         hooks: &PreHooks,
-        ids: &mut I,
-        source: &mut R,
-        sink: &mut W,
+        exchange: &mut Exchange<'_, I, R, W>,
     ) -> Ended {
-        let store = &self.store;
-        converse_stored(rt, alloc, board, store, seat, hooks, ids, source, sink)
+        converse_stored(rt, alloc, board, &self.store, seat, hooks, exchange)
     }
 }

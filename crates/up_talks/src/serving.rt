@@ -12,7 +12,7 @@ use up_events::Event;
 use up_hooks::{Outcome, PreHook, PreHooks, new_recorders};
 use up_machine::{Ask, Verdict};
 use up_rules::rules_of;
-use up_server::{ServerFault, replay};
+use up_server::{Hooks, ServerFault, replay};
 use up_wire::{Input, Output};
 use up_words::{Settings, Words};
 
@@ -40,15 +40,13 @@ fn run<T: Threads + Wait + Sync>(
     let mut sink = Output::new(Vec::new(alloc));
     let answer = |_: &Event| Outcome::Done;
     let ended = match new_recorders(alloc, settings.lanes, answer) {
-        Ok(recorders) => replay(
-            rt,
-            alloc,
-            hooks,
-            recorders,
-            settings,
-            &mut source,
-            &mut sink,
-        ),
+        Ok(recorders) => {
+            let hooks = Hooks {
+                pre: hooks,
+                post: recorders,
+            };
+            replay(rt, alloc, hooks, settings, &mut source, &mut sink)
+        }
         Err(_) => Err(ServerFault::Memory),
     };
     Ok(Served {

@@ -17,7 +17,7 @@ use up_dispatch::{AtOnce, Counting, Report};
 use up_events::{Event, Hook, Id, NoMemory};
 use up_hooks::{Outcome, PostHook, PreHooks};
 use up_lanes::How;
-use up_server::serve_with;
+use up_server::{Connections, Hooks, serve_with};
 use up_words::Settings;
 
 /// A creation and an append, each of which closes its connection.
@@ -114,11 +114,16 @@ fn served<'a, T: Threads + Wait + Eprint + Sync>(
     };
     let mut post_hooks = Vec::new(alloc);
     post_hooks.push(post_hook)?;
-    let hooks = PreHooks::new(Vec::new(alloc));
-    let ids = Counting::new();
-    serve_with(
-        rt, alloc, hooks, post_hooks, &settings, listener, &visits, ids,
-    )
+    let hooks = Hooks {
+        pre: PreHooks::new(Vec::new(alloc)),
+        post: post_hooks,
+    };
+    let connections = Connections {
+        listener,
+        visits: &visits,
+        ids: Counting::new(),
+    };
+    serve_with(rt, alloc, hooks, &settings, connections)
 }
 
 /// Waits until `count` events were reported, for at most a minute.

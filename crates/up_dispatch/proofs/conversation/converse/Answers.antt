@@ -1,25 +1,28 @@
 use Rattle.std.proofs.Common.{◌∙◌, refl, arith}
 use Rattle.up_dispatch.proofs.TurnLemmas.{no_passes, passes_few, passes_more}
-use Rattle.up_dispatch.specs.Answering.{course}
-use Rattle.up_dispatch.specs.Turn.{stand}
+use Rattle.up_dispatch.specs.Exchanges.{stand_in}
 use Rattle.up_dispatch.proofs.conversation.converse.Goals as goal
 
 pub loop-turn-init : goal.loop-turn-init
-loop-turn-init g c = record { lender = refl; passes = no_passes _ c.args.max_size _ }
+loop-turn-init g c = record { lender = refl; borrows = (refl, refl, refl); passes = no_passes _ c.args.max_size _ }
 
 pub returns-in-Some-clause-turns : goal.returns-in-Some-clause-turns
 returns-in-Some-clause-turns g c = record {
   turns = c.loop-turn.turn;
-  last = stand (course (g.K.Keeper.state c.loop-turn.keeper) c.loop-turn.ids) (g.R.Source.device c.loop-turn.source) (g.W.Sink.device c.loop-turn.sink);
+  last = stand_in g.R.Source.device g.W.Sink.device (g.K.Keeper.state c.loop-turn.keeper) c.loop-turn.exchange;
   passes = c.loop-turn.invariant.passes;
   ends = c.in-Some.ensures.turn;
 }
 
 pub loop-turn-preserved : goal.loop-turn-preserved
-loop-turn-preserved g c = record {
-  lender = c.take_turn.ensures.lender ∙ c.loop-turn.invariant.lender;
-  passes = passes_more _ c.args.max_size c.loop-turn.turn _ _ _ c.loop-turn.invariant.passes c.in_default.ensures.turn;
-}
+loop-turn-preserved g c =
+    let was = c.loop-turn.invariant.borrows in
+    let kept = c.take_turn.ensures.borrows in
+    record {
+      lender = c.take_turn.ensures.lender ∙ c.loop-turn.invariant.lender;
+      borrows = (kept.0 ∙ was.0, kept.1 ∙ was.1, kept.2 ∙ was.2);
+      passes = passes_more _ c.args.max_size c.loop-turn.turn _ _ _ c.loop-turn.invariant.passes c.in_default.ensures.turn;
+    }
 
 pub returns-clause-turns : goal.returns-clause-turns
 returns-clause-turns g c = absurd (passes_few _ c.args.max_size c.loop-turn.turn _ _ (omega arith) c.loop-turn.invariant.passes)

@@ -1,0 +1,18 @@
+-- A conversation as its exchange shows it.
+use Rattle.std.specs.Prelude.{◌≡◌}
+use Rattle.up_dispatch.specs.Answering.{Course, course}
+use Rattle.up_dispatch.specs.Turn.{Stand, stand}
+use Rattle.up_dispatch.specs.declared.exchange.Exchange.{Exchange}
+use Rattle.up_wire.specs.Device.{Device}
+
+-- the state of the keeper, the ids, and the devices of the source and the sink
+abbrev pub stand_in : {S I R W : Type 0} → (R → Device) → (W → Device) → S → Exchange I R W → Stand (Course S I)
+stand_in source sink state exchange =
+    stand (course state exchange.ids.now) (source exchange.source.now) (sink exchange.sink.now)
+
+-- the exchange still holds the same three borrows
+abbrev pub KeepsBorrows : {I R W : Type 0} → Exchange I R W → Exchange I R W → Type 0
+KeepsBorrows old new =
+    (new.ids.ghost_name ≡ old.ids.ghost_name)
+    × (new.source.ghost_name ≡ old.source.ghost_name)
+    × (new.sink.ghost_name ≡ old.sink.ghost_name)
