@@ -57,6 +57,7 @@ def what_is_served(size):
 REFUSED = "Content-Type: text/plain"
 TOO_LARGE = "413 Payload Too Large"
 WRONG_OFFSET = text("409 Conflict", REFUSED, "Content-Length: 15", body="25 WrongOffset\n")
+NO_SUCH_PATH = text("404 Not Found", REFUSED, "Content-Length: 14", "Connection: close", body="11 NoSuchPath\n")
 NOT_FOUND = text("404 Not Found", REFUSED, "Content-Length: 12", body="21 NotFound\n")
 HEAD_NOT_FOUND = text("404 Not Found", REFUSED)
 BAD_HEAD = text("400 Bad Request", REFUSED, "Content-Length: 10", "Connection: close", body="1 BadHead\n")
@@ -275,6 +276,45 @@ def in_turn():
             soon(lambda: events_of(server.output()) == count.events(), "the events are written while the server serves")
             second.end()
         first.end()
+
+
+def closed_behind(client, came, reply):
+    """Checks that this reply came, and that the server closes the connection then, before the client ends it."""
+    same(came, reply, "the reply that closes")
+    same(client.is_closed(), True, "whether the server closes behind it")
+    client.end()
+
+
+def one_by_one():
+    """Three clients are connected, of which one may be open at a time. Each reply closes its connection, because of a
+    field or of the version of HTTP, and then the next one is served."""
+    with served(3, 1, lines=False) as (server, count), contextlib.ExitStack() as stack:
+        first, second, third = [stack.enter_context(Client(server, count)) for _ in range(3)]
+        third.send(b"GET / HTTP/1.0\r\nTus-Resumable: 1.0.0\r\n\r\n")
+        first.send(head("POST", "/files/", {"Upload-Length": 3, "Connection": "close"}))
+        reply = first.reply()
+        path = reply.fields["location"]
+        count.create(path, 3)
+        created = text("201 Created", f"Location: {path}", "Content-Length: 0", "Connection: close")
+        closed_behind(first, reply.whole, created)
+        second.send(patch(path, 0, 3).replace(b" HTTP/1.1\r\n", b" HTTP/1.0\r\n") + b"abc")
+        count.append(path, 0, b"abc")
+        appended = text("204 No Content", "Upload-Offset: 3", "Connection: close")
+        closed_behind(second, second.take(len(appended)), appended)
+        closed_behind(third, third.take(len(NO_SUCH_PATH)), NO_SUCH_PATH)
+
+
+def shards():
+    """No two servers give the same id, and each id of a server with `--shard` begins with its byte."""
+    for words, digits in ((), ""), (("--shard", 0), "00"), (("--shard", 26), "1a"), (("--shard", 255), "ff"):
+        paths = []
+        for _ in range(2):
+            with served(1, 1, more=words) as (server, count), Client(server, count) as client:
+                paths += [client.create(1) for _ in range(4)]
+                client.end()
+        same(len(set(paths)), 8, f"how many ids of {paths} differ")
+        wrong = [path for path in paths if not path.startswith(f"/files/{digits}")]
+        same(wrong, [], f"which ids do not begin with {digits}")
 
 
 def dropped_head():
@@ -594,7 +634,10 @@ def status_of_waiting():
     os.close(reader)
 
 
-CASES = [in_turn, dropped_head, together, reported, crowd, largest, many_bodies, asleep, status, status_of_waiting]
+CASES = [
+    in_turn, one_by_one, shards, dropped_head, together, reported, crowd, largest, many_bodies, asleep, status,
+    status_of_waiting,
+]
 
 program, names = words_of(__doc__)
 sys.exit(try_all(CASES, names))

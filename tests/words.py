@@ -1,6 +1,6 @@
 #!/usr/bin/env python3
 """Runs `up` with wrong words, and with words that it can't carry out, and compares its exit status and what it then
-reports with docs/RUNNING.md. Also runs it on an empty input.
+reports with docs/RUNNING.md. Also runs it on an empty input, and on one that can't be read.
 
     tests/words.py [--program PATH] [NAME..]
 
@@ -12,6 +12,7 @@ case failed.
 """
 import os
 import re
+import shlex
 import shutil
 import socket
 import subprocess
@@ -103,17 +104,66 @@ def too_few_and_too_many():
         same(named, [True, True], f"whether {said!r} names the word and the number")
 
 
+# Command lines that are refused: numbers out of range or not numbers, words without their value or with one that they
+# don't take, words that are given twice or are unknown, and words of the other command.
+WRONG = """
+    replay --lanes 0
+    replay --lanes 17
+    replay --capacity 0
+    replay --capacity 4097
+    replay --max-size 0
+    replay --max-size 1073741825
+    replays
+    replay --lane 1
+    replay --max-length 18446744073709551616
+    replay --max-length 0x10
+    replay --max-length ''
+    replay --max-length
+    replay --max-length 4 --max-length 4
+    replay --require-key
+    replay --require-key --keep
+    replay --require-key a --require-key b
+    replay --keep=yes
+    replay --keep --keep
+    --keep replay
+    replay filename
+    replay --address 127.0.0.1:0
+    replay --events
+    replay --patience 1
+    serve --events --events
+    serve --connections 0
+    serve --connections 65537
+    serve --connections
+    serve --open 0
+    serve --open 4097
+    serve --patience 0
+    serve --patience 86401
+    serve --least-rate 0
+    serve --least-rate 1073741825
+    serve --address
+    serve replay
+    --help
+"""
+
+
+def wrong_words():
+    """Wrong words are refused, and so are none at all, and words for help."""
+    refused()
+    for line in WRONG.strip().splitlines():
+        refused(*shlex.split(line))
+
+
 def version():
     """`--version` prints the version, and the logic that docs/PROVED.md and `rt version` name, with status 0."""
     ran = subprocess.run([program, "--version"], timeout=MOST_SECONDS, capture_output=True)
     same((ran.returncode, ran.stderr), (0, b""), "the status, and what is said on standard error")
-    found = re.fullmatch(r"up (\d+\.\d+\.\d+)\nproved by Rattle's logic ([0-9a-f]{16})\n", ran.stdout.decode())
-    same(found is not None, True, f"whether {ran.stdout!r} is a version and a logic")
+    found = re.fullmatch(r"up 1\.0\.0\nproved by Rattle's logic ([0-9a-f]{16})\n", ran.stdout.decode())
+    same(found is not None, True, f"whether {ran.stdout!r} is the version 1.0.0 and a logic")
     with open(os.path.join(ROOT, "docs", "PROVED.md"), encoding="utf-8") as file:
-        same(f"logic {found[2]}" in file.read(), True, f"whether docs/PROVED.md names the logic {found[2]}")
+        same(f"logic {found[1]}" in file.read(), True, f"whether docs/PROVED.md names the logic {found[1]}")
     if shutil.which("rt"):
         toolchain = subprocess.run(["rt", "version"], timeout=MOST_SECONDS, stdout=subprocess.PIPE).stdout.decode()
-        same(f"logic {found[2]}" in toolchain, True, f"whether {toolchain!r} is of the logic {found[2]}")
+        same(f"logic {found[1]}" in toolchain, True, f"whether {toolchain!r} is of the logic {found[1]}")
     reader, writer = os.pipe()
     os.close(reader)
     with open(writer, "wb") as nobody:
@@ -126,6 +176,21 @@ def nothing_asked():
     ran = subprocess.run([program, "replay"], timeout=MOST_SECONDS, input=b"", capture_output=True)
     report = b"\naccepted 0\nlane 0 drained 0\nlane 1 drained 0\n"
     same((ran.returncode, ran.stdout, ran.stderr), (0, report, b""), "the status, the report and what is said beside it")
+
+
+def unread_and_unwritten():
+    """`replay` ends with status 1 if its input can't be read, which it says after its report, and if its output can't
+    be written."""
+    report = b"\naccepted 0\nlane 0 drained 0\nlane 1 drained 0\n"
+    folder = os.open("/", os.O_RDONLY)
+    try:
+        ran = subprocess.run([program, "replay"], timeout=MOST_SECONDS, stdin=folder, capture_output=True)
+    finally:
+        os.close(folder)
+    same((ran.returncode, ran.stdout, ran.stderr), (1, report, b"up_server: read failed\n"), "what is said of a folder")
+    with open("/dev/full", "wb") as full:
+        ran = subprocess.run([program, "replay"], timeout=MOST_SECONDS, input=b"", stdout=full, stderr=subprocess.PIPE)
+    same((ran.returncode, ran.stderr), (1, b"up_server: write failed\n"), "what is said of a full disk")
 
 
 def words_of_serve():
@@ -141,8 +206,8 @@ def no_shard():
 
 
 CASES = [
-    no_text, nobody_hears, taken_port, unknown_name, no_port, too_few_and_too_many, version, nothing_asked,
-    words_of_serve, no_shard,
+    no_text, nobody_hears, taken_port, unknown_name, no_port, too_few_and_too_many, wrong_words, version, nothing_asked,
+    unread_and_unwritten, words_of_serve, no_shard,
 ]
 
 program, names = words_of(__doc__)

@@ -1,5 +1,5 @@
-//! Checks messages, responses and requests, and courses of requests to a book, against the expected results. The rows
-//! are read from standard input, and then from the files on the command line.
+//! Checks messages, responses and requests, courses of requests to a book, and command lines against the expected
+//! results. The rows are read from standard input, and then from the files on the command line.
 //!
 //! A line that is empty or begins with `#` is ignored. Each other line is a mark with a text. A row also has an arrow
 //! and, after it, the expected result. For each input, one line is printed: the number of rows, and how many of them
@@ -64,8 +64,16 @@
 //! The requests are `options`, `plain LENGTH METADATA`, `partial LENGTH`, `final PARTS CONCAT`, `head`, `get`,
 //! `delete`, and `patch OFFSET BYTES LENGTH`, or `text` instead of `patch` for a wrong media type. A dash means that a
 //! value is not sent.
+//!
+//! For command lines:
+//!
+//! ```text
+//! words replay --keep => ..   what these words of a command line ask for, or `refused`
+//! default => ..               what is asked for if nothing is said
+//! ```
 #![tactic(auto)]
 
+mod command_lines;
 mod courses;
 mod gathered;
 mod line;

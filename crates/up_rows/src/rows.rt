@@ -1,5 +1,7 @@
 //! A row, and its expected result.
+use crate::command_lines;
 use crate::courses::Course;
+use crate::line::cut;
 use crate::messages::Messages;
 use crate::row_fault::RowFault;
 use std::alloc::{AllocError, Global};
@@ -21,6 +23,11 @@ impl Rows {
 
     /// The result of a row, as text. A mark that is not one of messages is one of a course.
     fn take(&mut self, alloc: Global, row: &str, wanted: &str) -> Result<String, RowFault> {
+        match cut(row) {
+            ("words", text) => return command_lines::asked(alloc, text),
+            ("default", _) => return command_lines::default(alloc),
+            _ => {}
+        }
         match self.messages.take(alloc, row, wanted) {
             Err(RowFault::Mark) => self.course.take(alloc, row),
             taken => taken,

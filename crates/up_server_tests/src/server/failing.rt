@@ -1,52 +1,66 @@
 //! Reads and writes that fail in mid-stream.
-use super::*;
+use super::run_with;
 use crate::replaying::replayed;
-use up_wire::{Slip, Tape};
+use std::alloc::{AllocError, Global};
+use std::marker::Sync;
+use std::process::Abort;
+use std::sync::Wait;
+use std::test::Fail;
+use std::thread::Threads;
+use up_events::Event;
+use up_hooks::{Outcome, PreHooks};
+use up_server::ServerFault;
+use up_wire::{Input, Slip, Source, Tape};
+use up_words::Settings;
 
-/// Adds a POST of 75 bytes, and a PATCH whose head ends after 249 bytes and whose body ends after 260, with two replies
-/// and a report.
-fn add_small_talk(talk: &mut Talk) -> Result<(), AllocError> {
-    talk.ask_post("11")?;
-    talk.want_created(U1)?;
-    talk.ask_patch(U1, "0", "hello world")?;
-    talk.want_reached("11")?;
-    talk.want(
-        "\naccepted 2\nlane 0 drained 0\nlane 1 drained 3\n\
-        00000000000000000000000000000001 1 post-create 0/11 done\n\
-        00000000000000000000000000000001 2 post-receive 11/11 done\n\
-        00000000000000000000000000000001 3 post-finish 11/11 done\n",
-    )
-}
+/// A creation of 75 bytes, and an append whose head ends after 249 bytes and whose body ends after 260.
+const ASKED: &str =
+    "POST /files/ HTTP/1.1\r\nHost: a\r\nTus-Resumable: 1.0.0\r\nUpload-Length: 11\r\n\r\n\
+    PATCH /files/00000000000000000000000000000001 HTTP/1.1\r\nHost: a\r\nTus-Resumable: 1.0.0\r\n\
+    Content-Type: application/offset+octet-stream\r\nUpload-Offset: 0\r\nContent-Length: 11\r\n\r\nhello world";
 
-/// The report if the POST was served, and `count` bytes of the body arrived.
-fn report_of_part(alloc: Global, count: usize) -> Result<String, AllocError> {
-    if count == 0 {
-        return String::from_str(
-            alloc,
-            "\naccepted 1\nlane 0 drained 0\nlane 1 drained 1\n\
-            00000000000000000000000000000001 1 post-create 0/11 done\n",
-        );
-    }
-    format!(in alloc;
-        "\naccepted 2\nlane 0 drained 0\nlane 1 drained 2\n\
-        {U1} 1 post-create 0/11 done\n{U1} 2 post-receive {count}/11 done\n"
-    )
-}
+/// The same with a body in chunks, and a trailer field.
+const IN_CHUNKS: &str =
+    "POST /files/ HTTP/1.1\r\nHost: a\r\nTus-Resumable: 1.0.0\r\nUpload-Length: 11\r\n\r\n\
+    PATCH /files/00000000000000000000000000000001 HTTP/1.1\r\nHost: a\r\nTus-Resumable: 1.0.0\r\n\
+    Content-Type: application/offset+octet-stream\r\nUpload-Offset: 0\r\nTransfer-Encoding: chunked\r\n\r\n\
+    4\r\nhell\r\n7\r\no world\r\n0\r\nX-T: 1\r\n\r\n";
+
+/// The response to the creation.
+const CREATED: &str = "HTTP/1.1 201 Created\r\nTus-Resumable: 1.0.0\r\nCache-Control: no-store\r\n\
+    Location: /files/00000000000000000000000000000001\r\nContent-Length: 0\r\n\r\n";
+
+/// The response to the append, and the report.
+const REACHED: &str =
+    "HTTP/1.1 204 No Content\r\nTus-Resumable: 1.0.0\r\nCache-Control: no-store\r\n\
+    Upload-Offset: 11\r\n\r\n\
+    \naccepted 2\nlane 0 drained 0\nlane 1 drained 3\n\
+    00000000000000000000000000000001 1 post-create 0/11 done\n\
+    00000000000000000000000000000001 2 post-receive 11/11 done\n\
+    00000000000000000000000000000001 3 post-finish 11/11 done\n";
+
+/// The report of a run that changed nothing.
+const NOTHING: &str = "\naccepted 0\nlane 0 drained 0\nlane 1 drained 0\n";
+
+/// The report if only the creation was served.
+const MADE: &str = "\naccepted 1\nlane 0 drained 0\nlane 1 drained 1\n\
+    00000000000000000000000000000001 1 post-create 0/11 done\n";
 
 /// What is written if the reader fails after `count` bytes, fewer than 260.
 fn written_after(alloc: Global, count: usize) -> Result<String, AllocError> {
-    let mut talk = Talk::new(alloc);
-    if count < 75 {
-        talk.want(NOTHING)?;
-        return Ok(talk.wanted);
+    match count {
+        0..=74 => String::from_str(alloc, NOTHING),
+        75..=249 => format!(in alloc; "{CREATED}{MADE}"),
+        _ => format!(in alloc;
+            "{CREATED}\naccepted 2\nlane 0 drained 0\nlane 1 drained 2\n\
+            00000000000000000000000000000001 1 post-create 0/11 done\n\
+            00000000000000000000000000000001 2 post-receive {}/11 done\n",
+            count - 249
+        ),
     }
-    talk.want_created(U1)?;
-    let report = report_of_part(alloc, count.saturating_sub(249))?;
-    talk.want(report.as_str())?;
-    Ok(talk.wanted)
 }
 
-/// Serves this part of the talk, after which a read fails, and checks the output.
+/// Serves this part of the conversation, after which a read fails, and checks the output.
 fn hold_part(
     rt: &(impl Threads + Wait + Abort + Sync),
     alloc: Global,
@@ -72,48 +86,41 @@ fn hold_part(
 
 #[test]
 fn keeps_what_came_before_any_read_that_fails(rt: HostRuntime) -> Result<(), Fail> {
-    let mut talk = Talk::new(rt.alloc());
-    add_small_talk(&mut talk)?;
-    for count in 0..talk.asked.len() {
-        hold_part(&rt, rt.alloc(), &talk.asked.as_bytes()[..count])?;
+    for count in 0..ASKED.len() {
+        hold_part(&rt, rt.alloc(), &ASKED.as_bytes()[..count])?;
     }
     Ok(())
 }
 
+/// Serves a conversation with a writer that fails after `room` bytes, and checks the output.
+fn hold_room<R: Source>(
+    rt: &(impl Threads + Wait + Abort + Sync),
+    alloc: Global,
+    source: &mut R,
+    room: usize,
+    wanted: &[u8],
+) -> Result<(), Fail> {
+    let mut sink = Slip::new(alloc, room, 0)?;
+    let hooks = PreHooks::new(Vec::new(alloc));
+    let ended = run_with(rt, alloc, hooks, &Settings::default(), source, &mut sink);
+    let (end, part) = match wanted.get(..room) {
+        Some(part) if room < wanted.len() => (Err(ServerFault::Write), part),
+        _ => (Ok(()), wanted),
+    };
+    assert_eq!(rt; (ended, sink.bytes()), (end, part), "with room for {room}");
+    Ok(())
+}
+
+/// The messages come in one piece, and a byte at a time with a body in chunks.
 #[test]
 fn stops_at_any_write_that_fails(rt: HostRuntime) -> Result<(), Fail> {
-    let mut talk = Talk::new(rt.alloc());
-    add_small_talk(&mut talk)?;
-    talk.hold(&rt, rt.alloc(), &Settings::default())?;
-    for room in 0..talk.wanted.len() {
-        let mut source = Input::new(talk.asked.as_bytes());
-        let mut sink = Slip::new(rt.alloc(), room, 0)?;
-        let ended = run_plain(
-            &rt,
-            rt.alloc(),
-            &Settings::default(),
-            &mut source,
-            &mut sink,
-        );
-        assert_eq!(rt;
-            (ended, sink.bytes()),
-            (Err(ServerFault::Write), &talk.wanted.as_bytes()[..room]),
-            "after {room} bytes"
-        );
-    }
-    Ok(())
-}
-
-#[test]
-fn says_why_it_failed(rt: HostRuntime) -> Result<(), Fail> {
-    for (fault, text) in [
-        (ServerFault::Memory, "out of memory"),
-        (ServerFault::Listen, "cannot listen"),
-        (ServerFault::Write, "write failed"),
-        (ServerFault::Read, "read failed"),
-        (ServerFault::Stopped, "a lane stopped"),
-    ] {
-        assert_eq!(rt; fault.to_string(rt.alloc())?.as_str(), text);
+    let wanted = format!(in rt.alloc(); "{CREATED}{REACHED}")?;
+    let wanted = wanted.as_bytes();
+    for room in 0..wanted.len().saturating_add(1) {
+        let mut whole = Input::new(ASKED.as_bytes());
+        hold_room(&rt, rt.alloc(), &mut whole, room, wanted)?;
+        let mut bytes = Tape::new(IN_CHUNKS.as_bytes(), 0, false);
+        hold_room(&rt, rt.alloc(), &mut bytes, room, wanted)?;
     }
     Ok(())
 }
