@@ -79,7 +79,7 @@ struct Beside<'a, R> {
     ending: Option<Ending>,
 }
 
-/// Which connections are served, and how their conversations are held, if the words ask for some.
+/// Which connections are served, and how, if the words ask for some.
 fn visits_of<'a, R, S>(
     beside: &'a Beside<'a, R>,
     service: &'a S,
@@ -99,8 +99,7 @@ fn visits_of<'a, R, S>(
     })
 }
 
-/// Whether nothing is kept of the events that went by: the run has no end of its own, they are written as they go, or a
-/// store counts them.
+/// Whether events are only counted: the run has no end of its own, events are written as lines, or there is a store.
 fn is_counted(words: &Words) -> bool {
     match &words.serve {
         Some(serving) => {
@@ -110,8 +109,8 @@ fn is_counted(words: &Words) -> bool {
     }
 }
 
-/// Serves what the words ask for, with these closures, and with post-hooks that write their event as a line, where there are lines, and
-/// answer that they are done.
+/// Serves what the words ask for, with these closures. The post-hooks write each event as a line, if there are lines, and
+/// return `Done`.
 pub fn run_with<
     'a,
     R: Input + Print + Eprint + AllocGlobal + Clock + RandomSource + Threads + Wait + Sync + 'a,
@@ -163,7 +162,7 @@ pub fn run_with<
     }
 }
 
-/// Serves what the listener accepts, with these closures and post-hooks, keeps nothing of what went by, and reports its counts.
+/// Serves what the listener accepts, with these closures and post-hooks. Keeps no events, and reports counts.
 fn run_on<
     H: Shown + Drop,
     N: Notices,
@@ -213,7 +212,8 @@ fn run_counted<
     tellers: Vec<Teller<F>>,
 ) -> Result<(), Fault>
     requires one_for_each { length tellers.items ≡ beside.now.settings.lanes }
-    requires new { All (λ t. ⟦<Teller<F> as PostHook>⟧.is_sound t × (⟦<Teller<F> as PostHook>⟧.handed t ≡ [])) tellers.items }
+    requires new { All (λ t. ⟦<Teller<F> as PostHook>⟧.is_sound t
+        × (⟦<Teller<F> as PostHook>⟧.handed t ≡ [])) tellers.items }
 {
     match visits_of(beside, &AtOnce) {
         Some(visits) => run_on(rt, beside, &visits, listener, hooks, tellers),
@@ -221,8 +221,7 @@ fn run_counted<
     }
 }
 
-/// Serves what the listener accepts, with changes that are written to logs before they are made, while a thread tends
-/// the store.
+/// Serves what the listener accepts. Changes are written to logs before they are made, and a thread tends the store.
 fn run_kept<
     'x,
     H: Shown + Drop,
@@ -259,7 +258,8 @@ fn run_kept<
     )
 }
 
-/// The same. For the prover: that threads may share a store is shown here of any files, before the types of these are known.
+/// Like `run_kept`. For the prover: that threads may share a store is shown here for files of any type, before their
+/// types are known.
 fn run_tended<
     H: Shown + Drop,
     D: Disk + Drop + Send,
@@ -294,7 +294,8 @@ fn run_stored<
 ) -> Result<(), Fault>
     requires one_for_each { length tellers.items ≡ beside.now.settings.lanes }
     requires same { files.settings.lanes ≡ beside.now.settings.lanes }
-    requires new { All (λ t. ⟦<Teller<F> as PostHook>⟧.is_sound t × (⟦<Teller<F> as PostHook>⟧.handed t ≡ [])) tellers.items }
+    requires new { All (λ t. ⟦<Teller<F> as PostHook>⟧.is_sound t
+        × (⟦<Teller<F> as PostHook>⟧.handed t ≡ [])) tellers.items }
 {
     let StoreFiles {
         folder,
@@ -331,7 +332,8 @@ fn run_over<
     recorders: Vec<Recorder<F>>,
 ) -> Result<(), Fault>
     requires one_for_each { length recorders.items ≡ beside.now.settings.lanes }
-    requires new { All (λ r. ⟦<Recorder<F> as PostHook>⟧.is_sound r × (⟦<Recorder<F> as PostHook>⟧.handed r ≡ [])) recorders.items }
+    requires new { All (λ r. ⟦<Recorder<F> as PostHook>⟧.is_sound r
+        × (⟦<Recorder<F> as PostHook>⟧.handed r ≡ [])) recorders.items }
 {
     let alloc = rt.alloc();
     let settings = &beside.settings;

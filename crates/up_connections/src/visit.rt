@@ -11,24 +11,25 @@ use up_events::MOST_BYTES;
 use up_hooks::PreHooks;
 use up_wire::{Input, Output};
 
-/// How many bytes the buffer of a connection holds that is read into. Heads are read through it, and small bodies; the bytes of
-/// larger ones are read straight to their places.
+/// The size in bytes of the buffer through which heads and small bodies are read. The bytes of larger bodies are read
+/// straight to their places.
 const READ_BUFFER: usize = 4096;
 
-/// How many bytes the buffer of its answers holds. The bytes of a GET are written straight from their places.
+/// The size in bytes of the buffer through which answers are written. The bytes of a GET are written straight from their
+/// places.
 const WRITE_BUFFER: usize = 1024;
 
 /// How many bytes are read and dropped at a time.
 const DROPPED: usize = 8192;
 
-/// How many milliseconds a connection that is being closed waits for the client's last bytes and its close, in all.
+/// How many milliseconds in all a connection that is being closed waits for the client's last bytes and its close.
 const LINGERING: u64 = 2000;
 
 /// How many times bytes are read and dropped of a connection that is being closed.
 const MOST_DROPPED: usize = MOST_BYTES as usize / DROPPED;
 
 /// Serves a connection from a seat. An error means that the connection can't be set up, or that memory ran out for its
-/// buffers; nothing was served then.
+/// buffers. Nothing was served then.
 fn talk<'x, B: Naming, I: Ids, S: Service, T: Wait>(
     rt: &'x T,
     alloc: Global,
@@ -58,9 +59,9 @@ fn talk<'x, B: Naming, I: Ids, S: Service, T: Wait>(
     Ok(service.converse(rt, alloc, hall.board, seat, hooks, &mut exchange))
 }
 
-/// Closes a connection behind its last answer. What the client has sent without being heard, or goes on sending, is read and dropped: the
-/// system would drop the answer where a connection is closed with bytes unread (RFC 9112, section 9.6). It has a frame of its own, so
-/// that its buffer takes no room on the stack while the connection is served.
+/// Closes a connection after its last answer. Bytes that the client has sent, or still sends, are read and dropped. If a
+/// connection is closed with bytes unread, the system may drop the answer (RFC 9112, section 9.6). This is not inlined,
+/// so that its buffer takes no room on the stack while the connection is served.
 #[inline(never)]
 fn close(stream: &TcpStream) -> io::Result<()> {
     stream.shutdown(Shutdown::Write)?;
@@ -80,8 +81,8 @@ fn close(stream: &TcpStream) -> io::Result<()> {
     Ok(())
 }
 
-/// Serves a connection from a seat that it takes and puts back, and closes it. Where no seat is free, or the connection can't be set up,
-/// it is closed with no answer, which changes nothing for others.
+/// Serves a connection from a seat, which it takes and puts back, and closes the connection. If no seat is free, or if
+/// the connection can't be set up, it is closed without an answer, and nothing changes for others.
 pub fn attend<B: Naming, I: Ids, S: Service, T: Wait>(
     rt: &T,
     alloc: Global,

@@ -98,7 +98,7 @@ fn carry_out_cut<K: Keeper, I: Ids>(
     }
 }
 
-/// How the conversation ended, where a fault has no answer.
+/// How the conversation ended, if the fault has no answer.
 fn unanswered(fault: WireFault) -> Option<Ended>
     ensures { result ≡ unanswered fault }
 {
@@ -109,7 +109,7 @@ fn unanswered(fault: WireFault) -> Option<Ended>
     }
 }
 
-/// Writes a response, and tells how the conversation ended if it did.
+/// Writes a response. Returns how the conversation ended, if it did.
 fn send<W: Sink>(sink: &mut W, response: &Response, bare: bool, close: bool) -> Option<Ended>
     ensures { Sends (W.device sink.old) (W.device sink.new)
         (response_text response.now bare close) close result }

@@ -21,15 +21,16 @@ use up_hooks::PreHooks;
 use up_machine::Book;
 use up_wire::{Sink, Source};
 
-/// What `answer` gives over a lent book is the book's decision, or memory was wanting and the book is as before.
+/// A law, which does nothing when it runs: the answer over a lent book is the book's decision, or memory ran out and the
+/// book is unchanged.
 pub fn lent_answer_is_exact(_hooks: &PreHooks)
     ensures { (s t : State) (request : Request) (id : ℕ) (response : Response)
         → Answered (by_book (ClosuresGive _hooks.now)) s request id response t
         → IsOutcome (ClosuresGive _hooks.now) s request id response t }
 {}
 
-/// What `converse` does over a lent book with counted ids is decided by the book alone; the book's lanes stay, and its history grows
-/// at its end.
+/// A law, which does nothing when it runs: a conversation over a lent book with counted ids is decided by the book
+/// alone. The book keeps its lanes, and its history grows at its end.
 pub fn lent_conversation_is_exact(_hooks: &PreHooks)
     ensures turns { (max_size : ℕ) (old new : Stand (Course State ℕ)) (ended : Ended)
         → Converses (Serves (by_book (ClosuresGive _hooks.now)) Counts) max_size old new ended
@@ -39,7 +40,7 @@ pub fn lent_conversation_is_exact(_hooks: &PreHooks)
         → GoesOn MOST_MESSAGES old.course new.course }
 {}
 
-/// Serves one conversation by a book alone.
+/// Serves one conversation by a book alone, with ids that are counted from that of `ids`.
 pub fn converse_by_book<R: Source, W: Sink>(
     alloc: Global,
     book: &mut Book,

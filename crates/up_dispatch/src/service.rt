@@ -1,4 +1,4 @@
-//! How conversations are held.
+//! How the conversations of a server are served.
 ghost use Rattle.std.specs.Prelude.{◌≡◌};
 ghost use Rattle.up_hooks.specs.Gives.{ClosuresGive};
 ghost use Rattle.up_dispatch.specs.Answering.{Serves};
@@ -39,10 +39,10 @@ pub fn converse_at<B: Naming, I: Ids, R: Source, W: Sink, T: Wait>(
     converse(alloc, &mut seated, hooks, max_size, exchange)
 }
 
-/// How the conversations of a server are held.
+/// How the conversations of a server are served.
 pub trait Service: Sync {
-    /// Makes a new board ready for the first of them, from this seat, which comes back. Tells whether it is ready: if it
-    /// isn't, no conversation is to be held on it.
+    /// Prepares a new board for the first conversation, from this seat, which is returned. Also returns whether the board
+    /// is ready. If it isn't, no conversation is to be served on it.
     fn begin<B: Naming, T: Wait>(
         &self,
         rt: &T,
@@ -51,7 +51,7 @@ pub trait Service: Sync {
         seat: Seat<B>,
     ) -> (Seat<B>, bool);
 
-    /// Holds one conversation from a seat of the board.
+    /// Serves one conversation from a seat of the board.
     fn converse<B: Naming, I: Ids, R: Source, W: Sink, T: Wait>(
         &self,
         rt: &T,
@@ -63,7 +63,7 @@ pub trait Service: Sync {
     ) -> Ended;
 }
 
-/// Each change is made at once, and is in memory alone.
+/// Makes each change at once, in memory only.
 #[derive(Clone, Copy, Drop)]
 pub struct AtOnce;
 

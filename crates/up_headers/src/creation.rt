@@ -15,9 +15,9 @@ use crate::verb::Verb;
 use std::alloc::{AllocError, Global};
 use up_message::{Field, Sequence, is_digits, number};
 
-/// What a POST to the creation URL asks for (tus 1.0.0, Creation and Concatenation), an upload of at most `max_size` bytes
-/// if its length is known. No field that is read may be there twice. Then the length is checked, except for a final
-/// upload, then `Upload-Concat`, and then the metadata.
+/// What a POST to the creation URL asks for (tus 1.0.0, Creation and Concatenation): an upload of at most `max_size`
+/// bytes, if its length is known. No field that is read may be there twice. Then the length is checked, except for a
+/// final upload, then `Upload-Concat`, and then the metadata.
 pub(crate) fn create_request(
     alloc: Global,
     fields: &[Field],

@@ -12,8 +12,8 @@ use crate::verb::Verb;
 use up_events::Id;
 use up_message::{Message, Piece, is_digits, number, same_name, trim_end_ows};
 
-/// What a PATCH of an upload asks for (tus 1.0.0, PATCH). No field that is read may be there twice. The bytes are those of
-/// the message, without a copy, and have no more room than they need.
+/// What a PATCH of an upload asks for (tus 1.0.0, PATCH). No field that is read may be there twice. The bytes are those
+/// of the message, without a copy, and have no more room than they need.
 pub(crate) fn patch_request(id: Id, message: Message) -> Result<Request, HeaderFault>
     ensures answer { (max_size : ℕ)
         → IsStep Verb.Patch (Place.Upload id) message.fields message.body max_size result }

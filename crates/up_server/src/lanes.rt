@@ -16,7 +16,7 @@ use up_hooks::PostHook;
 use up_lanes::{Lane, LaneEnd};
 use up_queue::TakeEnd;
 
-/// A lane over each take end, numbered from 0 on, with the post-hook at its place.
+/// A lane over each take end, numbered from 0, with the post-hook at its place. `NoMemory` if memory runs out.
 pub fn lanes_over<H: PostHook + Drop>(
     alloc: Global,
     takes: Vec<TakeEnd>,
@@ -26,7 +26,9 @@ pub fn lanes_over<H: PostHook + Drop>(
     requires new { All (λ h. H.is_sound h × (H.handed h ≡ [])) hooks.items }
     requires one_each { vec_len takes ≡ vec_len hooks }
     ensures count { IfOk result (λ v. vec_len v ≡ vec_len takes) }
-    ensures lanes { IfOk result (λ v. EachAt (λ k l. (e : _) (h : _) → l ≡ lane_side k (slice_index_or takes.items k e).queue [] false (slice_index_or hooks.items k h)) v.items) }
+    ensures lanes { IfOk result (λ v. EachAt (λ k l. (e : _) (h : _)
+        → l ≡ lane_side k (slice_index_or takes.items k e).queue [] false
+        (slice_index_or hooks.items k h)) v.items) }
 {
     let mut lanes = Vec::with_capacity(alloc, takes.len())?;
     for (take_end, hook) in takes.into_iter().zip(hooks) {
@@ -35,15 +37,17 @@ pub fn lanes_over<H: PostHook + Drop>(
     Ok(lanes)
 }
 
-/// The promise that what a thread hands back is the end of this lane.
+/// The promise that a thread returns the end of this lane.
 #[derive(Drop)]
 pub struct OfLane<H: PostHook>(Snapshot<Lane<H>>);
 
 impl<H: PostHook> Promise<LaneEnd<H>> for OfLane<H> {
-    ghost kept_by = { λ p e. H.is_sound e.hook × (e.lane ≡ p.0.value.lane) × (e.take_end.queue ≡ p.0.value.queue) };
+    ghost kept_by = { λ p e. H.is_sound e.hook × (e.lane ≡ p.0.value.lane)
+        × (e.take_end.queue ≡ p.0.value.queue) };
 }
 
-/// Starts a thread for each lane. Where one can't be started, those that were go on until the board is closed.
+/// Starts a thread for each lane. `AllocError` if one can't be started. The lanes that were started then run until the
+/// board is closed.
 fn start_each<
     's,
     E,
@@ -60,7 +64,8 @@ fn start_each<
 ) -> Result<Vec<PromisedHandle<LaneEnd<H>, OfLane<H>>>, AllocError>
     requires { EachAt (λ k l. (l.lane ≡ k) × (l.queue ≡ B.queue k)) lanes.items }
     ensures count { IfOk result (λ v. vec_len v ≡ vec_len lanes) }
-    ensures lanes { IfOk result (λ v. EachAt (λ k h. (h.promise.0.value.lane ≡ k) × (h.promise.0.value.queue ≡ B.queue k)) v.items) }
+    ensures lanes { IfOk result (λ v. EachAt (λ k h. (h.promise.0.value.lane ≡ k)
+        × (h.promise.0.value.queue ≡ B.queue k)) v.items) }
 {
     let mut running = Vec::with_capacity(alloc, lanes.len())?;
     for lane in lanes {
@@ -70,7 +75,8 @@ fn start_each<
     Ok(running)
 }
 
-/// Starts a thread for each lane. Where one can't be started the board is closed, so that those that were end.
+/// Starts a thread for each lane. `AllocError` if one can't be started. The board is then closed, so that the lanes
+/// that were started end.
 pub fn start_all<
     's,
     E,
@@ -87,7 +93,8 @@ pub fn start_all<
 ) -> Result<Vec<PromisedHandle<LaneEnd<H>, OfLane<H>>>, AllocError>
     requires { EachAt (λ k l. (l.lane ≡ k) × (l.queue ≡ B.queue k)) lanes.items }
     ensures count { IfOk result (λ v. vec_len v ≡ vec_len lanes) }
-    ensures lanes { IfOk result (λ v. EachAt (λ k h. (h.promise.0.value.lane ≡ k) × (h.promise.0.value.queue ≡ B.queue k)) v.items) }
+    ensures lanes { IfOk result (λ v. EachAt (λ k h. (h.promise.0.value.lane ≡ k)
+        × (h.promise.0.value.queue ≡ B.queue k)) v.items) }
 {
     let running = start_each(scope, rt, alloc, runner, lanes);
     if running.is_err() {
@@ -96,15 +103,17 @@ pub fn start_all<
     running
 }
 
-/// Closes the board, and waits until each lane has ended.
+/// Closes the board, and waits until each lane has ended. `AllocError` if memory runs out.
 pub fn end_all<B: Naming + Send + Sync, N: LaneNotices, H: PostHook + Drop, T: Threads + Wait>(
     rt: &T,
     runner: &Runner<'_, B, N>,
     running: Vec<PromisedHandle<LaneEnd<H>, OfLane<H>>>,
 ) -> Result<Vec<LaneEnd<H>>, AllocError>
-    requires { EachAt (λ k h. (h.promise.0.value.lane ≡ k) × (h.promise.0.value.queue ≡ B.queue k)) running.items }
+    requires { EachAt (λ k h. (h.promise.0.value.lane ≡ k)
+        × (h.promise.0.value.queue ≡ B.queue k)) running.items }
     ensures count { IfOk result (λ v. vec_len v ≡ vec_len running) }
-    ensures ends { IfOk result (λ v. EachAt (λ k e. H.is_sound e.hook × (e.lane ≡ k) × (e.take_end.queue ≡ B.queue k)) v.items) }
+    ensures ends { IfOk result (λ v. EachAt (λ k e. H.is_sound e.hook
+        × (e.lane ≡ k) × (e.take_end.queue ≡ B.queue k)) v.items) }
 {
     runner.close(rt);
     Ok(thread::join_promised(rt, running)?)

@@ -38,8 +38,8 @@ pub struct Connections<'a, I, N, S> {
     pub ids: I,
 }
 
-/// Runs the lanes while connections are served, and a thread that says how the server stands, if somebody watches it.
-/// Then closes the board and waits for the lanes.
+/// Runs the lanes while connections are served, and a thread that writes the state of the server, if somebody watches
+/// it. Then closes the board and waits for the lanes.
 fn attend_in<
     's,
     E,

@@ -74,7 +74,7 @@ fn converse_from<B: Naming, R: Source, W: Sink, T: Wait>(
     converse_at(rt, alloc, board, seat, hooks, &mut exchange)
 }
 
-/// What was lent to a closure and came out of it goes back as it is.
+/// For the prover: what was lent to a closure and came out of it goes back unchanged.
 fn give_back<X>(_lent: &mut X)
     ensures { _lent.new ≡ _lent.old }
 {}

@@ -1,4 +1,4 @@
-//! What is said of how a server stands.
+//! The lines on standard error about the state of a server.
 use crate::runner::{OnStderr, Runner};
 use std::alloc::AllocError;
 use std::fmt;
@@ -8,7 +8,8 @@ use std::thread::{Scope, Threads};
 use up_connections::{Watch, milliseconds};
 use up_dispatch::{Counts, Naming};
 
-/// How a server stands: what is counted on its board, how many connections are open, and the lanes that wait for memory, a bit for each.
+/// The state of a server: what is counted on its board, the number of open connections, and the lanes that wait for
+/// memory, a bit for each.
 #[derive(Clone, Copy, Debug)]
 struct Status {
     counts: Counts,
@@ -43,7 +44,7 @@ impl fmt::Display for Status {
     }
 }
 
-/// Says on standard error how the server stands, if somebody watches it.
+/// Writes the state of the server to standard error, if somebody watches it.
 pub fn say<B: Naming + Send + Sync, T: Eprint + Wait + Sync>(
     rt: &T,
     runner: &Runner<'_, B, OnStderr<'_, T>>,
@@ -60,7 +61,7 @@ pub fn say<B: Naming + Send + Sync, T: Eprint + Wait + Sync>(
     let _ = eprintln!(rt; "up_server: {status}");
 }
 
-/// Says it each so many seconds, until the board is closed.
+/// Writes it at the interval of `watch`, until the board is closed.
 fn say_each<B: Naming + Send + Sync, T: Eprint + Wait + Sync>(
     rt: &T,
     runner: &Runner<'_, B, OnStderr<'_, T>>,
@@ -79,7 +80,8 @@ fn say_each<B: Naming + Send + Sync, T: Eprint + Wait + Sync>(
     }
 }
 
-/// Starts a thread that says it each so many seconds, until the board is closed, if somebody watches the server.
+/// Starts a thread that writes it at the interval of `watch`, until the board is closed, if somebody watches the server.
+/// `AllocError` if the thread can't be started.
 pub fn start_saying<'s, E, B: Naming + Send + Sync, T: Threads + Eprint + Wait + Sync>(
     scope: &Scope<'s, E>,
     rt: &'s T,

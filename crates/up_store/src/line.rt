@@ -255,8 +255,8 @@ impl Line {
         batch
     }
 
-    /// A batch was written, or could not be. If it could not be, none of those that wait are written either, so that each
-    /// is answered before others are drawn after them.
+    /// A batch was written, or could not be. If it could not be, none of those that wait are written either. So each of
+    /// them is answered before others are drawn after it.
     pub fn note_written(&mut self, batch: Vec<Spelled>, is_on_disk: bool)
         ensures done { self.new.done ≡ self.old.done }
         ensures known { is_on_disk ≡ true → self.old.is_over ≡ false
@@ -299,8 +299,8 @@ impl Line {
         self.place
     }
 
-    /// The number of entries that had their turn in this run, with those that were read at its start. A log that becomes
-    /// shorter changes the places, but not this number.
+    /// The number of entries that had their turn in this run, with those that were read at its start. A shorter log
+    /// changes the places, but not this number.
     pub fn decided(&self) -> u64
         ensures { result ≡ self.now.decided }
     {
