@@ -109,8 +109,8 @@ fn is_counted(words: &Words) -> bool {
     }
 }
 
-/// Serves what the words ask for, with these closures. The post-hooks write each event as a line, if there are lines, and
-/// return `Done`.
+/// Serves what the words ask for, with these closures. The post-hooks write each event as a line, if there are lines,
+/// and return `Done`.
 pub fn run_with<
     'a,
     R: Input + Print + Eprint + AllocGlobal + Clock + RandomSource + Threads + Wait + Sync + 'a,

@@ -15,8 +15,8 @@ use up_wire::{Input, Output};
 /// straight to their places.
 const READ_BUFFER: usize = 4096;
 
-/// The size in bytes of the buffer through which answers are written. The bytes of a GET are written straight from their
-/// places.
+/// The size in bytes of the buffer through which answers are written. The bytes of a GET are written straight from
+/// their places.
 const WRITE_BUFFER: usize = 1024;
 
 /// How many bytes are read and dropped at a time.
@@ -59,9 +59,9 @@ fn talk<'x, B: Naming, I: Ids, S: Service, T: Wait>(
     Ok(service.converse(rt, alloc, hall.board, seat, hooks, &mut exchange))
 }
 
-/// Closes a connection after its last answer. Bytes that the client has sent, or still sends, are read and dropped. If a
-/// connection is closed with bytes unread, the system may drop the answer (RFC 9112, section 9.6). This is not inlined,
-/// so that its buffer takes no room on the stack while the connection is served.
+/// Closes a connection after its last answer. Bytes that the client has sent, or still sends, are read and dropped. If
+/// a connection is closed with bytes unread, the system may drop the answer (RFC 9112, section 9.6). This is not
+/// inlined, so that its buffer takes no room on the stack while the connection is served.
 #[inline(never)]
 fn close(stream: &TcpStream) -> io::Result<()> {
     stream.shutdown(Shutdown::Write)?;

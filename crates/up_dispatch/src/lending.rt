@@ -21,8 +21,8 @@ use up_hooks::PreHooks;
 use up_machine::Book;
 use up_wire::{Sink, Source};
 
-/// A law, which does nothing when it runs: the answer over a lent book is the book's decision, or memory ran out and the
-/// book is unchanged.
+/// A law, which does nothing when it runs: the answer over a lent book is the book's decision, or memory ran out and
+/// the book is unchanged.
 pub fn lent_answer_is_exact(_hooks: &PreHooks)
     ensures { (s t : State) (request : Request) (id : ℕ) (response : Response)
         → Answered (by_book (ClosuresGive _hooks.now)) s request id response t

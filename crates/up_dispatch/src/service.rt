@@ -41,8 +41,8 @@ pub fn converse_at<B: Naming, I: Ids, R: Source, W: Sink, T: Wait>(
 
 /// How the conversations of a server are served.
 pub trait Service: Sync {
-    /// Prepares a new board for the first conversation, from this seat, which is returned. Also returns whether the board
-    /// is ready. If it isn't, no conversation is to be served on it.
+    /// Prepares a new board for the first conversation, from this seat, which is returned. Also returns whether the
+    /// board is ready. If it isn't, no conversation is to be served on it.
     fn begin<B: Naming, T: Wait>(
         &self,
         rt: &T,

@@ -11,8 +11,8 @@ use std::marker::Model;
 use up_events::Trace;
 
 /// An entry that is already encoded: as the body of a block of this entry alone, with the closed gate after it. So a
-/// batch of one entry is written as it is, and a larger batch is put together by copying bytes. Contracts describe it as
-/// the entry.
+/// batch of one entry is written as it is, and a larger batch is put together by copying bytes. Contracts describe it
+/// as the entry.
 #[derive(Drop)]
 pub struct Spelled {
     bytes: Vec<u8>,

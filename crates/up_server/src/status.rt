@@ -80,8 +80,8 @@ fn say_each<B: Naming + Send + Sync, T: Eprint + Wait + Sync>(
     }
 }
 
-/// Starts a thread that writes it at the interval of `watch`, until the board is closed, if somebody watches the server.
-/// `AllocError` if the thread can't be started.
+/// Starts a thread that writes it at the interval of `watch`, until the board is closed, if somebody watches the
+/// server. `AllocError` if the thread can't be started.
 pub fn start_saying<'s, E, B: Naming + Send + Sync, T: Threads + Eprint + Wait + Sync>(
     scope: &Scope<'s, E>,
     rt: &'s T,
