@@ -61,7 +61,7 @@ impl<D: Disk> Heads<D> {
             ⊎ IsTrue self.new.log.is_broken) }
     {
         let batch = head.spelled(alloc)?;
-        self.log.append(alloc, &batch)
+        self.log.append(&mut Vec::new(alloc), &batch)
     }
 
     /// The file. The heads are then used up.

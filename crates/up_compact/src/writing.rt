@@ -103,7 +103,7 @@ pub fn add_staying<D: Disk>(
         return Err(LogFault::Damaged);
     };
     if !spelled.is_empty() {
-        shorter.append(alloc, &spelled)?;
+        shorter.append(&mut Vec::new(alloc), &spelled)?;
     }
     Ok(Progress {
         place: next,

@@ -3,7 +3,6 @@ pub mod Again
 pub mod Crash
 pub mod Batches
 pub mod Closing
-pub mod Frames
 pub mod Headings
 pub mod Mending
 pub mod Parts

@@ -8,9 +8,8 @@ ghost use Rattle.up_log.specs.declared.setup.Setup.{Setup as Numbers};
 use crate::device::{write_settled, write_synced};
 use crate::fault::LogFault;
 use crate::spelled::Spelled;
-use crate::writing::closed_body;
+use crate::writing::put_closed_body;
 use sqlite_disk::Disk;
-use std::alloc::Global;
 
 /// A log to which batches can be appended. Each batch is in a block after a gate. The gate is a byte, which a separate
 /// write opens once the block is on the disk.
@@ -35,7 +34,9 @@ impl<D: Disk> Log<D> {
     /// batch. A crash during the call, or after an error, leaves the log with the whole batch or without it. After
     /// `Memory` the log is unchanged. After any other error, either the log has the batches that it had, as on a full
     /// disk, and the call may be retried; or the log accepts no more batches (`Broken`) and must be opened again.
-    pub fn append(&mut self, alloc: Global, entries: &[Spelled]) -> Result<(), LogFault>
+    /// The batch is put together in `room`, whose old content is gone then. A caller who keeps it saves memory from
+    /// being allocated anew for each batch.
+    pub fn append(&mut self, room: &mut Vec<u8>, entries: &[Spelled]) -> Result<(), LogFault>
         ensures durable { (setup : Numbers) (batches : List (List Logged))
             → IsSettled D.Disk self.old setup batches
             → OnOk result (IsSettled D.Disk self.new setup (batches ++ entries.now ∷ [])) }
@@ -53,15 +54,14 @@ impl<D: Disk> Log<D> {
         if self.is_broken {
             return Err(LogFault::Broken);
         }
-        let mut room = Vec::new(alloc);
-        let bytes = closed_body(entries, &mut room)?;
+        put_closed_body(room, entries)?;
         let Some(start) = self.gate.checked_add(1) else {
             return Err(LogFault::Broken);
         };
-        let Some(end) = self.gate.checked_add(bytes.len()) else {
+        let Some(end) = self.gate.checked_add(room.len()) else {
             return Err(LogFault::Broken);
         };
-        let (staged, is_settled) = write_settled(&mut self.device, start, bytes);
+        let (staged, is_settled) = write_settled(&mut self.device, start, room);
         self.is_broken = !is_settled;
         staged?;
         self.is_broken = true;

@@ -1,9 +1,8 @@
 //! Encoding entries.
-ghost use Rattle.std.specs.Prelude.{◌≡◌, ◌≤◌, ◌-◌, ◌++◌, ◌∷◌, [], length, drop, IfOk, OnOk};
+ghost use Rattle.std.specs.Prelude.{◌≡◌, ◌≤◌, ◌++◌, ◌∷◌, [], length, drop, IfOk, OnOk};
 ghost use Rattle.std.specs.Option.{option_map};
 ghost use Rattle.up_log.specs.Blocks.{body};
-ghost use Rattle.up_log.specs.Spelling.{word, id, text, maybe, many, flag, kind, consent, declared};
-ghost use Rattle.up_log.specs.Spelling.{pair, new_upload, patch, asked_for, entry, batch};
+ghost use Rattle.up_log.specs.Spelling.{word, id, text, maybe, many, flag, kind, consent, declared, pair, new_upload, patch, asked_for, entry, batch};
 
 use crate::entry::{Consent, Entry};
 use crate::spelled::Spelled;
@@ -11,6 +10,9 @@ use std::alloc::{AllocError, Global};
 use up_events::{Id, Kind};
 use up_headers::{NewUpload, NotDigits, Pairs, Patch, Request};
 use up_message::{Piece, Sequence};
+
+/// How many bytes a PATCH must append so that they are not copied into its encoding.
+const MIN_SHARED: usize = 16_384;
 
 #[tactic(auto, unfolding(crate::specs::Spelling::word))]
 pub(crate) fn word_of(n: u64) -> [u8; 8]
@@ -56,11 +58,23 @@ fn put_text(out: &mut Vec<u8>, bytes: &Sequence<u8>) -> Result<(), AllocError>
     out.extend_from_slice(bytes.as_slice())
 }
 
-fn put_piece(out: &mut Vec<u8>, bytes: &Piece) -> Result<(), AllocError>
-    ensures { OnOk result (out.new.items ≡ out.old.items ++ text bytes.now) }
+/// No bytes.
+fn nothing() -> Piece
+    ensures { result ≡ [] }
+{
+    Piece::from_static(&[])
+}
+
+/// Puts the number of bytes, and the bytes, unless they are many. Then they are returned, and are still to be put.
+fn put_piece(out: &mut Vec<u8>, bytes: &Piece) -> Result<Piece, AllocError>
+    ensures { IfOk result (λ back. out.new.items ++ back ≡ out.old.items ++ text bytes.now) }
 {
     put_word(out, bytes.len() as u64)?;
-    out.extend_from_slice(bytes.as_slice())
+    if bytes.len() >= MIN_SHARED {
+        return bytes.share();
+    }
+    out.extend_from_slice(bytes.as_slice())?;
+    Ok(nothing())
 }
 
 fn put_length(out: &mut Vec<u8>, length: Option<u64>) -> Result<(), AllocError>
@@ -164,8 +178,9 @@ fn put_new_upload(out: &mut Vec<u8>, new: &NewUpload) -> Result<(), AllocError>
     put_some_text(out, &new.concat)
 }
 
-fn put_patch(out: &mut Vec<u8>, sent: &Patch) -> Result<(), AllocError>
-    ensures { OnOk result (out.new.items ≡ out.old.items ++ patch sent.now) }
+/// Returns the bytes that are still to be put, as `put_piece` does.
+fn put_patch(out: &mut Vec<u8>, sent: &Patch) -> Result<Piece, AllocError>
+    ensures { IfOk result (λ back. out.new.items ++ back ≡ out.old.items ++ patch sent.now) }
 {
     put_id(out, sent.id)?;
     put_flag(out, sent.media)?;
@@ -174,36 +189,40 @@ fn put_patch(out: &mut Vec<u8>, sent: &Patch) -> Result<(), AllocError>
     put_piece(out, &sent.bytes)
 }
 
-fn put_request(out: &mut Vec<u8>, request: &Request) -> Result<(), AllocError>
-    ensures { OnOk result (out.new.items ≡ out.old.items ++ asked_for request.now) }
+/// Returns the bytes that are still to be put, as `put_piece` does.
+fn put_request(out: &mut Vec<u8>, request: &Request) -> Result<Piece, AllocError>
+    ensures { IfOk result (λ back.
+        out.new.items ++ back ≡ out.old.items ++ asked_for request.now) }
 {
     match request {
-        Request::Options => Ok(out.push(0)?),
+        Request::Options => out.push(0)?,
         Request::Create(new) => {
             out.push(1)?;
-            put_new_upload(out, new)
+            put_new_upload(out, new)?;
         }
         Request::Head(upload) => {
             out.push(2)?;
-            put_id(out, *upload)
+            put_id(out, *upload)?;
         }
         Request::Patch(sent) => {
             out.push(3)?;
-            put_patch(out, sent)
+            return put_patch(out, sent);
         }
         Request::Delete(upload) => {
             out.push(4)?;
-            put_id(out, *upload)
+            put_id(out, *upload)?;
         }
         Request::Get(upload) => {
             out.push(5)?;
-            put_id(out, *upload)
+            put_id(out, *upload)?;
         }
     }
+    Ok(nothing())
 }
 
-pub(crate) fn put_entry(out: &mut Vec<u8>, logged: &Entry) -> Result<(), AllocError>
-    ensures { OnOk result (out.new.items ≡ out.old.items ++ entry logged.now) }
+/// Encodes an entry. Returns the end of the encoding that is still to be put, as `put_piece` does.
+pub(crate) fn put_entry(out: &mut Vec<u8>, logged: &Entry) -> Result<Piece, AllocError>
+    ensures { IfOk result (λ back. out.new.items ++ back ≡ out.old.items ++ entry logged.now) }
 {
     put_id(out, logged.id)?;
     put_consent(out, logged.consent)?;
@@ -215,16 +234,17 @@ fn put_batch(out: &mut Vec<u8>, entries: &[Spelled]) -> Result<(), AllocError>
 {
     put_word(out, entries.len() as u64)?;
     for logged in entries {
-        out.extend_from_slice(logged.bytes())?;
+        logged.put(out)?;
     }
     Ok(())
 }
 
-/// The approximate number of bytes of an entry. A buffer with this much room mostly does not move while the entry is
-/// encoded.
+/// The approximate number of bytes of an entry that are not shared. A buffer with this much room mostly does not move
+/// while the entry is encoded.
 pub(crate) fn room_of(logged: &Entry) -> usize {
     match &logged.request {
-        Request::Patch(sent) => sent.bytes.len().saturating_add(81),
+        Request::Patch(sent) if sent.bytes.len() < MIN_SHARED => sent.bytes.len() + 64,
+        Request::Patch(_) => 64,
         _ => 256,
     }
 }
@@ -246,44 +266,15 @@ fn put_front(bytes: &mut [u8], front: &[u8])
     bytes[..front.len()].copy_from_slice(front);
 }
 
-/// Puts the size of a batch in front of it, where 8 bytes were left free, and a closed gate after it.
-fn close(out: &mut Vec<u8>) -> Result<(), AllocError>
-    requires free { 8 ≤ length out.old.items }
-    ensures { OnOk result (out.new.items
-        ≡ word (length out.old.items - 8) ++ drop 8 out.old.items ++ 0 ∷ []) }
+/// Puts together the body of a block, followed by the next gate, which is closed. What `room` had before is gone.
+pub(crate) fn put_closed_body(room: &mut Vec<u8>, entries: &[Spelled]) -> Result<(), AllocError>
+    ensures { OnOk result (room.new.items ≡ body entries.now ++ 0 ∷ []) }
 {
-    let size = out.len() - 8;
-    put_front(out, &word_of(size as u64));
-    Ok(out.push(0)?)
-}
-
-/// The body of a block of one entry, followed by the next gate, which is closed.
-pub(crate) fn closed_entry(alloc: Global, logged: &Entry) -> Result<Vec<u8>, AllocError>
-    ensures { IfOk result (λ bytes. bytes.items ≡ body (logged.now ∷ []) ++ 0 ∷ []) }
-{
-    let mut out = Vec::with_capacity(alloc, room_of(logged))?;
-    out.extend_from_slice(&[0; 8])?;
-    put_word(&mut out, 1)?;
-    put_entry(&mut out, logged)?;
-    close(&mut out)?;
-    Ok(out)
-}
-
-/// The body of a block, followed by the next gate, which is closed. That of one entry is there already. That of several
-/// is put together in `room`.
-pub(crate) fn closed_body<'a>(
-    entries: &'a [Spelled],
-    room: &'a mut Vec<u8>,
-) -> Result<&'a [u8], AllocError>
-    requires empty { room.old.items ≡ [] }
-    ensures { IfOk result (λ bytes. bytes.now ≡ body entries.now ++ 0 ∷ []) }
-{
-    if let [one] = entries {
-        return Ok(one.closed_body());
-    }
+    room.clear();
     room.reserve(room_for(entries))?;
     room.extend_from_slice(&[0; 8])?;
     put_batch(room, entries)?;
-    close(room)?;
-    Ok(room)
+    let size = room.len() - 8;
+    put_front(room, &word_of(size as u64));
+    Ok(room.push(0)?)
 }

@@ -15,10 +15,10 @@ fn opened(alloc: Global, calls: u64) -> Option<Log<Fuse<Memory>>> {
 
 /// Whether a batch is appended. After it failed, the log must accept no more batches; otherwise `None`.
 fn is_added(alloc: Global, log: &mut Log<Fuse<Memory>>, entries: &[Spelled]) -> Option<bool> {
-    if log.append(alloc, entries).is_ok() {
+    if log.append(&mut Vec::new(alloc), entries).is_ok() {
         return Some(true);
     }
-    match log.append(alloc, entries) {
+    match log.append(&mut Vec::new(alloc), entries) {
         Err(LogFault::Broken) => Some(false),
         _ => None,
     }

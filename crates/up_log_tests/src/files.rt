@@ -9,7 +9,7 @@ use up_log::{LogFault, LogReader, Setup, open_file};
 /// The number of batches of a file, before and after one more is appended.
 fn counts(alloc: Global, bytes: &[u8]) -> Result<(u64, u64), LogFault> {
     let (mut log, count) = read(alloc, disk_of(alloc, bytes)?)?;
-    log.append(alloc, &spelled_of(alloc, &PAIR)?)?;
+    log.append(&mut Vec::new(alloc), &spelled_of(alloc, &PAIR)?)?;
     let (_, again) = read(alloc, log.into_device())?;
     Ok((count, again))
 }
@@ -124,7 +124,7 @@ fn is_busy(rt: &HostRuntime, path: &str) -> Result<bool, LogFault> {
         Ok(log) => log,
         Err(refused) => return Err(refused.fault),
     };
-    log.append(rt.alloc(), &spelled_of(rt.alloc(), &PAIR)?)?;
+    log.append(&mut Vec::new(rt.alloc()), &spelled_of(rt.alloc(), &PAIR)?)?;
     Ok(matches!(open_file(rt, path, Unknown, SETUP), Err(LogFault::Busy)))
 }
 

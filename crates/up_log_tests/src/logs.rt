@@ -120,7 +120,7 @@ pub fn log_of(alloc: Global, batches: u64) -> Result<Vec<u8>, LogFault> {
     let entries = spelled_of(alloc, &PAIR)?;
     let (mut log, _) = read(alloc, Memory::new(alloc))?;
     for _ in 0..batches {
-        log.append(alloc, &entries)?;
+        log.append(&mut Vec::new(alloc), &entries)?;
     }
     Ok(Vec::from_slice(alloc, log.into_device().bytes())?)
 }

@@ -55,8 +55,8 @@ fn what_was_refused_changes_nothing(rt: HostRuntime) -> Result<(), Fail> {
 /// The file of a log with these two batches.
 fn file_of(alloc: Global, first: &[Row], second: &[Row]) -> Result<Memory, LogFault> {
     let (mut log, _) = read(alloc, Memory::new(alloc))?;
-    log.append(alloc, &spelled_of(alloc, first)?)?;
-    log.append(alloc, &spelled_of(alloc, second)?)?;
+    log.append(&mut Vec::new(alloc), &spelled_of(alloc, first)?)?;
+    log.append(&mut Vec::new(alloc), &spelled_of(alloc, second)?)?;
     Ok(log.into_device())
 }
 

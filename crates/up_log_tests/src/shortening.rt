@@ -74,8 +74,8 @@ fn parts_of_what_stays_stay(rt: HostRuntime) -> Result<(), Fail> {
 /// The log with these batches.
 fn log_of(alloc: Global, first: &[Row], second: &[Row]) -> Result<Log<Memory>, LogFault> {
     let (mut log, _) = read(alloc, Memory::new(alloc))?;
-    log.append(alloc, &spelled_of(alloc, first)?)?;
-    log.append(alloc, &spelled_of(alloc, second)?)?;
+    log.append(&mut Vec::new(alloc), &spelled_of(alloc, first)?)?;
+    log.append(&mut Vec::new(alloc), &spelled_of(alloc, second)?)?;
     Ok(log)
 }
 
@@ -123,7 +123,7 @@ fn a_shorter_log_has_what_stays(rt: HostRuntime) -> Result<(), Fail> {
     assert_eq!(rt; reached.place, log.end_place());
     // Entries that are appended to the log meanwhile are then appended to the shorter log.
     log.append(
-        alloc,
+        &mut Vec::new(alloc),
         &spelled_of(alloc, &[(What::Put, 5, 3), (What::Make, 7, 2)])?,
     )?;
     let reached = catch_up(alloc, &mut log, &mut shorter, &left_out, reached)?;
@@ -153,7 +153,7 @@ fn an_open_log_is_read_from_its_places(rt: HostRuntime) -> Result<(), Fail> {
     }
     assert!(rt; log.batch_at(alloc, place)?.is_none());
     // Another batch can still be appended, and is then at this place.
-    log.append(alloc, &spelled_of(alloc, &first)?)?;
+    log.append(&mut Vec::new(alloc), &spelled_of(alloc, &first)?)?;
     assert!(rt; log.batch_at(alloc, place)?.is_some());
     Ok(())
 }

@@ -1,6 +1,5 @@
 //! The log of the changes, and whether it is open.
 use sqlite_disk::Disk;
-use std::alloc::Global;
 use std::mem;
 use up_log::{Log, LogFault, Spelled};
 
@@ -87,7 +86,7 @@ impl<D: Disk> Held<D> {
     /// if the log was not read yet.
     pub(crate) fn append<F: LogFile<D>>(
         &mut self,
-        alloc: Global,
+        room: &mut Vec<u8>,
         file: &F,
         generation: u64,
         batch: &[Spelled],
@@ -97,7 +96,7 @@ impl<D: Disk> Held<D> {
     {
         self.open_again(file, generation)?;
         match self {
-            Held::Open(log) => log.append(alloc, batch),
+            Held::Open(log) => log.append(room, batch),
             _ => Err(LogFault::NotRead),
         }
     }

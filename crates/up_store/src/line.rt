@@ -261,10 +261,11 @@ impl Line {
         ensures done { self.new.done ≡ self.old.done }
         ensures known { is_on_disk ≡ true → self.old.is_over ≡ false
             → self.new ≡ record self.old {
-                known = min self.old.drawn (self.old.known + vec_len batch);
-                is_writing = false } }
+              known = min self.old.drawn (self.old.known + vec_len batch);
+              is_writing = false;
+            } }
         ensures lost { is_on_disk ≡ false
-            → self.new ≡ record has_lost_rest self.old { is_writing = false } }
+            → self.new ≡ record (has_lost_rest self.old) { is_writing = false } }
     {
         let mut batch = batch;
         if is_on_disk {

@@ -13,6 +13,9 @@ use up_log::{Log, LogFault, Spelled};
 /// The number of bells. If there are more connections, they share them.
 const BELLS: u64 = 64;
 
+/// How much of the memory in which a batch was put together is kept for the next one, at most, in bytes: 16 MiB.
+const MAX_ROOM: usize = 1 << 24;
+
 /// What became of a change whose turn it was.
 #[derive(Clone, Copy, PartialEq, Eq)]
 pub(crate) enum Turn {
@@ -30,6 +33,8 @@ pub(crate) enum Turn {
 pub struct Store<D: Disk, N> {
     pub(crate) line: Mutex<Line>,
     pub(crate) log: Mutex<Held<D>>,
+    /// The memory in which whoever writes puts a batch together.
+    room: Mutex<Vec<u8>>,
     pub(crate) voids: Mutex<Option<Voids<D>>>,
     /// A change waits at the bell whose place is its number modulo `BELLS`.
     bells: Vec<Condvar>,
@@ -57,6 +62,7 @@ impl<D: Disk, N> Store<D, N> {
         Ok(Store {
             line: Mutex::new(line),
             log: Mutex::new(Held::Unread),
+            room: Mutex::new(Vec::new(alloc)),
             voids: Mutex::new(None),
             bells,
             stillness: Condvar::new(),
@@ -171,12 +177,23 @@ impl<D: Disk, N> Store<D, N> {
 }
 
 impl<D: Disk + Drop, N: StoreNotices + LogFile<D>> Store<D, N> {
-    /// Writes a batch, reports it if writing has begun to fail or works again, and notes the result in the line.
-    fn write<R: Wait>(&self, rt: &R, alloc: Global, batch: Vec<Spelled>) {
+    /// Appends a batch to the log.
+    fn append<R: Wait>(&self, rt: &R, alloc: Global, batch: &[Spelled]) -> Result<(), LogFault> {
+        let mut room = self.room.lock(rt);
+        let generation = self.generation();
         let written = self
             .log
             .lock(rt)
-            .append(alloc, &self.notices, self.generation(), &batch);
+            .append(&mut room, &self.notices, generation, batch);
+        if room.capacity() > MAX_ROOM {
+            *room = Vec::new(alloc);
+        }
+        written
+    }
+
+    /// Writes a batch, reports it if writing has begun to fail or works again, and notes the result in the line.
+    fn write<R: Wait>(&self, rt: &R, alloc: Global, batch: Vec<Spelled>) {
+        let written = self.append(rt, alloc, &batch);
         let is_failing = written.is_err();
         let was_failing = self.is_failing.swap(is_failing, Ordering::SeqCst);
         match written {

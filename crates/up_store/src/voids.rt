@@ -77,6 +77,6 @@ impl<D: Disk> Voids<D> {
     pub fn add(&mut self, alloc: Global, place: u64) -> Result<(), LogFault> {
         let mut batch = Vec::new(alloc);
         batch.push(Spelled::new(alloc, &void_of(place))?)?;
-        self.log.append(alloc, &batch)
+        self.log.append(&mut Vec::new(alloc), &batch)
     }
 }

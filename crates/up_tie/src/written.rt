@@ -72,7 +72,7 @@ impl<D: Disk, J: Site> Written<D, J> {
         };
         // For the prover: the length of a front is below 2^64, so the sum does not overflow.
         let _ = front.len();
-        self.log.append(alloc, entries)?;
+        self.log.append(&mut Vec::new(alloc), entries)?;
         self.count += receipts.len() as u64;
         self.front = front;
         Ok(())

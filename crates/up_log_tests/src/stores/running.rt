@@ -264,7 +264,7 @@ fn plain_of<B: Naming, R: Wait>(
 pub fn file_of(alloc: Global, batches: &[&[Row]]) -> Result<Memory, LogFault> {
     let (mut log, _) = read(alloc, Memory::new(alloc))?;
     for rows in batches {
-        log.append(alloc, &spelled_of(alloc, rows)?)?;
+        log.append(&mut Vec::new(alloc), &spelled_of(alloc, rows)?)?;
     }
     Ok(log.into_device())
 }

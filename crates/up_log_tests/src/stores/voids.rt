@@ -21,7 +21,7 @@ fn void_file(alloc: Global, places: &[u128]) -> Result<Memory, LogFault> {
         };
         let mut batch = Vec::new(alloc);
         batch.push(Spelled::new(alloc, &entry)?)?;
-        log.append(alloc, &batch)?;
+        log.append(&mut Vec::new(alloc), &batch)?;
     }
     Ok(log.into_device())
 }

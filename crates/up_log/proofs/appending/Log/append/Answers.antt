@@ -7,7 +7,7 @@ use Rattle.up_log.proofs.appending.Log.append.Goals as goal
 pub returns-in_err-staged-clause-crash : goal.returns-in_err-staged-clause-crash
 returns-in_err-staged-clause-crash g c = λ setup batches s left now.
     let gate = c.args.self.now.gate in
-    let bytes = c.in_ok-bytes.bytes.now in
+    let bytes = c.deref.result.now in
     let start_is : c.in-Some.start ≡ gate + 1 = omega (arith, c.in-Some.ensures) in
     let from = c.write_settled-staged.ensures.crash left now in
     let was = s.durable from.0 from.1 in
@@ -16,7 +16,7 @@ returns-in_err-staged-clause-crash g c = λ setup batches s left now.
 pub returns-in_err-staged-clause-kept : goal.returns-in_err-staged-clause-kept
 returns-in_err-staged-clause-kept g c = λ setup batches s.
     let gate = c.args.self.now.gate in
-    let bytes = c.in_ok-bytes.bytes.now in
+    let bytes = c.deref.result.now in
     let seen = g.D.Disk.seen c.args.self.now.device in
     let left = g.D.Disk.seen c.write_settled-staged.new.disk in
     let start_is : c.in-Some.start ≡ gate + 1 = omega (arith, c.in-Some.ensures) in
@@ -34,9 +34,9 @@ pub returns-in_err-write_synced-clause-crash : goal.returns-in_err-write_synced-
 returns-in_err-write_synced-clause-crash g c = λ setup batches s left now.
     let gate = c.args.self.now.gate in
     let more = c.args.entries.now in
-    let bytes = c.in_ok-bytes.bytes.now in
+    let bytes = c.deref.result.now in
     let start_is : c.in-Some.start ≡ gate + 1 = omega (arith, c.in-Some.ensures) in
-    let are : bytes ≡ body more ++ 0 ∷ [] = c.in_ok-bytes.ensures in
+    let are : bytes ≡ body more ++ 0 ∷ [] = c.deref.ensures.value ∙ c.in_ok-put_closed_body.ensures in
     let torn = subst (λ (k : ℕ). Torn k (length bytes) (g.D.Disk.seen c.args.self.now.device) (g.D.Disk.seen c.write_settled-staged.new.disk)) start_is c.write_settled-staged.ensures.others in
     let held = subst (λ (k : ℕ). Holds (g.D.Disk.seen c.write_settled-staged.new.disk) k bytes) start_is (when_ok _ _ c.in_ok-staged.was c.write_settled-staged.ensures.written) in
     let stands = staged setup batches more gate (g.D.Disk.seen c.args.self.now.device) (g.D.Disk.seen c.write_settled-staged.new.disk) bytes s.file s.place are torn held in
@@ -48,9 +48,9 @@ pub returns-clause-crash : goal.returns-clause-crash
 returns-clause-crash g c = λ setup batches s left now.
     let gate = c.args.self.now.gate in
     let more = c.args.entries.now in
-    let bytes = c.in_ok-bytes.bytes.now in
+    let bytes = c.deref.result.now in
     let start_is : c.in-Some.start ≡ gate + 1 = omega (arith, c.in-Some.ensures) in
-    let are : bytes ≡ body more ++ 0 ∷ [] = c.in_ok-bytes.ensures in
+    let are : bytes ≡ body more ++ 0 ∷ [] = c.deref.ensures.value ∙ c.in_ok-put_closed_body.ensures in
     let torn = subst (λ (k : ℕ). Torn k (length bytes) (g.D.Disk.seen c.args.self.now.device) (g.D.Disk.seen c.write_settled-staged.new.disk)) start_is c.write_settled-staged.ensures.others in
     let held = subst (λ (k : ℕ). Holds (g.D.Disk.seen c.write_settled-staged.new.disk) k bytes) start_is (when_ok _ _ c.in_ok-staged.was c.write_settled-staged.ensures.written) in
     let stands = staged setup batches more gate (g.D.Disk.seen c.args.self.now.device) (g.D.Disk.seen c.write_settled-staged.new.disk) bytes s.file s.place are torn held in
@@ -62,13 +62,13 @@ pub returns-clause-durable : goal.returns-clause-durable
 returns-clause-durable g c = λ setup batches s.
     let gate = c.args.self.now.gate in
     let more = c.args.entries.now in
-    let bytes = c.in_ok-bytes.bytes.now in
+    let bytes = c.deref.result.now in
     let start_is : c.in-Some.start ≡ gate + 1 = omega (arith, c.in-Some.ensures) in
-    let are : bytes ≡ body more ++ 0 ∷ [] = c.in_ok-bytes.ensures in
+    let are : bytes ≡ body more ++ 0 ∷ [] = c.deref.ensures.value ∙ c.in_ok-put_closed_body.ensures in
     let torn = subst (λ (k : ℕ). Torn k (length bytes) (g.D.Disk.seen c.args.self.now.device) (g.D.Disk.seen c.write_settled-staged.new.disk)) start_is c.write_settled-staged.ensures.others in
     let held = subst (λ (k : ℕ). Holds (g.D.Disk.seen c.write_settled-staged.new.disk) k bytes) start_is (when_ok _ _ c.in_ok-staged.was c.write_settled-staged.ensures.written) in
     let stands = staged setup batches more gate (g.D.Disk.seen c.args.self.now.device) (g.D.Disk.seen c.write_settled-staged.new.disk) bytes s.file s.place are torn held in
-    let end_is : c.in-Some-checked_add.end ≡ gate + length bytes = omega (arith, c.in-Some-checked_add.ensures) in
+    let end_is : c.in-Some-checked_add.end ≡ gate + length bytes = omega (arith, c.in-Some-checked_add.ensures, ap length c.deref.ensures.value) in
     record {
       file = opened setup batches more gate (g.D.Disk.seen c.write_settled-staged.new.disk) (g.D.Disk.seen c.write_synced.new.disk) stands s.place c.write_synced.ensures.others c.in_ok-write_synced.ensures.written;
       place = next_place setup batches more gate c.in-Some-checked_add.end bytes s.place are end_is;
