@@ -91,7 +91,7 @@ def main():
     words = argparse.ArgumentParser()
     words.add_argument("--runs", type=int, default=5, help="how many runs, 1 or more")
     runs = words.parse_args().runs
-    program, missed = build("up_rows"), []
+    program, missed = build("up_test_rows"), []
     for name, message, pieces, (bytes_told, pairs), goal in ROWS:
         copies = max(1, SIZE // len(message))
         text = escaped(message, quotes=False) * copies

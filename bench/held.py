@@ -11,8 +11,8 @@ from serving import Connection, Maker, head, patch, patch_in_chunks, same, settl
 
 # The most memory for the bytes held, and for those of a final upload, whose parts are held already; both in multiples
 # of these bytes.
-MOST_HELD = 1.1
-MOST_FINAL = 0.001
+MAX_HELD = 1.1
+MAX_FINAL = 0.001
 
 # The sizes of the bodies, and the number of bytes held of each.
 BODIES = [(1, 4 * MIB), (1024, 64 * MIB), (16_384, 64 * MIB), (65_536, 64 * MIB), (MIB, 64 * MIB), (256 * MIB, 256 * MIB)]
@@ -31,8 +31,8 @@ CHUNK = 65_536
 
 # The number of idle connections, and the limits: MiB in total, also if each has made an upload of 1 KiB, and seconds of
 # processor time.
-IDLE, MOST_IDLE, MOST_USED = 1000, 24, 32
-SECONDS, MOST_SECONDS = 10, 0.1
+IDLE, MAX_IDLE, MAX_USED = 1000, 24, 32
+SECONDS, MAX_SECONDS = 10, 0.1
 
 
 def size_of(count):
@@ -59,7 +59,7 @@ class Figure:
         return [self.title, shown, f"{self.ratio:.4f}", f"{self.most:g}"]
 
 
-def figure_of_bytes(title, grown, held, most=MOST_HELD):
+def figure_of_bytes(title, grown, held, most=MAX_HELD):
     return Figure(title, grown / MIB, "MiB", most, grown / held)
 
 
@@ -127,7 +127,7 @@ def final(contender, _):
             same(maker.connection.append(part, 0, bytes(MIB)).status, 204, "the status of a PATCH")
         before = settled(server)
         maker.ask(head("POST", "/files/", {"Upload-Concat": "final;" + " ".join(parts)}), 201)
-        yield figure_of_bytes(f"a final of {PARTS} parts of 1 MiB", settled(server) - before, PARTS * MIB, MOST_FINAL)
+        yield figure_of_bytes(f"a final of {PARTS} parts of 1 MiB", settled(server) - before, PARTS * MIB, MAX_FINAL)
 
 
 @contextlib.contextmanager
@@ -147,12 +147,12 @@ def idle(contender, path):
         for _ in range(IDLE):
             open_ones.enter_context(Connection(server))
         time.sleep(1)
-        yield Figure(f"{IDLE:,} connections that said nothing, the server and all", settled(server) / MIB, "MiB", MOST_IDLE)
+        yield Figure(f"{IDLE:,} connections that said nothing, the server and all", settled(server) / MIB, "MiB", MAX_IDLE)
     with contender.server() as server, staying(Client(path, contender.kind, server), IDLE):
-        yield Figure(f"{IDLE:,} that have made an upload of 1 KiB each", settled(server) / MIB, "MiB", MOST_USED)
+        yield Figure(f"{IDLE:,} that have made an upload of 1 KiB each", settled(server) / MIB, "MiB", MAX_USED)
         start = processor_seconds(server)
         time.sleep(SECONDS)
-        yield Figure(f"processor time of {SECONDS} s with these", processor_seconds(server) - start, "s", MOST_SECONDS)
+        yield Figure(f"processor time of {SECONDS} s with these", processor_seconds(server) - start, "s", MAX_SECONDS)
 
 
 FIGURES = [held, chunked, final, idle]

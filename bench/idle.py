@@ -20,8 +20,8 @@ sys.path.insert(0, os.path.join(os.path.dirname(os.path.dirname(os.path.abspath(
 from serving import build, head, patch, path_of  # noqa: E402
 
 # The most processor time of an idle run, and the most time to wait for an event, in seconds.
-MOST_WORK = 0.1
-MOST_WAIT = 10
+MAX_WORK = 0.1
+MAX_WAIT = 10
 
 
 def post(length):
@@ -39,7 +39,7 @@ def ask(server, message):
 
 def read_until(stream, mark):
     """The bytes of a stream, up to the mark."""
-    end = time.monotonic() + MOST_WAIT
+    end = time.monotonic() + MAX_WAIT
     told = b""
     while mark not in told:
         ready, _, _ = select.select([stream], [], [], max(0, end - time.monotonic()))
@@ -89,9 +89,9 @@ def main():
     seconds = words.parse_args().seconds
     up, example = build("up"), build("up_example")
     work = idle(up, seconds)
-    print(f"idle for {seconds:g} s: {work:.3f} s of processor time (goal: under {MOST_WORK:g} s)", flush=True)
+    print(f"idle for {seconds:g} s: {work:.3f} s of processor time (goal: under {MAX_WORK:g} s)", flush=True)
     print(f"an event at its hook, no request behind it: {reach(example) * 1e3:.2f} ms", flush=True)
-    if work >= MOST_WORK:
+    if work >= MAX_WORK:
         sys.exit("bench: missed: idle")
 
 

@@ -34,7 +34,7 @@ from serving import Connection, Maker, head, patch, same
 AROUND = 0.05
 
 # The longest wait that is accepted, in milliseconds.
-MOST_WAIT = 1.0
+MAX_WAIT = 1.0
 
 PIECE = bytes(MIB)
 SMALL_BODY = 16_384
@@ -238,7 +238,7 @@ def line(title, name, rounds):
     counts, means, longest, _, _, of_idle = zip(*rounds)
     mean = sum(count * mean for count, mean in zip(counts, means)) / sum(counts)
     times = [mean, min(longest), max(longest), min(of_idle), max(of_idle)]
-    met = min(longest) < MOST_WAIT or min(longest) <= max(of_idle)
+    met = min(longest) < MAX_WAIT or min(longest) <= max(of_idle)
     return [title, name, f"{sum(counts):,.0f}", *(f"{it:.3f}" for it in times), "" if met else "MISSED"]
 
 

@@ -121,7 +121,7 @@ def main():
     words.add_argument("--mib", type=int, default=1024, help="how much is appended, 1 to 1024")
     words.add_argument("--messages", type=int, default=10_000, help="how many small messages, 1 to 10000")
     given = words.parse_args()
-    program, rows = build(), build("up_rows")
+    program, rows = build(), build("up_test_rows")
     with tempfile.TemporaryDirectory() as folder:
         path = os.path.join(folder, "talk")
         with open(path, "wb") as file:

@@ -25,10 +25,10 @@ enum { TOGETHER = 16, REQUEST = 320, MESSAGES = 10000 };
 /* How many events may wait to be read, in any number of lanes, before the connections wait too, and how many
  * microseconds they wait before they look again.
  */
-enum { MOST_WAITING = 10000, NAP = 5000 };
+enum { MAX_WAITING = 10000, NAP = 5000 };
 
 /* After this many seconds without a reply a connection is given up, and so are events that don't come. */
-enum { MOST_SECONDS = 60 };
+enum { MAX_SECONDS = 60 };
 
 enum kind { MAKE, APPEND, REMOVE };
 
@@ -72,7 +72,7 @@ static atomic_int has_refused;
 
 static void open_anew(struct worker *worker)
 {
-    struct timeval most = {.tv_sec = MOST_SECONDS};
+    struct timeval most = {.tv_sec = MAX_SECONDS};
     if (worker->is_open) {
         close(worker->talk.socket);
     }
@@ -141,14 +141,14 @@ static long count_waiting(void)
 static void await_events(long most)
 {
     long before = count_waiting();
-    for (double end = now() + MOST_SECONDS; count_waiting() > most;) {
+    for (double end = now() + MAX_SECONDS; count_waiting() > most;) {
         if (now() > end) {
             atomic_fetch_add(&lost, count_waiting());
         }
         usleep(NAP);
         if (count_waiting() < before) {
             before = count_waiting();
-            end = now() + MOST_SECONDS;
+            end = now() + MAX_SECONDS;
         }
     }
 }
@@ -176,7 +176,7 @@ static void send_together(struct worker *worker)
 {
     long waiting = count_waiting();
     worker->waiting = waiting > worker->waiting ? waiting : worker->waiting;
-    await_events(MOST_WAITING);
+    await_events(MAX_WAITING);
     if (worker->left < worker->count) {
         open_anew(worker);
     }

@@ -43,10 +43,10 @@ CONNECTIONS = 64
 OF_ID = 20
 
 # The most memory at the end, in multiples of that after the first step, both without that of the ids.
-MOST_GROWTH = 1.2
+MAX_GROWTH = 1.2
 
 # A step has this fraction of all changes, and at most this many.
-PART, MOST_CHANGES = 10, 1_000_000
+PART, MAX_CHANGES = 10, 1_000_000
 
 
 class Work:
@@ -57,7 +57,7 @@ class Work:
 
     def steps(self, changes):
         """The changes of each step."""
-        step = max(1, min(changes // PART, MOST_CHANGES))
+        step = max(1, min(changes // PART, MAX_CHANGES))
         return [step] * -(-int(changes * self.share) // step)
 
     def most_uploads(self, changes):
@@ -98,11 +98,11 @@ class Soaked:
         first, last = self.steps[1], self.steps[-1]
         ratio = last.aside / first.aside
         grown = f"{last.aside / MIB:.1f} MiB of {first.aside / MIB:.1f}: {ratio:.3f}"
-        is_within = ratio <= MOST_GROWTH
+        is_within = ratio <= MAX_GROWTH
         of_id = (last.memory - first.memory) / max(1, last.ids - first.ids)
         return [
             ("requests refused", f"{last.refused:,}", "0", last.refused == 0),
-            ("memory at the end, of that after the first step, ids aside", grown, f"{MOST_GROWTH}", is_within),
+            ("memory at the end, of that after the first step, ids aside", grown, f"{MAX_GROWTH}", is_within),
             ("bytes by which it grew meanwhile, for each id given", f"{of_id:.1f}", "", True),
             ("events", f"{self.heard:,}", f"{self.expected:,}", self.heard == self.expected),
             ("events that don't follow those before them", f"{self.astray:,}", "0", self.astray == 0),

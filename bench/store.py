@@ -35,7 +35,7 @@ import serving
 from serving import Connection, same
 
 # The seconds that a server may take to read its log.
-serving.MOST_WAIT = 600
+serving.MAX_WAIT = 600
 
 # The numbers of each work.
 BODIES, SMALL, CONNECTIONS, REQUESTS, READS = 128, 200, 64, 200, 1024

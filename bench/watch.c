@@ -13,7 +13,7 @@
 #include <pthread.h>
 #include <stdatomic.h>
 
-enum { MOST_WATCHED = 16 };
+enum { MAX_WATCHED = 16 };
 
 /* An upload whose state is asked for. */
 struct watched {
@@ -64,9 +64,9 @@ static void *watch(void *given)
 
 int main(int count, char **words)
 {
-    static struct watched all[MOST_WATCHED];
+    static struct watched all[MAX_WATCHED];
     int pairs = (count - 1) / 2;
-    if (pairs < 1 || pairs > MOST_WATCHED || count % 2 == 0) {
+    if (pairs < 1 || pairs > MAX_WATCHED || count % 2 == 0) {
         stop("usage: watch PORT PATH [PORT PATH]..");
     }
     pthread_barrier_init(&begin, NULL, pairs + 1);

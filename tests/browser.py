@@ -35,7 +35,7 @@ LARGE, PARTS, SMALL, SLOW = 50 << 20, 4, 300_000, 6_000_000
 NAME, OTHER_NAME = "Überblick – Říjen ☀.zip", "報告 🐟.bin"
 
 # The most lines that the page's script may have.
-MOST_LINES = 120
+MAX_LINES = 120
 
 ORIGIN, PLACE = '"https://page.example"', 'data-uploads="/files"'
 
@@ -350,7 +350,7 @@ def lines():
     """The page's script has 120 lines at most."""
     with open(os.path.join(EXAMPLE, "index.html"), encoding="utf-8") as file:
         script = file.read().partition("<script")[2].partition("</script>")[0]
-    below(script.count("\n") - 1, MOST_LINES + 1, "the lines of the script")
+    below(script.count("\n") - 1, MAX_LINES + 1, "the lines of the script")
 
 
 program, names = words_of(__doc__)

@@ -28,7 +28,7 @@ import time
 
 from crashed import LANES, Client, Told, adopt, lane_of
 from endings import ended
-from serving import MAX_SIZE, MOST_WAIT, Server, at_once, build, events_of, same, soon, try_all
+from serving import MAX_SIZE, MAX_WAIT, Server, at_once, build, events_of, same, soon, try_all
 from stored import (
     LIMIT, Hasty, Limited, Store, enlarge, failing_syncs, files_of, gates_of, logs_left, may_mount, may_trace, put_store,
     small_disk, store_of,
@@ -41,7 +41,7 @@ CLIENTS, WORK = 16, (0.02, 0.3)
 ENDS = 4
 
 # The most places at which a log is cut, and the number of servers that try them at once.
-MOST_CUTS, AT_ONCE = 240, 4
+MAX_CUTS, AT_ONCE = 240, 4
 
 # The bytes of the bodies that fill a disk.
 BODY = 100_000
@@ -260,7 +260,7 @@ def cases_of_cuts(states, log):
     for count in (len(gates) - 3, len(gates) - 2):
         for cut in range(gates[count], gates[count + 1] + 1):
             found += [(count, text) for text in logs_left(log, gates[count], cut)]
-    return found if len(found) <= MOST_CUTS else random.sample(found, MOST_CUTS)
+    return found if len(found) <= MAX_CUTS else random.sample(found, MAX_CUTS)
 
 
 def cut_log():
@@ -326,7 +326,7 @@ def shorter_log():
             together(clients, server, threading.Event(), Client.finish)
             come_back(clients, server, told, everything=True)
             server.end()
-            same(server.process.wait(MOST_WAIT), 0, "the status of the server")
+            same(server.process.wait(MAX_WAIT), 0, "the status of the server")
             hold_lines(server.process.stderr.read().decode().splitlines())
             told.add(server.output(), is_killed=False)
             told.hold(clients, is_whole=True)

@@ -14,7 +14,7 @@ LANES = 3
 PIECE, LARGE = 1000, 150_000
 
 # The most uploads of a client that are under way, and that are complete, before it continues these or removes some.
-MOST_BEGUN, MOST_WHOLE = 6, 12
+MAX_BEGUN, MAX_WHOLE = 6, 12
 
 # How many uploads that the last run didn't change a client looks at after a restart.
 SAMPLE = 20
@@ -234,9 +234,9 @@ class Client:
         with contextlib.suppress(Ended):
             for _ in range(4_000):
                 begun, whole = self.begun(), self.whole()
-                if len(whole) > MOST_WHOLE or whole and random.random() < 0.05:
+                if len(whole) > MAX_WHOLE or whole and random.random() < 0.05:
                     self.remove(random.choice(whole))
-                elif begun and (len(begun) >= MOST_BEGUN or random.random() < 0.7):
+                elif begun and (len(begun) >= MAX_BEGUN or random.random() < 0.7):
                     self.go_on_with(random.choice(begun))
                 elif whole and random.random() < 0.1:
                     self.look(random.choice(whole))

@@ -24,16 +24,19 @@ TOP = pathlib.Path(ROOT)
 CRATES = TOP / "crates"
 
 # Crates that have no table of modules: programs that try others, tests, and the texts for these.
-UNLISTED = {"up_escape", "up_example", "up_refusals", "up_rows", "up_talks"}
+UNLISTED = {"up_test_text", "up_example", "up_test_refusals", "up_test_rows", "up_test_talks"}
 
 # Files of definitions that docs/ARCHITECTURE.md names together, since no public contract shows their content.
-HIDDEN = {"Kept", "Fits", "Stored", "Padded", "Inside", "Steps", "Shapes", "StateCode", "StandingCode", "TiedCode", "LawfulOnce"}
+HIDDEN = {"Kept", "Fits", "Stored", "Padded", "Inside", "Steps", "Shapes", "StateCode", "BoardViewCode", "TiedCode", "LawfulOnce"}
 
 # Words of the command line whose numbers no table limits.
 ENDLESS = {"max-length", "max-finish"}
 
 # The files of drawn data, each with the script that draws it.
-DRAWN = {"crates/up_talks/data/drawn": "tests/draw_talks.py", "crates/up_rows/data/drawn": "tests/draw_rows.py"}
+DRAWN = {
+    "crates/up_test_talks/data/drawn": "tests/draw_talks.py",
+    "crates/up_test_rows/data/drawn": "tests/draw_rows.py",
+}
 
 
 def text_of(name):
@@ -43,7 +46,7 @@ def text_of(name):
 def crates():
     """The crates of crates.txt, without those of tests."""
     found = re.findall(r"^(up\w*)(?: [^:\n]*)?:", text_of("crates.txt"), re.MULTILINE)
-    return [name for name in found if not name.endswith("_tests")]
+    return [name for name in found if name not in ("up_test_board", "up_test_log", "up_test_server")]
 
 
 def first_cells(lines):
@@ -119,8 +122,8 @@ def statuses(path, function):
 def each_refusal():
     """PROTOCOL's tables have each refusal with its status."""
     wanted = {
-        **statuses("crates/up_wire/specs/WireFaults.antt", "status_of"),
-        **statuses("crates/up_headers/specs/HeaderFaults.antt", "status_of"),
+        **statuses("crates/up_wire/specs/WireFaults.antt", "wire_fault_status"),
+        **statuses("crates/up_headers/specs/HeaderFaults.antt", "header_fault_status"),
         **statuses("crates/up_machine/specs/Refusals.antt", "response_of"),
     }
     wanted.pop("NoMemory", None)

@@ -9,7 +9,7 @@ import shutil
 import subprocess
 import tempfile
 
-from serving import MOST_WAIT, free_port, same, soon
+from serving import MAX_WAIT, free_port, same, soon
 
 # No window, nothing that Chromium does by itself in the background, and no look-up of any name but `localhost`.
 FLAGS = """
@@ -63,7 +63,7 @@ class Browser:
 
     def ask(self, method, path, given=None):
         """The value in the driver's reply; a fault of the driver fails the case."""
-        connection = http.client.HTTPConnection("127.0.0.1", self.port, timeout=3 * MOST_WAIT)
+        connection = http.client.HTTPConnection("127.0.0.1", self.port, timeout=3 * MAX_WAIT)
         body = None if given is None else json.dumps(given).encode()
         connection.request(method, path, body, {"Content-Type": "application/json"})
         reply = connection.getresponse()

@@ -34,7 +34,7 @@ import threading
 import time
 
 import endings
-from endings import MOST_BUSY, MOST_IDLE, SCRIPT, child_of, ended
+from endings import MAX_BUSY, MAX_IDLE, SCRIPT, child_of, ended
 from serving import (
     NOWHERE, ROOT, Connection, Server, at_once, below, build, events_of, head, numbered, patch, same, soon, try_all,
 )
@@ -254,7 +254,7 @@ class SlowReader(threading.Thread):
 
     def output(self):
         """What the thread has read, at its end."""
-        self.join(MOST_BUSY)
+        self.join(MAX_BUSY)
         os.close(self.reader)
         return self.text.decode()
 
@@ -335,7 +335,7 @@ def twice():
             same(server.process.poll(), None, "the status before the second signal")
             start = time.monotonic()
             server.end()
-            same(server.process.wait(MOST_IDLE), 128 + signal.SIGTERM, "the status of the script")
+            same(server.process.wait(MAX_IDLE), 128 + signal.SIGTERM, "the status of the script")
             below(time.monotonic() - start, 1, "seconds until it ended")
             same(os.path.exists(f"/proc/{one}"), False, "whether the program is still there")
     os.close(reader.reader)
@@ -347,7 +347,7 @@ def idle():
         for kill in (os.kill, os.killpg):
             with Script() as server:
                 kill(server.process.pid, number)
-                same(ended(server, MOST_IDLE), NOTHING, f"what is written behind {kill.__name__} {number}")
+                same(ended(server, MAX_IDLE), NOTHING, f"what is written behind {kill.__name__} {number}")
 
 
 def terminal():
@@ -359,7 +359,7 @@ def terminal():
             client.make(1)
             os.write(master, b"\x03")
             same(client.is_closed(), True, "whether the connection has ended")
-        same(ended(server, MOST_IDLE).partition("\n\n")[2].startswith("accepted 1\n"), True, "whether one was accepted")
+        same(ended(server, MAX_IDLE).partition("\n\n")[2].startswith("accepted 1\n"), True, "whether one was accepted")
     os.close(master)
 
 
@@ -378,7 +378,7 @@ def under_way():
         for client in (body, begun, silent):
             while client.more():
                 pass
-        hold(ended(server, MOST_IDLE), [body])
+        hold(ended(server, MAX_IDLE), [body])
 
 
 def dropped_input():
@@ -389,19 +389,19 @@ def dropped_input():
         with Connection(server) as client:
             same(client.ask("OPTIONS", "/").status, 204, "the status of OPTIONS")
         server.end()
-        same(ended(server, MOST_IDLE), NOTHING, "what is written")
+        same(ended(server, MAX_IDLE), NOTHING, "what is written")
     with Server(program, "--until-eof", "--lanes", str(LANES)) as server:
-        same(ended(server, MOST_IDLE), NOTHING, "what is written where there is no input")
+        same(ended(server, MAX_IDLE), NOTHING, "what is written where there is no input")
 
 
 def by_itself():
     """A program that ends by itself ends the script, with its status; other words run the program alone."""
     with Script("--connections", "1") as server:
         Connection(server).socket.close()
-        same(ended(server, MOST_IDLE), NOTHING, "what is written behind the last connection")
+        same(ended(server, MAX_IDLE), NOTHING, "what is written behind the last connection")
     environment = {**os.environ, "UP_PROGRAM": program}
     for words, status in ((["serve", "--lanes", "0"], 2), (["serve", "--address", "nowhere"], 1), (["replay"], 0)):
-        ran = subprocess.run([SCRIPT, *words], input=b"", env=environment, capture_output=True, timeout=MOST_BUSY)
+        ran = subprocess.run([SCRIPT, *words], input=b"", env=environment, capture_output=True, timeout=MAX_BUSY)
         same(ran.returncode, status, f"the status of {words}")
 
 
@@ -418,7 +418,7 @@ def installed():
         with Script(script=name) as server:
             del server.environment["UP_PROGRAM"]
             server.end()
-            same(ended(server, MOST_IDLE), NOTHING, "what is written")
+            same(ended(server, MAX_IDLE), NOTHING, "what is written")
 
 
 def unit():

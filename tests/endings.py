@@ -12,7 +12,7 @@ from serving import ROOT, Server, same
 SCRIPT = os.path.join(ROOT, "packaging", "up")
 
 # The most seconds that an end may take with nothing to do, and with much to do.
-MOST_IDLE, MOST_BUSY = 2, 40
+MAX_IDLE, MAX_BUSY = 2, 40
 
 
 class Script(Server):
@@ -81,7 +81,7 @@ def child_of(process):
     return int(child)
 
 
-def ended(server, most=MOST_BUSY):
+def ended(server, most=MAX_BUSY):
     """The output of a server that has ended by itself, with status 0 and an empty standard error."""
     same(server.process.wait(most), 0, "the status of the server")
     same(server.process.stderr.read(), b"", "what stands on standard error")

@@ -18,15 +18,15 @@ import termios
 import time
 
 from serving import (
-    MOST_WAIT, UNHEARD, Connection, Server, at_once, below, events_of, head, patch, patch_in_chunks, path_of, same,
+    MAX_WAIT, UNHEARD, Connection, Server, at_once, below, events_of, head, patch, patch_in_chunks, path_of, same,
     soon, try_all, words_of,
 )
 
 MIB = 1 << 20
 
 # How many times as long as alone a fast client may take next to others, and how many seconds more.
-MOST_TIMES = 3
-MOST_MORE = 0.5
+MAX_TIMES = 3
+MAX_MORE = 0.5
 
 server = None
 
@@ -70,7 +70,7 @@ def fast():
 def not_slowed(alone, what):
     """Checks that a fast client now takes no longer than alone, apart from the noise of a machine that has other
     work."""
-    below(fast(), MOST_TIMES * alone + MOST_MORE, f"seconds of a fast client {what} ({alone:.3f} alone)")
+    below(fast(), MAX_TIMES * alone + MAX_MORE, f"seconds of a fast client {what} ({alone:.3f} alone)")
 
 
 def slow_clients():
@@ -341,7 +341,7 @@ def break_off_anywhere():
         wanted[steady] += [f"{number + 1} post-receive {number}/522 done" for number in range(1, 2 * size + 1)]
         wanted[steady].append("524 post-finish 522/522 done")
         del wanted[None]
-        same(narrow.process.wait(MOST_WAIT), 0, "the status of the server")
+        same(narrow.process.wait(MAX_WAIT), 0, "the status of the server")
         same(events_of(narrow.output()), wanted, "the events of each upload")
 
 

@@ -22,11 +22,11 @@ then those after which no id was taken, then those after which an id was taken. 
 conversation, and the id of the next creation shows which of the other two it was. No request of a lane is answered by a
 503.
 
-In the last case `up_refusals` (crates/up_refusals) replaces `up`. It makes single calls, and prints for each the state
-before it, its result, and the state after it. If no request is refused, that is the stored `stdout`. If requests are
-refused (one, four in a row, or all from some request on), it is still the same, with additional calls that ran out of
-memory: each of these comes before the same call as it is stored, and leaves the state as it was. The program may end
-there, with status 1 and `out of memory`.
+In the last case `up_test_refusals` (crates/up_test_refusals) replaces `up`. It makes single calls, and prints for each
+the state before it, its result, and the state after it. If no request is refused, that is the stored `stdout`. If
+requests are refused (one, four in a row, or all from some request on), it is still the same, with additional calls that
+ran out of memory: each of these comes before the same call as it is stored, and leaves the state as it was. The program
+may end there, with status 1 and `out of memory`.
 
 For each case, one line says whether it passed, and the number of runs. The last line is `N passed, M failed`, and the
 exit status is 1 if a case failed.
@@ -64,7 +64,7 @@ OF_ALL, OF_FIRST, OF_OTHERS = range(3)
 CLOSES, TAKES_NONE, TAKES_ID = range(3)
 
 # The most seconds that a run may take.
-MOST_SECONDS = 10
+MAX_SECONDS = 10
 
 # The greatest number of a request.
 LAST = (1 << 64) - 1
@@ -288,7 +288,7 @@ def replay(rules, talk, whose, number, tally, answers):
     memory.begin(number, number, whose)
     given = b"".join(message for message, _ in talk)
     words = [program, "replay", *rules.words().split()]
-    ran = subprocess.run(words, input=given, capture_output=True, env=memory.environment, timeout=MOST_SECONDS)
+    ran = subprocess.run(words, input=given, capture_output=True, env=memory.environment, timeout=MAX_SECONDS)
     want, ended, stopped = check_replay(rules, talk, ran.stdout, ran.stderr, ran.returncode)
     same(stopped == 0 or whose == OF_OTHERS, True, "whether no lane stops where it was refused nothing")
     count_places(tally, len(want), 0, ended, stopped)
@@ -467,7 +467,7 @@ def withhold(rules, talk, number, tally, answers):
                 server.stdin.close()
             except BrokenPipeError:
                 asked = memory.asked
-            server.wait(MOST_SECONDS)
+            server.wait(MAX_SECONDS)
         texts = [os.pread(file.fileno(), MIB, 0) for file in (said, fault)]
     want, ended, stopped = check_replay(rules, talk, *texts, server.returncode)
     count_places(tally, len(want), 0, ended, stopped)
@@ -603,7 +603,7 @@ def check_served(server, model, visits, tally, may_stop=False):
     Returns how often a lane waited for memory, which lanes still wait, and the states that the server reported."""
     for visit in visits:
         visit.end()
-    status = server.process.wait(MOST_SECONDS)
+    status = server.process.wait(MAX_SECONDS)
     said = ("" if server.port else server.first_line) + server.process.stderr.read().decode()
     fault, waits, waiting = said_of_lanes(OF_STATUS.sub("", said))
     report = server.output()
@@ -713,7 +713,7 @@ def run_stored(store, model, talk):
         speak(*((visit, talk) for visit in visits))
         for visit in visits:
             visit.end()
-        status = server.process.wait(MOST_SECONDS)
+        status = server.process.wait(MAX_SECONDS)
         said = ("" if server.port else server.first_line) + server.process.stderr.read().decode()
         return visits, status, said, server.output()
 
@@ -811,10 +811,10 @@ def make_calls(number, count, tally, wanting):
     """Makes the calls with `count` requests refused from this one on, and compares them with the stored ones. Counts in
     `wanting` the calls that ran out of memory."""
     memory.begin(number, number and min(number + count - 1, LAST))
-    folder = os.path.join(ROOT, "crates", "up_refusals")
+    folder = os.path.join(ROOT, "crates", "up_test_refusals")
     with open(os.path.join(folder, "stdin"), "rb") as given, open(os.path.join(folder, "stdout")) as stored:
         left = calls_in(stored.read())
-        ran = subprocess.run([refusals], stdin=given, capture_output=True, env=memory.environment, timeout=MOST_SECONDS)
+        ran = subprocess.run([refusals], stdin=given, capture_output=True, env=memory.environment, timeout=MAX_SECONDS)
     refused = 0
     for call in calls_in(ran.stdout.decode()):
         same(bool(left), True, f"whether there is a call for {call.made}")
@@ -827,7 +827,7 @@ def make_calls(number, count, tally, wanting):
         for field, found, is_wanted in zip(Call._fields, call, wanted):
             same(found, is_wanted, f"`{field}` of {call.made}")
     ended = bool(left)
-    same((ran.returncode, ran.stderr.decode()), (1, f"up_refusals: {WANT}\n") if ended else (0, ""), "the end")
+    same((ran.returncode, ran.stderr.decode()), (1, f"up_test_refusals: {WANT}\n") if ended else (0, ""), "the end")
     shown = refused + ended if count == 1 else max(refused, ended)
     same(shown <= memory.refused, True, f"whether {memory.refused} refusals show in {refused} calls and {ended} ends")
     tally["runs"] += 1
@@ -852,7 +852,7 @@ CASES = [
     single_calls,
 ]
 
-program, refusals, names = words_of(__doc__, refusals="up_refusals")
+program, refusals, names = words_of(__doc__, refusals="up_test_refusals")
 if shutil.which("cc") is None:
     sys.exit(try_all([], names, ["all cases, for there is no C compiler (Debian's `gcc`, with `libc6-dev`)"]))
 with tempfile.TemporaryDirectory() as folder:

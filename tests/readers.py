@@ -26,7 +26,7 @@ from serving import ROOT, UNHEARD, Connection, Server, below, numbered, same, so
 EXAMPLES = os.path.join(ROOT, "examples")
 
 # The most lines that an example may have.
-MOST_LINES = 20
+MAX_LINES = 20
 
 GOOD = b"nothing that anybody looks for"
 EICAR = rb"X5O!P%@AP[4\PZX54(P^)7CC)7}$EICAR-STANDARD-ANTIVIRUS-TEST-FILE!$H+H*"
@@ -372,7 +372,7 @@ def reader_ends():
 def lines():
     """Each example has 20 lines at most."""
     for name in ("scanner", "archive"):
-        below(read(os.path.join(EXAMPLES, name)).count(b"\n"), MOST_LINES + 1, f"the lines of {name}")
+        below(read(os.path.join(EXAMPLES, name)).count(b"\n"), MAX_LINES + 1, f"the lines of {name}")
 
 
 program, names = words_of(__doc__)

@@ -29,7 +29,7 @@ STREAM, FEW = (32 << 20) + 1, 1 << 20
 
 # The rate at which curl sends an upload that will be stopped, the seconds until then, and the most seconds that a
 # client may take.
-RATE, STOPPED, MOST_SECONDS = "200M", 1, 120
+RATE, STOPPED, MAX_SECONDS = "200M", 1, 120
 
 # The programs that send a stream, without the endings of their names.
 SENDER = os.path.join(ROOT, "tests", "sender")
@@ -141,7 +141,7 @@ class Large(Senders):
     def curl(self, place, *words):
         """The status and the fields of the last reply to a message, which may take long."""
         trusted = ["--cacert", os.path.join(place.folder, "certificate.pem")] if isinstance(place, Front) else []
-        return reply("--max-time", str(MOST_SECONDS), *trusted, *words)[:2]
+        return reply("--max-time", str(MAX_SECONDS), *trusted, *words)[:2]
 
     def made(self, place, length):
         """The URL of a new upload of this length."""
@@ -174,7 +174,7 @@ class Large(Senders):
                 below(offset, MAX_SIZE, "the offset of what was stopped")
                 status, fields = self.curl(place, *patch_words(offset, "-C", str(offset), "-T", given), url)
                 same((status, fields["upload-offset"]), (204, str(MAX_SIZE)), "the reply to the rest")
-                subprocess.run(["curl", "-sS", "-o", fetched, url], env=trusting(place), check=True, timeout=MOST_SECONDS)
+                subprocess.run(["curl", "-sS", "-o", fetched, url], env=trusting(place), check=True, timeout=MAX_SECONDS)
                 same(filecmp.cmp(given, fetched, shallow=False), True, "whether the bytes came back")
                 self.curl(place, "-X", "DELETE", "-H", VERSION, url)
                 told.append(f"{offset >> 20} MiB")
@@ -198,7 +198,7 @@ class Large(Senders):
     def refused(self, place, url, path, status, text):
         """Checks that a PATCH with this file is refused like this, that curl reports it, and that nothing changes."""
         words = ["curl", "-sS", "-i", "--fail-with-body", "-H", "Expect:", *patch_words(0, "-T", path), url]
-        ran = subprocess.run(words, env=trusting(place), capture_output=True, timeout=MOST_SECONDS)
+        ran = subprocess.run(words, env=trusting(place), capture_output=True, timeout=MAX_SECONDS)
         told, _, body = ran.stdout.partition(b"\r\n\r\n")
         same((ran.returncode, replies(told + b"\r\n\r\n")[-1][0]), (22, status), f"how curl ends, and the status {ran.stderr}")
         same(body if text else None, text, "what the server says")
@@ -228,7 +228,7 @@ class Streamed(Senders):
         """The result of the program that sends the file `given` of this folder: its status and its outputs."""
         words = [*self.words(folder), f"{url_of(place)}/files"]
         with open(os.path.join(folder, "given"), "rb") as given:
-            return subprocess.run(words, stdin=given, capture_output=True, env=trusting(place), timeout=MOST_SECONDS)
+            return subprocess.run(words, stdin=given, capture_output=True, env=trusting(place), timeout=MAX_SECONDS)
 
     def stream(self):
         """A stream of unknown length in chunks, alone and through nginx."""
@@ -272,7 +272,7 @@ class Go(Streamed):
 
     def words(self, folder):
         words = ["go", "build", "-o", os.path.join(folder, "sender"), f"{SENDER}.go"]
-        subprocess.run(words, check=True, stdin=subprocess.DEVNULL, timeout=MOST_SECONDS)
+        subprocess.run(words, check=True, stdin=subprocess.DEVNULL, timeout=MAX_SECONDS)
         return words[3:4]
 
 

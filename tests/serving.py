@@ -19,7 +19,7 @@ import time
 ROOT = os.path.dirname(os.path.dirname(os.path.abspath(__file__)))
 
 # The most seconds to wait until a server listens, and until a reply comes.
-MOST_WAIT = 20
+MAX_WAIT = 20
 
 # The words with which `rt run` runs a program that needs some.
 FIRST_WORDS = {"up": ["--", "replay"]}
@@ -140,7 +140,7 @@ class Server:
     def line(self):
         """The next line on standard error, or an empty text if none comes in time. The pipe has no buffer, so a line
         that has come is never missed."""
-        ready, _, _ = select.select([self.process.stderr], [], [], MOST_WAIT)
+        ready, _, _ = select.select([self.process.stderr], [], [], MAX_WAIT)
         return self.process.stderr.readline().decode() if ready else ""
 
     def output(self):
@@ -255,10 +255,10 @@ def patch_in_chunks(path):
 
 
 class Connection:
-    """A connection to a server, from an address of the loopback. A read waits at most `MOST_WAIT` seconds."""
+    """A connection to a server, from an address of the loopback. A read waits at most `MAX_WAIT` seconds."""
 
     def __init__(self, server, address=None):
-        self.socket = socket.create_connection(("127.0.0.1", server.port), MOST_WAIT, address and (address, 0))
+        self.socket = socket.create_connection(("127.0.0.1", server.port), MAX_WAIT, address and (address, 0))
         self.socket.setsockopt(socket.IPPROTO_TCP, socket.TCP_NODELAY, 1)
         self.read = b""
 
@@ -413,10 +413,10 @@ def settled(server):
 
 def soon(holds, what):
     """Waits until `holds()` is true; fails the case if that takes too long."""
-    end = time.monotonic() + MOST_WAIT
+    end = time.monotonic() + MAX_WAIT
     while not holds():
         if time.monotonic() > end:
-            raise AssertionError(f"not in {MOST_WAIT} s: {what}")
+            raise AssertionError(f"not in {MAX_WAIT} s: {what}")
         time.sleep(0.01)
 
 

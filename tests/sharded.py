@@ -19,7 +19,7 @@ EXAMPLE = os.path.join(ROOT, "examples", "shards")
 SHARDS, FIRST_PORT = 4, 1080
 
 # The most seconds that a graceful end may take.
-MOST_END = 40
+MAX_END = 40
 
 # The reply of a shard that is ending, and the status from a proxy for a shard that is gone.
 CLOSED, GONE = (503, b"20 Closed\n"), 502
@@ -116,7 +116,7 @@ class Shards:
         """Ends a shard in order, and takes its output."""
         server = self.running[number]
         server.end()
-        same(server.process.wait(MOST_END), 0, f"the status of shard {number}")
+        same(server.process.wait(MAX_END), 0, f"the status of shard {number}")
         same(server.process.stderr.read(), b"", f"what shard {number} says")
         return self.take(number)
 

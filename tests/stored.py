@@ -14,7 +14,7 @@ import time
 
 import endings
 from crashed import LANES, lane_of
-from serving import MAX_SIZE, MOST_WAIT, Server, same, soon
+from serving import MAX_SIZE, MAX_WAIT, Server, same, soon
 
 # The largest file of a limited server, which is also the size of a small disk; and the size of that disk once it is
 # enlarged.
@@ -106,7 +106,7 @@ class Store:
         """A run that must end by itself with status 1, and must leave the files as they are."""
         before = self.files()
         words = [self.program, "serve", "--address", "127.0.0.1:0", "--max-size", str(size), *self.words(lanes)]
-        ran = subprocess.run(words, stdin=subprocess.DEVNULL, capture_output=True, timeout=MOST_WAIT)
+        ran = subprocess.run(words, stdin=subprocess.DEVNULL, capture_output=True, timeout=MAX_WAIT)
         same(ran.returncode, 1, f"the status, with {ran.stderr!r}")
         after = self.files()
         same([name for name in before if after.get(name) != before[name]], [], "the files that aren't as they were")

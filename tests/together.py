@@ -25,7 +25,7 @@ import threading
 import time
 
 from serving import (
-    MAX_SIZE, MEDIA_TYPE, MOST_WAIT, NOWHERE, Connection, Server, at_once, below, events_of, head, patch,
+    MAX_SIZE, MEDIA_TYPE, MAX_WAIT, NOWHERE, Connection, Server, at_once, below, events_of, head, patch,
     patch_in_chunks, same, soon, try_all, words_of,
 )
 
@@ -227,16 +227,16 @@ class Client(Connection):
 
 
 @contextlib.contextmanager
-def served(connections, most_open, size=MAX_SIZE, more=(), lines=True):
-    """A server that ends after this number of connections, of which `most_open` may be open at a time, and whose
+def served(connections, max_open, size=MAX_SIZE, more=(), lines=True):
+    """A server that ends after this number of connections, of which `max_open` may be open at a time, and whose
     largest upload has this size; and the count with which the server is compared at its end. The server writes its
     events as lines, or keeps them for its report. With `more` words, its standard error isn't checked."""
-    words = ["--connections", connections, "--open", most_open, "--lanes", LANES, "--capacity", 1]
+    words = ["--connections", connections, "--open", max_open, "--lanes", LANES, "--capacity", 1]
     words += ["--events"] * lines + [*more]
     count = Count()
     with Server(program, *map(str, words), size=size) as server:
         yield server, count
-        same(server.process.wait(MOST_WAIT), 0, "the status of the server")
+        same(server.process.wait(MAX_WAIT), 0, "the status of the server")
         if not more:
             same(server.process.stderr.read(), b"", "what stands on standard error")
         hold_output(server.output(), count, lines)
@@ -367,7 +367,7 @@ def compete(client, number, shared, meeting, winners):
     """Sends a byte for each offset of the shared upload, at the same moment as all others, and notes where it wins."""
     for offset in range(SHARED):
         try:
-            meeting.wait(MOST_WAIT)
+            meeting.wait(MAX_WAIT)
         except threading.BrokenBarrierError:
             raise AssertionError(f"not all clients came to offset {offset} in time") from None
         if client.wins(shared, offset, letter(number)):
@@ -429,13 +429,13 @@ def reported():
 
 
 # The number of clients of `crowd`, of visits of each, and of connections that may be open at a time.
-CROWD, TIMES, MOST_OPEN = 8, 5, 4
+CROWD, TIMES, MAX_OPEN = 8, 5, 4
 
 
 def crowd():
     """Eight clients come five times each, four may be open at a time, and each continues what it has begun."""
     open_now = []
-    with served(CROWD * TIMES, MOST_OPEN) as (server, count):
+    with served(CROWD * TIMES, MAX_OPEN) as (server, count):
 
         def come_often(number):
             begun = None
@@ -446,7 +446,7 @@ def crowd():
                     begun = client.create(2)
                     open_now.append(number)
                     time.sleep(0.01)
-                    below(len(open_now), MOST_OPEN + 1, "how many are open at a time")
+                    below(len(open_now), MAX_OPEN + 1, "how many are open at a time")
                     client.put(begun, 0, b"a")
                     open_now.remove(number)
 
@@ -551,7 +551,7 @@ def many_bodies():
 
 # The seconds for which an idle server is watched, and the most processor time that it may take.
 IDLE = 2
-MOST_WORK = 0.1
+MAX_WORK = 0.1
 
 
 def asleep():
@@ -566,7 +566,7 @@ def asleep():
             time.sleep(0.3)
             before = server.seconds()
             time.sleep(IDLE)
-            below(server.seconds() - before, MOST_WORK, f"processor time in {IDLE} seconds with nothing to do")
+            below(server.seconds() - before, MAX_WORK, f"processor time in {IDLE} seconds with nothing to do")
             second.send(b"cdefghij")
             same(second.reply().whole, count.append(path, 0, b"abcdefghij"), "the reply to a PATCH")
             third.send(head("GET", path, {})[len(b"GET /fi") :])
@@ -580,8 +580,8 @@ def hear(server, line):
     """Waits for this line on standard error, and returns the seconds until it came. The lines before it must be lines
     of `--status`."""
     start = time.monotonic()
-    while time.monotonic() - start < MOST_WAIT:
-        select.select([server.process.stderr], [], [], MOST_WAIT)
+    while time.monotonic() - start < MAX_WAIT:
+        select.select([server.process.stderr], [], [], MAX_WAIT)
         said = server.process.stderr.readline().decode()
         if said == line:
             return time.monotonic() - start

@@ -19,7 +19,7 @@ import sys
 import time
 
 from serving import (
-    AGAIN, MOST_WAIT, NO_THREAD, Connection, Server, below, events_of, head, same, soon, try_all, words_of,
+    AGAIN, MAX_WAIT, NO_THREAD, Connection, Server, below, events_of, head, same, soon, try_all, words_of,
 )
 
 # The lines on standard error.
@@ -28,7 +28,7 @@ GONE = "up_server: the listener is gone, and the run ends: Invalid argument (os 
 
 # The seconds for which a server that lacks something is watched, and the most processor time that it may take.
 WATCHED = 2
-MOST_WORK = 0.2
+MAX_WORK = 0.2
 
 # The number of the system call `pidfd_getfd`.
 PIDFD_GETFD = 438
@@ -48,7 +48,7 @@ class Watched(Server):
         super().__init__(program, *words, **others)
         self.rest = b""
 
-    def line(self, seconds=MOST_WAIT):
+    def line(self, seconds=MAX_WAIT):
         """The next line, if it comes within this many seconds."""
         end = time.monotonic() + seconds
         while b"\n" not in self.rest:
@@ -91,14 +91,14 @@ def sleeps(server, what):
     """Checks that the server takes almost no processor time for some seconds."""
     before = server.seconds()
     time.sleep(WATCHED)
-    below(server.seconds() - before, MOST_WORK, f"processor time in {WATCHED} seconds {what}")
+    below(server.seconds() - before, MAX_WORK, f"processor time in {WATCHED} seconds {what}")
 
 
 def no_files():
     """Out of descriptors, a client is let in once there are some again, even if no connection has ended; two lines say
     so."""
     with Watched() as server, asked(server) as first:
-        same(is_served(first, MOST_WAIT), True, "whether the first client is served")
+        same(is_served(first, MAX_WAIT), True, "whether the first client is served")
         before = limit(server, resource.RLIMIT_NOFILE, server.descriptors())
         # The accept that is waiting already has its descriptor.
         with asked(server) as second, asked(server) as third:
@@ -114,7 +114,7 @@ def no_files():
 def one_leaves():
     """Out of descriptors, a client is let in when another has left."""
     with Watched() as server, asked(server) as first:
-        same(is_served(first, MOST_WAIT), True, "whether the first client is served")
+        same(is_served(first, MAX_WAIT), True, "whether the first client is served")
         limit(server, resource.RLIMIT_NOFILE, server.descriptors())
         with asked(server) as second, asked(server) as third:
             same(server.line(5), NO_FILES, "what is said where no descriptor is left")
@@ -126,7 +126,7 @@ def one_leaves():
 def over_and_over():
     """Descriptors that come and go ten times in five seconds are reported in at most a line a second."""
     with Watched() as server, asked(server) as first:
-        same(is_served(first, MOST_WAIT), True, "whether the first client is served")
+        same(is_served(first, MAX_WAIT), True, "whether the first client is served")
         few = server.descriptors()
         for _ in range(10):
             before = limit(server, resource.RLIMIT_NOFILE, few)
@@ -144,7 +144,7 @@ def over_and_over():
 def no_threads():
     """Without address space for a thread a client is closed, and a later one is served once there is some again."""
     with Watched() as server, asked(server) as first:
-        same(is_served(first, MOST_WAIT), True, "whether the first client is served")
+        same(is_served(first, MAX_WAIT), True, "whether the first client is served")
         before = limit(server, resource.RLIMIT_AS, server.status("VmSize"))
         said = ""
         for _ in range(5):
@@ -204,7 +204,7 @@ def listener_gone():
         same(first.append(path, 0, b"abc").status, 204, "the status of a PATCH behind that")
         sleeps(server, "without a listener")
         first.socket.close()
-        same(server.process.wait(MOST_WAIT), 0, "the status of the server")
+        same(server.process.wait(MAX_WAIT), 0, "the status of the server")
         same(len(events_of(server.output())[path]), 3, "how many events were written")
         same(server.line(1), "", "what is said behind that")
 
@@ -216,7 +216,7 @@ def gone_and_counted():
         shut_down(server)
         same(server.line(5), GONE, "what is said where the listener is gone")
         first.socket.close()
-        same(server.process.wait(MOST_WAIT), 0, "the status of the server")
+        same(server.process.wait(MAX_WAIT), 0, "the status of the server")
         told = "\n".join(f"{path[-32:]} {event} done" for event in ("1 post-create 0/0", "2 post-finish 0/0"))
         same(server.output(), f"\naccepted 1\nlane 0 drained 2\n{told}\n", "the report")
 
@@ -224,7 +224,7 @@ def gone_and_counted():
 def gone_in_want():
     """A listener that goes while the server is out of descriptors is reported in its turn, and ends the run."""
     with Watched() as server, asked(server) as first:
-        same(is_served(first, MOST_WAIT), True, "whether the first client is served")
+        same(is_served(first, MAX_WAIT), True, "whether the first client is served")
         limit(server, resource.RLIMIT_NOFILE, server.descriptors())
         with asked(server), asked(server):
             same(server.line(5), NO_FILES, "what is said where no descriptor is left")

@@ -21,7 +21,7 @@ import sys
 from serving import ROOT, same, try_all, words_of
 
 # The most seconds that a run may take: looking up a name may take long.
-MOST_SECONDS = 60
+MAX_SECONDS = 60
 
 # A name that never resolves (RFC 6761, section 6.4).
 NOBODY = "nobody.invalid"
@@ -30,7 +30,7 @@ NOBODY = "nobody.invalid"
 def run(*words, **files):
     """The status of a run with these words, and its standard error. Its standard output must be empty."""
     files = {"stdin": subprocess.DEVNULL, "stdout": subprocess.PIPE, "stderr": subprocess.PIPE, **files}
-    ran = subprocess.run([program, *words], timeout=MOST_SECONDS, **files)
+    ran = subprocess.run([program, *words], timeout=MAX_SECONDS, **files)
     same(ran.stdout, b"", "what stands on standard output")
     return ran.returncode, ran.stderr
 
@@ -155,25 +155,25 @@ def wrong_words():
 
 def version():
     """`--version` prints the version, and the logic that docs/PROVED.md and `rt version` name, with status 0."""
-    ran = subprocess.run([program, "--version"], timeout=MOST_SECONDS, capture_output=True)
+    ran = subprocess.run([program, "--version"], timeout=MAX_SECONDS, capture_output=True)
     same((ran.returncode, ran.stderr), (0, b""), "the status, and what is said on standard error")
     found = re.fullmatch(r"up 1\.0\.0\nproved by Rattle's logic ([0-9a-f]{16})\n", ran.stdout.decode())
     same(found is not None, True, f"whether {ran.stdout!r} is the version 1.0.0 and a logic")
     with open(os.path.join(ROOT, "docs", "PROVED.md"), encoding="utf-8") as file:
         same(f"logic {found[1]}" in file.read(), True, f"whether docs/PROVED.md names the logic {found[1]}")
     if shutil.which("rt"):
-        toolchain = subprocess.run(["rt", "version"], timeout=MOST_SECONDS, stdout=subprocess.PIPE).stdout.decode()
+        toolchain = subprocess.run(["rt", "version"], timeout=MAX_SECONDS, stdout=subprocess.PIPE).stdout.decode()
         same(f"logic {found[1]}" in toolchain, True, f"whether {toolchain!r} is of the logic {found[1]}")
     reader, writer = os.pipe()
     os.close(reader)
     with open(writer, "wb") as nobody:
-        ran = subprocess.run([program, "--version"], timeout=MOST_SECONDS, stdout=nobody, stderr=subprocess.PIPE)
+        ran = subprocess.run([program, "--version"], timeout=MAX_SECONDS, stdout=nobody, stderr=subprocess.PIPE)
     same((ran.returncode, ran.stderr), (1, b"up_server: write failed\n"), "what is said where nobody reads the version")
 
 
 def nothing_asked():
     """`replay` of an empty input reports that nothing was accepted, and ends with status 0."""
-    ran = subprocess.run([program, "replay"], timeout=MOST_SECONDS, input=b"", capture_output=True)
+    ran = subprocess.run([program, "replay"], timeout=MAX_SECONDS, input=b"", capture_output=True)
     report = b"\naccepted 0\nlane 0 drained 0\nlane 1 drained 0\n"
     same((ran.returncode, ran.stdout, ran.stderr), (0, report, b""), "the status, the report and what is said beside it")
 
@@ -184,12 +184,12 @@ def unread_and_unwritten():
     report = b"\naccepted 0\nlane 0 drained 0\nlane 1 drained 0\n"
     folder = os.open("/", os.O_RDONLY)
     try:
-        ran = subprocess.run([program, "replay"], timeout=MOST_SECONDS, stdin=folder, capture_output=True)
+        ran = subprocess.run([program, "replay"], timeout=MAX_SECONDS, stdin=folder, capture_output=True)
     finally:
         os.close(folder)
     same((ran.returncode, ran.stdout, ran.stderr), (1, report, b"up_server: read failed\n"), "what is said of a folder")
     with open("/dev/full", "wb") as full:
-        ran = subprocess.run([program, "replay"], timeout=MOST_SECONDS, input=b"", stdout=full, stderr=subprocess.PIPE)
+        ran = subprocess.run([program, "replay"], timeout=MAX_SECONDS, input=b"", stdout=full, stderr=subprocess.PIPE)
     same((ran.returncode, ran.stderr), (1, b"up_server: write failed\n"), "what is said of a full disk")
 
 

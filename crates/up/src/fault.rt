@@ -42,7 +42,7 @@ pub enum Fault {
     Store { path: String, reason: Unopened },
     /// The changes of the store could not be carried out again, so nothing was served. The reason was printed already.
     #[error("cannot read the store")]
-    Told,
+    AlreadyReported,
     /// A run of the server failed.
     #[error(transparent)]
     Server(ServerFault),
@@ -87,7 +87,7 @@ impl Fault {
     /// told.
     pub fn tell<R: Eprint>(&self, rt: &R) {
         let _ = match self {
-            Fault::Told => Ok(()),
+            Fault::AlreadyReported => Ok(()),
             Fault::Words(error) => rt.eprint(error),
             fault => eprintln!(rt; "up_server: {fault}"),
         };
@@ -97,9 +97,10 @@ impl Fault {
     pub fn status(&self) -> ExitCode {
         match self {
             Fault::NoText | Fault::Words(_) => ExitCode::from(2),
-            Fault::Listen { .. } | Fault::Store { .. } | Fault::Told | Fault::Server(_) => {
-                ExitCode::FAILURE
-            }
+            Fault::Listen { .. }
+            | Fault::Store { .. }
+            | Fault::AlreadyReported
+            | Fault::Server(_) => { ExitCode::FAILURE }
         }
     }
 }

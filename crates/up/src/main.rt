@@ -31,7 +31,9 @@ use up_wire::Output;
 use up_words::{Words, WordsFault, words};
 
 /// Serves as the arguments ask.
-fn obey<R: Input + Print + Eprint + AllocGlobal + Clock + RandomSource + Threads + Wait + Sync>(
+fn run_by_words<
+    R: Input + Print + Eprint + AllocGlobal + Clock + RandomSource + Threads + Wait + Sync,
+>(
     rt: &R,
     words: &Words,
     listener: Option<TcpListener>,
@@ -46,7 +48,7 @@ fn obey<R: Input + Print + Eprint + AllocGlobal + Clock + RandomSource + Threads
 }
 
 /// The arguments, without the name of the program.
-fn given(rt: &HostRuntime) -> Result<Vec<String>, Fault> {
+fn arguments(rt: &HostRuntime) -> Result<Vec<String>, Fault> {
     let all = match std::env::args(rt) {
         Ok(all) => all,
         Err(error) if error.kind() == io::ErrorKind::InvalidData => return Err(Fault::NoText),
@@ -58,8 +60,8 @@ fn given(rt: &HostRuntime) -> Result<Vec<String>, Fault> {
 }
 
 /// What the arguments ask for. `None` if it is only the version, which was then printed on standard output.
-fn asked<R: Print>(rt: &R, alloc: Global, given: Vec<String>) -> Result<Option<Words>, Fault> {
-    match words(alloc, given) {
+fn asked<R: Print>(rt: &R, alloc: Global, arguments: Vec<String>) -> Result<Option<Words>, Fault> {
+    match words(alloc, arguments) {
         Ok(words) => Ok(Some(words)),
         Err(WordsFault::Refused(text)) if text.kind() == ErrorKind::DisplayVersion => {
             match rt.print(text) {
@@ -88,13 +90,13 @@ fn run<
         Some(serving) => Some(listen(rt, serving)?),
         None => None,
     };
-    obey(rt, words, listener, files)
+    run_by_words(rt, words, listener, files)
 }
 
 /// What the arguments ask for, and the files of the store if they ask for one, which are then open. `None` if they only
 /// ask for the version.
 fn prepared(rt: &HostRuntime) -> Result<Option<(Words, Option<StoreFiles<'_>>)>, Fault> {
-    let Some(words) = asked(rt, rt.alloc(), given(rt)?)? else {
+    let Some(words) = asked(rt, rt.alloc(), arguments(rt)?)? else {
         return Ok(None);
     };
     let files = store_of(rt, &words)?;

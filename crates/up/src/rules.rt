@@ -1,6 +1,6 @@
 //! The closures for the rules that the arguments ask for.
 ghost use Rattle.std.specs.Prelude.{◌≡◌, IsTrue};
-ghost use Rattle.up_hooks.specs.Verdicts.{is_lawful};
+ghost use Rattle.up_hooks.specs.Verdicts.{is_allowed_verdict};
 ghost use Rattle.up_rules.specs.Rules.{judged};
 
 use crate::fault::Fault;
@@ -37,7 +37,7 @@ pub fn run_by_rules<
         let point = rule.point();
         let judge = move |ask: &Ask| -> Verdict
             ensures answer { result ≡ judged rule ask.now }
-            ensures lawful { IsTrue (is_lawful result) }
+            ensures lawful { IsTrue (is_allowed_verdict result) }
         { rule.judge(ask) };
         hooks.push(PreHook::new(point, Box::new(rt.alloc(), judge)?))?;
     }

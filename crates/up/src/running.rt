@@ -1,6 +1,6 @@
 //! A run of the server, once the closures of its rules are made.
 ghost use Rattle.std.specs.Prelude.{◌≡◌, [], All, IsTrue, length};
-ghost use Rattle.up_hooks.specs.Told.{has_code};
+ghost use Rattle.up_hooks.specs.Recorded.{has_code};
 
 use crate::fault::Fault;
 use crate::notice_lines::NoticeLines;
@@ -17,7 +17,7 @@ use std::sync::Wait;
 use std::thread;
 use std::thread::Threads;
 use std::time::Clock;
-use up_connections::{Drawn, Ending, Notices, Patience, Visits, Watch};
+use up_connections::{Ending, Notices, Patience, RandomIds, Visits, Watch};
 use up_dispatch::{AtOnce, Service};
 use up_events::Event;
 use up_handed::continue_each;
@@ -187,7 +187,7 @@ fn run_on<
     let connections = Connections {
         listener,
         visits,
-        ids: Drawn::new(rt, beside.words.shard())?,
+        ids: RandomIds::new(rt, beside.words.shard())?,
     };
     keep_serving(
         rt,
@@ -315,7 +315,7 @@ fn run_stored<
     let post_hooks = continue_each(rt.alloc(), tellers, counts, notes)?;
     run_tended(rt, beside, listener, hooks, post_hooks, &keeping)?;
     if lines.is_unread() {
-        return Err(Fault::Told);
+        return Err(Fault::AlreadyReported);
     }
     Ok(())
 }
@@ -351,7 +351,7 @@ fn run_over<
     let connections = Connections {
         listener,
         visits: &visits,
-        ids: Drawn::new(rt, beside.words.shard())?,
+        ids: RandomIds::new(rt, beside.words.shard())?,
     };
     serve(rt, alloc, hooks, settings, connections, &mut sink)?;
     Ok(())

@@ -12,14 +12,14 @@ use Rattle.up_headers.specs.declared.request.Patch.{Patch}
 use Rattle.up_headers.specs.declared.request.Request.{Request}
 use Rattle.up_headers.specs.declared.request.Request.TheVariants as request
 use Rattle.up_machine.specs.Content.{Content, is_complete, made_of}
-use Rattle.up_machine.specs.Decision.{asked_rows, checked, create_rows, decide, get_rows, is_partial, part_rows, passes, patch_change, patch_completes, patch_offset, rows_at, take_rows}
-use Rattle.up_machine.specs.Responses.{can_do, created, downloaded, reached_offset, removed, standing}
-use Rattle.up_machine.specs.State.{Contents, State, bytes_of, first_bytes, joined}
+use Rattle.up_machine.specs.Decision.{asked_rows, checked, create_rows, decide, get_rows, is_partial, part_rows, passes, patch_change, patch_completes, patch_offset, rows_at, commit_rows}
+use Rattle.up_machine.specs.Responses.{can_do, created, downloaded, reached_offset, removed, head_response}
+use Rattle.up_machine.specs.State.{Contents, State, bytes_of, first_bytes, joined_parts}
 use Rattle.up_machine.specs.declared.plan.Asked.{Asked}
 use Rattle.up_machine.specs.declared.plan.Done.{Done}
 use Rattle.up_machine.specs.declared.refusal.Refusal.{Refusal}
 use Rattle.up_machine.specs.declared.refusal.Refusal.TheVariants as refusal
-use Rattle.up_compact.specs.Shorter.{IsWithout, OthersAreDecidedAlike, is_about, parts_of}
+use Rattle.up_compact.specs.Shorter.{IsWithout, OthersAreDecidedAlike, is_about, joined_uploads}
 use Rattle.up_compact.proofs.Others.{others_known}
 
 -- what the second book has for a request is what the first has
@@ -44,7 +44,7 @@ create_decision new id asked closed rows bytes known =
 
 abbrev pub patch_decision : Patch → Asked → Bool → ℕ → Option Content → Result Done Refusal
 patch_decision p asked closed max_size found =
-    checked (take_rows closed max_size p found ++ asked_rows (patch_completes p found) asked)
+    checked (commit_rows closed max_size p found ++ asked_rows (patch_completes p found) asked)
     (record { response = reached_offset (patch_offset p found); change = patch_change p found })
 
 abbrev pub delete_decision : ℕ → Asked → Bool → Option Content → Result Done Refusal
@@ -53,7 +53,7 @@ delete_decision u asked closed found =
     (record { response = removed; change = Some (Terminated u) })
 
 abbrev head_decision : Option Content → Result Done Refusal
-head_decision found = checked (rows_at found (λ x. [])) (record { response = standing found; change = None })
+head_decision found = checked (rows_at found (λ x. [])) (record { response = head_response found; change = None })
 
 abbrev get_decision : Option Content → Result Done Refusal
 get_decision found = checked (rows_at found get_rows) (record { response = downloaded (bytes_of found); change = None })
@@ -92,20 +92,20 @@ module _ (among : ℕ → Bool) (c d : Contents) (same : (u : ℕ) → among u �
       ap (λ o. f o || list_any (λ part. f (map.get d part)) parts) (same part h.0)
       ∙ ap (λ b. f (map.get c part) || b) (any_alike f parts h.1)
 
-  joined_alike : (parts : List ℕ) → list_any among parts ≡ false → joined d parts ≡ joined c parts
+  joined_alike : (parts : List ℕ) → list_any among parts ≡ false → joined_parts d parts ≡ joined_parts c parts
   joined_alike [] none = refl
   joined_alike (part ∷ parts) none =
       let h = or_false (among part) (list_any among parts) none in
-      ap (λ o. bytes_of o ++ joined d parts) (same part h.0) ∙ ap (λ l. bytes_of (map.get c part) ++ l) (joined_alike parts h.1)
+      ap (λ o. bytes_of o ++ joined_parts d parts) (same part h.0) ∙ ap (λ l. bytes_of (map.get c part) ++ l) (joined_alike parts h.1)
 
   part_rows_alike : (max_size : ℕ) (parts : List ℕ) → list_any among parts ≡ false → part_rows d max_size parts ≡ part_rows c max_size parts
   part_rows_alike max_size parts none =
       let rows : Bool → Bool → Bool → List ℕ → List (Row Refusal) = λ unknown other unfinished bytes. (unknown, refusal.PartUnknown) ∷ (other, refusal.PartNotPartial) ∷ (unfinished, refusal.PartUnfinished) ∷ (nat_lt max_size (length bytes), refusal.SumTooLong) ∷ [] in
       let other : Option Content → Bool = λ o. not (passes (λ x. is_partial x.kind) o) in
       let unfinished : Option Content → Bool = λ o. not (passes is_complete o) in
-      ap (λ b. rows b (list_any (λ part. other (map.get d part)) parts) (list_any (λ part. unfinished (map.get d part)) parts) (joined d parts)) (any_alike (λ o. is_none o) parts none)
-      ∙ ap (λ b. rows (list_any (λ part. is_none (map.get c part)) parts) b (list_any (λ part. unfinished (map.get d part)) parts) (joined d parts)) (any_alike other parts none)
-      ∙ ap (λ b. rows (list_any (λ part. is_none (map.get c part)) parts) (list_any (λ part. other (map.get c part)) parts) b (joined d parts)) (any_alike unfinished parts none)
+      ap (λ b. rows b (list_any (λ part. other (map.get d part)) parts) (list_any (λ part. unfinished (map.get d part)) parts) (joined_parts d parts)) (any_alike (λ o. is_none o) parts none)
+      ∙ ap (λ b. rows (list_any (λ part. is_none (map.get c part)) parts) b (list_any (λ part. unfinished (map.get d part)) parts) (joined_parts d parts)) (any_alike other parts none)
+      ∙ ap (λ b. rows (list_any (λ part. is_none (map.get c part)) parts) (list_any (λ part. other (map.get c part)) parts) b (joined_parts d parts)) (any_alike unfinished parts none)
       ∙ ap (λ l. rows (list_any (λ part. is_none (map.get c part)) parts) (list_any (λ part. other (map.get c part)) parts) (list_any (λ part. unfinished (map.get c part)) parts) l) (joined_alike parts none)
 
   create_rows_alike : (max_size : ℕ) (new : NewUpload) → list_any among (cond (is_final_kind new.kind) new.parts []) ≡ false → create_rows d max_size new ≡ create_rows c max_size new
@@ -117,12 +117,12 @@ module _ (among : ℕ → Bool) (c d : Contents) (same : (u : ℕ) → among u �
 
   first_bytes_alike : (new : NewUpload) → list_any among (cond (is_final_kind new.kind) new.parts []) ≡ false → first_bytes d new ≡ first_bytes c new
   first_bytes_alike new none =
-      elim (is_final_kind new.kind) as (λ b. list_any among (cond b new.parts []) ≡ false → cond b (joined d new.parts) [] ≡ cond b (joined c new.parts) []) [
+      elim (is_final_kind new.kind) as (λ b. list_any among (cond b new.parts []) ≡ false → cond b (joined_parts d new.parts) [] ≡ cond b (joined_parts c new.parts) []) [
         | true ↦ λ none. joined_alike new.parts none
         | false ↦ λ none. refl
       ] none
 
-pub others_look : (among : ℕ → Bool) (s t : State) (r : Request) (id : ℕ) → IsWithout among s t → is_about among r id ≡ false → list_any among (parts_of r) ≡ false → LooksAlike s t r id
+pub others_look : (among : ℕ → Bool) (s t : State) (r : Request) (id : ℕ) → IsWithout among s t → is_about among r id ≡ false → list_any among (joined_uploads r) ≡ false → LooksAlike s t r id
 others_look among s t request.Options id w other joins = tt
 others_look among s t (request.Create new) id w other joins = (
   create_rows_alike among s.content t.content w.content s.max_size new joins,

@@ -2,10 +2,10 @@
 use Rattle.std.proofs.Common.{◌≡◌, ℕ, List, [], ◌∷◌, ◌++◌, map, Option, Some, None, refl, ap, ◌∙◌}
 use Rattle.up_log.specs.Reading.{◌>>=◌}
 use Rattle.up_log.specs.declared.entry.Entry.{Entry}
-use Rattle.up_compact.specs.Heads.{LastHeadHolds, batch_of, head_after, head_of, ids_of, numbered, numbers_in}
+use Rattle.up_compact.specs.Heads.{LastHeadHolds, batch_of, head_after, head_of, ids_of, entry_with_number, numbers_in}
 use Rattle.up_compact.specs.declared.head.Head.{Head}
 
-ids_again : (numbers : List ℕ) → ids_of (map numbered numbers) ≡ numbers
+ids_again : (numbers : List ℕ) → ids_of (map entry_with_number numbers) ≡ numbers
 ids_again [] = refl
 ids_again (n ∷ numbers) = ap (λ (l : List ℕ). n ∷ l) (ids_again numbers)
 

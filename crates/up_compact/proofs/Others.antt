@@ -5,7 +5,7 @@ use Rattle.std.proofs.lemmas.List.{append-nil}
 use Rattle.std.proofs.lemmas.List.Elements.{filter-append}
 use Rattle.std.specs.Option.{option_or}
 use Rattle.up_events.specs.Lists.{gather}
-use Rattle.up_events.specs.History.{id_of, kind_in, length_in, bytes_in, kind_of, length_of, received, offset_of, is_final, is_known, Step, steps_at, steps_of, events_of}
+use Rattle.up_events.specs.History.{id_of, kind_in, length_in, bytes_in, kind_of, length_of, received, offset_of, is_final, is_known, EventBody, steps_at, steps_of, events_of}
 use Rattle.up_events.specs.Log.{numbered, log_of}
 use Rattle.up_events.specs.declared.event.Accepted.{Accepted}
 use Rattle.up_events.specs.declared.event.Accepted.TheVariants.{Created, Appended, Declared, Terminated}
@@ -120,23 +120,23 @@ module _ (among : ℕ → Bool) (u : ℕ) (other : among u ≡ false) where
 
 -- ---- the log of a lane
 
-numbered_dropped : (among : ℕ → Bool) (v n : ℕ) (steps : List Step) → among v ≡ true → events_without among (numbered v n steps) ≡ []
+numbered_dropped : (among : ℕ → Bool) (v n : ℕ) (steps : List EventBody) → among v ≡ true → events_without among (numbered v n steps) ≡ []
 numbered_dropped among v n [] inside = refl
 numbered_dropped among v n (s ∷ steps) inside =
     ap (λ b. cond (not b) (record { id = v; number = n + 1; hook = s.0; offset = s.1; length = s.2 } ∷ events_without among (numbered v (n + 1) steps)) (events_without among (numbered v (n + 1) steps))) inside
     ∙ numbered_dropped among v (n + 1) steps inside
 
-numbered_stayed : (among : ℕ → Bool) (v n : ℕ) (steps : List Step) → among v ≡ false → events_without among (numbered v n steps) ≡ numbered v n steps
+numbered_stayed : (among : ℕ → Bool) (v n : ℕ) (steps : List EventBody) → among v ≡ false → events_without among (numbered v n steps) ≡ numbered v n steps
 numbered_stayed among v n [] outside = refl
 numbered_stayed among v n (s ∷ steps) outside =
     ap (λ b. cond (not b) (record { id = v; number = n + 1; hook = s.0; offset = s.1; length = s.2 } ∷ events_without among (numbered v (n + 1) steps)) (events_without among (numbered v (n + 1) steps))) outside
     ∙ ap (λ l. record { id = v; number = n + 1; hook = s.0; offset = s.1; length = s.2 } ∷ l) (numbered_stayed among v (n + 1) steps outside)
 
-cond_dropped : (among : ℕ → Bool) (b : Bool) (v n : ℕ) (steps : List Step) → among v ≡ true → events_without among (cond b (numbered v n steps) []) ≡ []
+cond_dropped : (among : ℕ → Bool) (b : Bool) (v n : ℕ) (steps : List EventBody) → among v ≡ true → events_without among (cond b (numbered v n steps) []) ≡ []
 cond_dropped among true v n steps inside = numbered_dropped among v n steps inside
 cond_dropped among false v n steps inside = refl
 
-pub cond_stayed : (among : ℕ → Bool) (b : Bool) (v n : ℕ) (steps : List Step) → among v ≡ false → events_without among (cond b (numbered v n steps) []) ≡ cond b (numbered v n steps) []
+pub cond_stayed : (among : ℕ → Bool) (b : Bool) (v n : ℕ) (steps : List EventBody) → among v ≡ false → events_without among (cond b (numbered v n steps) []) ≡ cond b (numbered v n steps) []
 cond_stayed among true v n steps outside = numbered_stayed among v n steps outside
 cond_stayed among false v n steps outside = refl
 

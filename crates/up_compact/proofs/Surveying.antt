@@ -7,7 +7,7 @@ use Rattle.up_events.specs.History.{is_final_kind}
 use Rattle.up_headers.specs.declared.request.Request.{Request}
 use Rattle.up_headers.specs.declared.request.Request.TheVariants as request
 use Rattle.up_log.specs.declared.entry.Entry.{Entry}
-use Rattle.up_compact.specs.Shorter.{JoinsKept, is_about, parts_of}
+use Rattle.up_compact.specs.Shorter.{JoinsKept, is_about, joined_uploads}
 use Rattle.up_compact.specs.Surveys.{JoinsOnly, Seen, joinings_of, saw, saw_all}
 use Rattle.up_compact.specs.declared.joining.Joining.{Joining}
 
@@ -20,7 +20,7 @@ all_right P [] ys all = all
 all_right P (x ∷ xs) ys all = all_right P xs ys (All-tail P x (xs ++ ys) all)
 
 -- a final upload that joins only what stays is made by an entry that does
-joins_kept : (among : ℕ → Bool) (r : Request) (id : ℕ) → All (JoinsOnly among) (joinings_of r id) → is_about among r id ≡ false → list_any among (parts_of r) ≡ false
+joins_kept : (among : ℕ → Bool) (r : Request) (id : ℕ) → All (JoinsOnly among) (joinings_of r id) → is_about among r id ≡ false → list_any among (joined_uploads r) ≡ false
 joins_kept among request.Options id all other = refl
 joins_kept among (request.Create new) id all other =
     let joining : Joining = record { id = id; parts = new.parts } in

@@ -7,8 +7,8 @@ use Rattle.up_log.specs.declared.entry.Consent.TheVariants.{Skipped}
 use Rattle.up_log.specs.declared.entry.Entry.{Entry}
 
 -- an entry that asks for nothing, with the number as its id
-abbrev pub numbered : ℕ → Entry
-numbered n = record { id = n; consent = Skipped; request = request.Options }
+abbrev pub entry_with_number : ℕ → Entry
+entry_with_number n = record { id = n; consent = Skipped; request = request.Options }
 
 -- the numbers of a head
 abbrev pub numbers_in : Head → List ℕ
@@ -16,7 +16,7 @@ numbers_in head = head.generation ∷ head.entries ∷ head.left_out
 
 -- the batch for a head
 abbrev pub batch_of : Head → List Entry
-batch_of head = map numbered (numbers_in head)
+batch_of head = map entry_with_number (numbers_in head)
 
 -- the ids of these entries
 abbrev pub ids_of : List Entry → List ℕ

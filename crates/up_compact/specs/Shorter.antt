@@ -24,13 +24,13 @@ is_about among (request.Delete u) id = among u
 is_about among (request.Get u) id = among u
 
 -- the uploads that a request joins: the parts of a final upload to be created
-abbrev pub parts_of : Request → List ℕ
-parts_of request.Options = []
-parts_of (request.Create new) = if is_final_kind new.kind then new.parts else []
-parts_of (request.Head u) = []
-parts_of (request.Patch p) = []
-parts_of (request.Delete u) = []
-parts_of (request.Get u) = []
+abbrev pub joined_uploads : Request → List ℕ
+joined_uploads request.Options = []
+joined_uploads (request.Create new) = if is_final_kind new.kind then new.parts else []
+joined_uploads (request.Head u) = []
+joined_uploads (request.Patch p) = []
+joined_uploads (request.Delete u) = []
+joined_uploads (request.Get u) = []
 
 -- whether an entry is left out when all entries about these uploads are
 abbrev pub is_left_out : (ℕ → Bool) → Entry → Bool
@@ -42,7 +42,7 @@ kept among entries = filter (λ (entry : Entry). not (is_left_out among entry)) 
 
 -- an entry that stays does not join any of these uploads
 abbrev pub JoinsKept : (ℕ → Bool) → Entry → Type 0
-JoinsKept among entry = is_left_out among entry ≡ false → list_any among (parts_of entry.request) ≡ false
+JoinsKept among entry = is_left_out among entry ≡ false → list_any among (joined_uploads entry.request) ≡ false
 
 -- the changes of all other uploads
 abbrev pub changes_without : (ℕ → Bool) → List Accepted → List Accepted
@@ -93,7 +93,7 @@ LogsAreWithout =
 abbrev pub OthersAreDecidedAlike : Type 0
 OthersAreDecidedAlike =
     (among : ℕ → Bool) (s t : State) (r : Request) (id : ℕ) (asked : Asked)
-    → IsWithout among s t → is_about among r id ≡ false → list_any among (parts_of r) ≡ false
+    → IsWithout among s t → is_about among r id ≡ false → list_any among (joined_uploads r) ≡ false
     → decide t r id asked ≡ decide s r id asked
 
 -- ---- uploads that were removed

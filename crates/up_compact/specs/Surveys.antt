@@ -11,12 +11,12 @@ use Rattle.up_log.specs.declared.entry.Entry.{Entry}
 use Rattle.up_compact.specs.declared.joining.Joining.{Joining}
 
 -- whether the set has this id
-abbrev pub has : BTreeSet ℕ → ℕ → Bool
-has ids u = set.contains nat_cmp ids u
+abbrev pub has_id : BTreeSet ℕ → ℕ → Bool
+has_id ids u = set.contains nat_cmp ids u
 
 -- each id of the first set is also in the second
-abbrev pub IsWithin : BTreeSet ℕ → BTreeSet ℕ → Type 0
-IsWithin ids others = (u : ℕ) → has ids u ≡ true → has others u ≡ true
+abbrev pub IsSubset : BTreeSet ℕ → BTreeSet ℕ → Type 0
+IsSubset ids others = (u : ℕ) → has_id ids u ≡ true → has_id others u ≡ true
 
 -- the upload that a request asks to create
 abbrev pub makes_of : Request → ℕ → List ℕ

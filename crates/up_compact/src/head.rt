@@ -1,6 +1,6 @@
 //! Which log is the current one.
 ghost use Rattle.std.specs.Prelude.{◌≡◌, IfOk};
-ghost use Rattle.up_compact.specs.Heads.{batch_of, first_head, head_of, ids_of, numbered};
+ghost use Rattle.up_compact.specs.Heads.{batch_of, first_head, head_of, ids_of, entry_with_number};
 
 use std::alloc::{AllocError, Global};
 use up_events::Id;
@@ -22,7 +22,7 @@ pub struct Head {
 
 /// An entry that asks for nothing, with this number as its id.
 fn entry_of(number: u64) -> Entry
-    ensures { result ≡ numbered number }
+    ensures { result ≡ entry_with_number number }
 {
     Entry {
         id: Id::new(u128::from(number)),

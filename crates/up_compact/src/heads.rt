@@ -2,7 +2,7 @@
 ghost use Rattle.std.specs.Prelude.{◌≡◌, ◌⊎◌, ◌++◌, ◌∷◌, [], List, ℕ, IfOk, OnOk, OnErr, IsTrue};
 ghost use Rattle.up_compact.specs.Heads.{LastHeadHolds, batch_of, first_head, head_after};
 ghost use Rattle.up_log.specs.Blocks.{IsBeforeOrAfter};
-ghost use Rattle.up_log.specs.Logs.{IsCleanLog, IsReading, IsSettled};
+ghost use Rattle.up_log.specs.Logs.{IsCleanLog, IsReaderAt, IsSettled};
 ghost use Rattle.up_log.specs.declared.entry.Entry.{Entry as Logged};
 ghost use Rattle.up_log.specs.declared.setup.Setup.{Setup as Numbers};
 
@@ -29,7 +29,7 @@ impl<D: Disk> Heads<D> {
     where
         D: Drop,
         ensures { (setup : Numbers) (batches : List (List Logged))
-            → IsReading D.Disk reader setup [] batches
+            → IsReaderAt D.Disk reader setup [] batches
             → IfOk result (λ r. IsCleanLog D.Disk r.0.log
             → IsSettled D.Disk r.0.log setup batches × (head_after first_head batches ≡ Some r.1)) }
     {

@@ -1,7 +1,7 @@
 //! A final upload and its parts.
 ghost use Rattle.std.specs.Prelude.{◌≡◌, ◌&&◌, not, [], ◌∷◌, IfOk, MatchOption};
 ghost use Rattle.std.specs.List.{list_any};
-ghost use Rattle.up_compact.specs.Surveys.{has, joinings_of};
+ghost use Rattle.up_compact.specs.Surveys.{has_id, joinings_of};
 
 use std::alloc::{AllocError, Global};
 use std::collections::BTreeSet;
@@ -37,7 +37,7 @@ pub(crate) fn joining_of(alloc: Global, entry: &Entry) -> Result<Option<Joining>
 
 /// Whether any of these uploads is in the set.
 fn has_any(ids: &BTreeSet<Id>, parts: &[Id]) -> bool
-    ensures { result ≡ list_any (has ids.now) parts.now }
+    ensures { result ≡ list_any (has_id ids.now) parts.now }
 {
     parts.iter().any(|part| ids.contains(part))
 }
@@ -45,7 +45,7 @@ fn has_any(ids: &BTreeSet<Id>, parts: &[Id]) -> bool
 /// Whether a final upload would stay while one of its parts is left out.
 pub(crate) fn misses_part(ids: &BTreeSet<Id>, joining: &Joining) -> bool
     ensures { result
-        ≡ (not (has ids.now joining.now.id) && list_any (has ids.now) joining.now.parts) }
+        ≡ (not (has_id ids.now joining.now.id) && list_any (has_id ids.now) joining.now.parts) }
 {
     !ids.contains(&joining.id) && has_any(ids, joining.parts.as_slice())
 }

@@ -2,7 +2,7 @@
 ghost use Rattle.std.specs.Prelude.{◌≡◌, ◌&&◌, not, List, IfOk, OnOk, IsTrue, true};
 ghost use Rattle.std.specs.List.{All};
 ghost use Rattle.up_compact.specs.Shorter.{JoinsKept};
-ghost use Rattle.up_compact.specs.Surveys.{IsWithin, JoinsOnly, has, nothing_seen, saw, saw_all};
+ghost use Rattle.up_compact.specs.Surveys.{IsSubset, JoinsOnly, has_id, nothing_seen, saw, saw_all};
 ghost use Rattle.up_log.specs.declared.entry.Entry.{Entry as Logged};
 
 use crate::joining::{Joining, joining_of, misses_part};
@@ -31,7 +31,7 @@ impl Model for Survey {
 
 /// Removes the ids of parts.
 fn take_out(ids: &mut BTreeSet<Id>, parts: &[Id])
-    ensures { IsWithin ids.new ids.old }
+    ensures { IsSubset ids.new ids.old }
 {
     for part in parts {
         ids.remove(part);
@@ -40,7 +40,7 @@ fn take_out(ids: &mut BTreeSet<Id>, parts: &[Id])
 
 /// Removes the parts of the final uploads that stay.
 fn take_out_parts(ids: &mut BTreeSet<Id>, joinings: &[Joining])
-    ensures { IsWithin ids.new ids.old }
+    ensures { IsSubset ids.new ids.old }
 {
     for joining in joinings {
         if misses_part(ids, joining) {
@@ -51,7 +51,7 @@ fn take_out_parts(ids: &mut BTreeSet<Id>, joinings: &[Joining])
 
 /// Whether no final upload that stays has a part that is left out.
 fn keeps_parts(ids: &BTreeSet<Id>, joinings: &[Joining]) -> bool
-    ensures { IsTrue result → All (JoinsOnly (has ids.now)) joinings.now }
+    ensures { IsTrue result → All (JoinsOnly (has_id ids.now)) joinings.now }
 {
     for joining in joinings {
         if misses_part(ids, joining) {
@@ -63,8 +63,8 @@ fn keeps_parts(ids: &BTreeSet<Id>, joinings: &[Joining]) -> bool
 
 /// Those of these uploads that can be left out: all but the parts of final uploads that stay.
 fn without_parts(ended: BTreeSet<Id>, joinings: &[Joining]) -> BTreeSet<Id>
-    ensures ended { IsWithin result ended }
-    ensures joins { All (JoinsOnly (has result)) joinings.now }
+    ensures ended { IsSubset result ended }
+    ensures joins { All (JoinsOnly (has_id result)) joinings.now }
 {
     let mut ids = ended;
     for _ in 0..joinings.len() {
@@ -122,10 +122,10 @@ impl Survey {
 
     /// Of uploads that were removed, those that can be left out: all but the parts of final uploads that stay.
     pub fn left_out(&self, ended: BTreeSet<Id>) -> BTreeSet<Id>
-        ensures ended { IsWithin result ended }
-        ensures joins { All (JoinsOnly (has result)) self.now.joinings }
+        ensures ended { IsSubset result ended }
+        ensures joins { All (JoinsOnly (has_id result)) self.now.joinings }
         ensures kept { (entries : List Logged) → self.now ≡ saw_all nothing_seen entries
-            → All (JoinsKept (has result)) entries }
+            → All (JoinsKept (has_id result)) entries }
     {
         without_parts(ended, &self.joinings)
     }

@@ -1,7 +1,7 @@
 //! Writing a shorter log while entries are appended to the longer one.
 ghost use Rattle.std.specs.Prelude.{◌≡◌, ◌+◌, ◌^◌, ◌<◌, ◌++◌, [], ℕ, List, length, IfOk, OnOk, IsTrue};
 ghost use Rattle.up_compact.specs.Shorter.{is_left_out, kept};
-ghost use Rattle.up_compact.specs.Surveys.{has};
+ghost use Rattle.up_compact.specs.Surveys.{has_id};
 ghost use Rattle.up_compact.specs.Writing.{HasEntries, IsBehind, carried_out, staying};
 ghost use Rattle.up_log.specs.Blocks.{written};
 ghost use Rattle.up_log.specs.Logs.{IsCleanLog, IsSettled};
@@ -37,7 +37,7 @@ pub struct LeftOut {
 
 /// Whether an entry is about one of these uploads, so that a shorter log leaves it out.
 pub fn is_left_out(uploads: &BTreeSet<Id>, entry: &Entry) -> bool
-    ensures { result ≡ is_left_out (has uploads.now) entry.now }
+    ensures { result ≡ is_left_out (has_id uploads.now) entry.now }
 {
     match &entry.request {
         Request::Options => false,
@@ -58,8 +58,8 @@ fn spell_staying(
 ) -> Result<Vec<Spelled>, AllocError>
     requires { first + length entries.now < 2 ^ 64 }
     ensures { IfOk result (λ spelled. spelled.items
-        ≡ kept (has left_out.now.uploads)
-        (carried_out (has left_out.now.voids) first entries.now)) }
+        ≡ kept (has_id left_out.now.uploads)
+        (carried_out (has_id left_out.now.voids) first entries.now)) }
 {
     let mut spelled = Vec::new(alloc);
     let mut place = first;
@@ -86,13 +86,13 @@ pub fn add_staying<D: Disk>(
     ensures added { (setup : Numbers) (before : List Logged)
         → HasEntries D.Disk shorter.old setup before
         → OnOk result (HasEntries D.Disk shorter.new setup (before
-        ++ kept (has left_out.now.uploads)
-        (carried_out (has left_out.now.voids) progress.count entries.now))) }
+        ++ kept (has_id left_out.now.uploads)
+        (carried_out (has_id left_out.now.voids) progress.count entries.now))) }
     ensures further { IfOk result (λ p. (p.place ≡ next)
         × (p.count ≡ progress.count + length entries.now)) }
     ensures stayed { IfOk result (λ p. p.stayed ≡ progress.stayed
-        + length (kept (has left_out.now.uploads)
-        (carried_out (has left_out.now.voids) progress.count entries.now))) }
+        + length (kept (has_id left_out.now.uploads)
+        (carried_out (has_id left_out.now.voids) progress.count entries.now))) }
 {
     // No log has that many entries.
     let Some(count) = progress.count.checked_add(entries.len() as u64) else {
@@ -137,10 +137,10 @@ pub fn catch_up<D: Disk, S: Disk>(
     ensures added { (setup : Numbers) (read left : List (List Logged))
         → IsSettled D.Disk log.old setup (read ++ left) → IsBehind progress setup read
         → HasEntries S.Disk shorter.old setup
-        (staying (has left_out.now.voids) (has left_out.now.uploads) read)
+        (staying (has_id left_out.now.voids) (has_id left_out.now.uploads) read)
         → IfOk result (λ p. IsCleanLog D.Disk log.new → IsBehind p setup (read ++ left)
         × HasEntries S.Disk shorter.new setup
-        (staying (has left_out.now.voids) (has left_out.now.uploads) (read ++ left))) }
+        (staying (has_id left_out.now.voids) (has_id left_out.now.uploads) (read ++ left))) }
     ensures kept { (setup : Numbers) (batches : List (List Logged))
         → IsSettled D.Disk log.old setup batches → IsSettled D.Disk log.new setup batches }
 {

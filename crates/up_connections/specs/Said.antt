@@ -6,10 +6,10 @@ use Rattle.up_connections.specs.declared.said.Said.{Said}
 use Rattle.up_connections.specs.declared.said.Wants.{Wants}
 
 -- whether a line was printed about a shortage of this kind
-abbrev pub has : Wants → Want → Bool
-has wants (Descriptors code) = wants.descriptors
-has wants (Memory code) = wants.memory
-has wants Threads = wants.threads
+abbrev pub was_said : Wants → Want → Bool
+was_said wants (Descriptors code) = wants.descriptors
+was_said wants (Memory code) = wants.memory
+was_said wants Threads = wants.threads
 
 -- the last line was printed at least a second ago, or none was printed
 abbrev pub IsApart : Said → ℕ → Type 0

@@ -1,15 +1,15 @@
 //! Many connections at a time, each in a thread that serves it alone.
 ghost use Rattle.std.specs.Prelude.{◌≤◌, IfSome};
 
-use crate::door::Door;
+use crate::connection_context::ConnectionContext;
+use crate::connection_limit::ConnectionLimit;
 use crate::ending::{Ending, NOTHING};
 use crate::gate::{Failed, Gate};
-use crate::hall::Hall;
 use crate::notices::{Entrance, Notices, Want};
 use crate::patience::Patience;
 use crate::pool::Pool;
 use crate::seats::Seats;
-use crate::visit::attend;
+use crate::visit::serve_connection;
 use crate::watch::Watch;
 use std::alloc::{AllocError, Global};
 use std::marker::{Send, Sync};
@@ -42,11 +42,11 @@ pub struct Visits<'a, N, S> {
     pub service: &'a S,
 }
 
-/// Serves a connection, and then others as they are handed over. The door counts each out when it has ended.
+/// Serves a connection, and then others as they are handed over. The limit counts each out when it has ended.
 fn serve_in_turn<B: Naming, I: Ids, S: Service, T: Wait>(
     rt: &T,
     alloc: Global,
-    hall: &Hall<'_, B, I>,
+    context: &ConnectionContext<'_, B, I>,
     hooks: &PreHooks,
     service: &S,
     first: TcpStream,
@@ -56,10 +56,10 @@ fn serve_in_turn<B: Naming, I: Ids, S: Service, T: Wait>(
         let Some(stream) = next else {
             break;
         };
-        hall.begin();
-        attend(rt, alloc, hall, hooks, service, stream);
-        hall.end(rt);
-        next = hall.pool.next(rt);
+        context.begin();
+        serve_connection(rt, alloc, context, hooks, service, stream);
+        context.end(rt);
+        next = context.pool.next(rt);
     }
 }
 
@@ -76,16 +76,16 @@ fn let_in<
     scope: &Scope<'s, E>,
     rt: &'s T,
     alloc: Global,
-    hall: &'s Hall<'s, B, I>,
+    context: &'s ConnectionContext<'s, B, I>,
     hooks: &'s PreHooks,
     service: &'s S,
     stream: TcpStream,
 ) -> Result<(), Failed> {
-    let Some(stream) = hall.pool.hand(rt, stream) else {
+    let Some(stream) = context.pool.hand(rt, stream) else {
         return Ok(());
     };
     let visit = move || {
-        serve_in_turn(rt, alloc, hall, hooks, service, stream);
+        serve_in_turn(rt, alloc, context, hooks, service, stream);
     };
     match Builder::new().stack_size(STACK).spawn_scoped(scope, visit) {
         Ok(_) => Ok(()),
@@ -95,20 +95,24 @@ fn let_in<
 
 /// Waits until fewer than `most` connections are open, opens one, and returns how many are open then. `None` if the run
 /// ends first.
-fn enter<B: Naming, I, T: Wait>(rt: &T, hall: &Hall<'_, B, I>, most: u64) -> Option<u64>
+fn acquire<B: Naming, I, T: Wait>(
+    rt: &T,
+    context: &ConnectionContext<'_, B, I>,
+    most: u64,
+) -> Option<u64>
     ensures { IfSome result (λ count. 1 ≤ count) }
 {
-    let Some(ending) = hall.ending else {
-        return Some(hall.door.enter(rt, most));
+    let Some(ending) = context.ending else {
+        return Some(context.limit.acquire(rt, most));
     };
     for _ in rt.forever() {
-        if !ending.goes_on(rt, hall.board) {
+        if !ending.goes_on(rt, context.board) {
             return None;
         }
-        if let Some(told) = hall.door.try_enter(rt, most) {
-            return Some(told);
+        if let Some(open_count) = context.limit.try_acquire(rt, most) {
+            return Some(open_count);
         }
-        hall.door.pause(rt, most);
+        context.limit.back_off(rt, most);
         ending.look();
     }
     unreachable!()
@@ -116,15 +120,15 @@ fn enter<B: Naming, I, T: Wait>(rt: &T, hall: &Hall<'_, B, I>, most: u64) -> Opt
 
 /// For a run with an ending: waits until every connection has ended. If the run ends first, nothing more is read from
 /// any of them.
-fn see_out<B: Naming, I, T: Wait>(rt: &T, hall: &Hall<'_, B, I>) {
-    let Some(ending) = hall.ending else {
+fn see_out<B: Naming, I, T: Wait>(rt: &T, context: &ConnectionContext<'_, B, I>) {
+    let Some(ending) = context.ending else {
         return;
     };
     for _ in rt.forever() {
-        if hall.door.is_empty(rt) {
+        if context.limit.is_empty(rt) {
             break;
         }
-        if !ending.goes_on(rt, hall.board) {
+        if !ending.goes_on(rt, context.board) {
             ending.shut(rt);
             break;
         }
@@ -147,32 +151,32 @@ fn accept_all<
     scope: &Scope<'s, E>,
     rt: &'s T,
     alloc: Global,
-    hall: &'s Hall<'s, B, I>,
+    context: &'s ConnectionContext<'s, B, I>,
     hooks: &'s PreHooks,
     listener: &TcpListener,
     visits: &Visits<'s, N, S>,
 ) {
-    let mut gate = Gate::new(listener, visits.notices, hall.ending.is_some());
+    let mut gate = Gate::new(listener, visits.notices, context.ending.is_some());
     for _ in 0..visits.connections.unwrap_or(u64::MAX) {
-        let Some(told) = enter(rt, hall, visits.open) else {
+        let Some(open_count) = acquire(rt, context, visits.open) else {
             gate.shut();
             break;
         };
-        let came = match gate.accept(rt, hall) {
-            Ok(stream) => let_in(scope, rt, alloc, hall, hooks, visits.service, stream),
+        let came = match gate.accept(rt, context) {
+            Ok(stream) => let_in(scope, rt, alloc, context, hooks, visits.service, stream),
             Err(failed) => Err(failed),
         };
         match came {
             Ok(()) => gate.open(),
-            Err(Failed::Passing) => hall.door.leave(rt),
+            Err(Failed::Passing) => context.limit.release(rt),
             Err(Failed::Over) => {
                 gate.shut();
-                hall.door.leave(rt);
+                context.limit.release(rt);
                 break;
             }
             Err(Failed::Lasting(entrance)) => {
                 let is_told = gate.tell(entrance);
-                hall.door.leave_in_want(rt, told);
+                context.limit.release_and_back_off(rt, open_count);
                 if is_told && matches!(entrance, Entrance::Gone(_)) {
                     break;
                 }
@@ -180,8 +184,8 @@ fn accept_all<
         }
     }
     gate.leave();
-    hall.pool.close(rt);
-    see_out(rt, hall);
+    context.pool.close(rt);
+    see_out(rt, context);
 }
 
 /// Accepts connections in a scope of threads, and returns when the last one has ended.
@@ -195,13 +199,13 @@ fn serve_in<
 >(
     rt: &'x T,
     alloc: Global,
-    hall: &'x Hall<'x, B, I>,
+    context: &'x ConnectionContext<'x, B, I>,
     hooks: &'x PreHooks,
     listener: &'x TcpListener,
     visits: &'x Visits<'x, N, S>,
 ) {
     thread::scope(thread::scope_env(), rt, |scope| {
-        accept_all(scope, rt, alloc, hall, hooks, listener, visits);
+        accept_all(scope, rt, alloc, context, hooks, listener, visits);
     });
 }
 
@@ -209,14 +213,14 @@ fn serve_in<
 fn is_ready<B: Naming, I, S: Service, T: Wait>(
     rt: &T,
     alloc: Global,
-    hall: &Hall<'_, B, I>,
+    context: &ConnectionContext<'_, B, I>,
     service: &S,
 ) -> bool {
-    let Some(seat) = hall.seats.take(rt, hall.board) else {
+    let Some(seat) = context.seats.pop(rt, context.board) else {
         return false;
     };
-    let (seat, is_ready) = service.begin(rt, alloc, hall.board, seat);
-    hall.seats.put_back(rt, seat);
+    let (seat, is_ready) = service.begin(rt, alloc, context.board, seat);
+    context.seats.put_back(rt, seat);
     is_ready
 }
 
@@ -241,9 +245,9 @@ pub fn serve_connections<
     listener: &TcpListener,
     visits: &Visits<'_, N, S>,
 ) -> Result<Vec<Seat<B>>, AllocError> {
-    let hall = Hall {
+    let context = ConnectionContext {
         board,
-        door: Door::new(),
+        limit: ConnectionLimit::new(),
         pool: Pool::new(alloc)?,
         patience: visits.patience,
         watch: visits.watch,
@@ -251,8 +255,8 @@ pub fn serve_connections<
         ids: Mutex::new(ids),
         seats: Seats::new(alloc, visits.open)?,
     };
-    if is_ready(rt, alloc, &hall, visits.service) {
-        serve_in(rt, alloc, &hall, hooks, listener, visits);
+    if is_ready(rt, alloc, &context, visits.service) {
+        serve_in(rt, alloc, &context, hooks, listener, visits);
     }
-    Ok(hall.seats.into_inner())
+    Ok(context.seats.into_inner())
 }

@@ -1,5 +1,5 @@
 //! Accepting connections at a listener.
-use crate::hall::Hall;
+use crate::connection_context::ConnectionContext;
 use crate::notices::{Entrance, Notices, Want};
 use std::io;
 use std::net::{TcpListener, TcpStream};
@@ -94,12 +94,12 @@ impl<'a, N: Notices> Gate<'a, N> {
     pub fn accept<B: Naming, I, R: Wait>(
         &mut self,
         rt: &R,
-        hall: &Hall<'_, B, I>,
+        context: &ConnectionContext<'_, B, I>,
     ) -> Result<TcpStream, Failed> {
         for _ in rt.forever() {
-            if let Some(ending) = hall.ending {
+            if let Some(ending) = context.ending {
                 ending.wait(self.listener.as_raw_fd());
-                if !ending.goes_on(rt, hall.board) {
+                if !ending.goes_on(rt, context.board) {
                     return Err(Failed::Over);
                 }
             }
@@ -108,7 +108,7 @@ impl<'a, N: Notices> Gate<'a, N> {
                 Err(error) if error.kind() == io::ErrorKind::WouldBlock => {
                     self.open();
                     if !self.is_shared {
-                        hall.door.pause(rt, 0);
+                        context.limit.back_off(rt, 0);
                     }
                 }
                 Err(error) => return Err(why(&error)),

@@ -6,13 +6,13 @@ use std::sync::{Mutex, Wait};
 use std::time::Duration;
 
 /// How many threads may wait for a connection. One more ends instead of waiting.
-const MOST_WAITING: usize = 64;
+const MAX_WAITING: usize = 64;
 
 /// How many seconds a thread sleeps before it checks whether it was handed a connection without being woken.
 const SLEEP: u64 = 1;
 
 /// How many times a thread sleeps before it ends.
-const MOST_SLEEPS: u32 = 3;
+const MAX_SLEEPS: u32 = 3;
 
 /// Connections that no thread has taken yet, and how many threads wait for one. There are never more connections than
 /// waiting threads.
@@ -36,7 +36,7 @@ impl Pool {
     /// No thread waits. All of its memory is allocated here. The error is that it ran out.
     pub fn new(alloc: Global) -> Result<Pool, AllocError> {
         let handed = Mutex::new(Handed {
-            streams: Vec::with_capacity(alloc, MOST_WAITING)?,
+            streams: Vec::with_capacity(alloc, MAX_WAITING)?,
             waiting: 0,
             is_closed: false,
         });
@@ -64,7 +64,7 @@ impl Pool {
     /// within some seconds.
     pub fn next<R: Wait>(&self, rt: &R) -> Option<TcpStream> {
         let mut seen = self.enter(rt)?;
-        for _ in 0..MOST_SLEEPS {
+        for _ in 0..MAX_SLEEPS {
             self.news.park_timeout(rt, seen, Duration::from_secs(SLEEP));
             let mut handed = self.handed.lock(rt);
             if let Some(stream) = handed.streams.pop() {
@@ -91,7 +91,7 @@ impl Pool {
     /// One more thread waits. Returns what `told` does. `None` if the pool is closed, or if enough threads wait.
     fn enter<R: Wait>(&self, rt: &R) -> Option<u32> {
         let mut handed = self.handed.lock(rt);
-        if handed.is_closed || handed.waiting >= MOST_WAITING {
+        if handed.is_closed || handed.waiting >= MAX_WAITING {
             return None;
         }
         handed.waiting += 1;

@@ -1,6 +1,6 @@
 //! When a line is printed about accepting connections.
 ghost use Rattle.std.specs.Prelude.{◌≡◌, ◌≢◌, ◌↔◌, ℤ, IsTrue, true, false, Some};
-ghost use Rattle.up_connections.specs.Said.{has, IsApart};
+ghost use Rattle.up_connections.specs.Said.{was_said, IsApart};
 ghost use Rattle.up_connections.specs.declared.notices.Entrance.TheVariants.{Gone, Wanting};
 ghost use Rattle.up_connections.specs.declared.notices.Want.{Want};
 ghost use Rattle.up_connections.specs.declared.said.Due.TheVariants.{Say};
@@ -39,7 +39,7 @@ const NO_WANTS: Wants = Wants {
 impl Wants {
     /// Whether the kind of this shortage is among them.
     fn has(self, want: Want) -> bool
-        ensures { result ≡ has self want }
+        ensures { result ≡ was_said self want }
     {
         match want {
             Want::Descriptors(_) => self.descriptors,
@@ -50,7 +50,7 @@ impl Wants {
 
     /// These kinds, and that of this shortage.
     fn with(self, want: Want) -> Wants
-        ensures { has result want ≡ true }
+        ensures { was_said result want ≡ true }
     {
         match want {
             Want::Descriptors(_) => Wants {
@@ -116,9 +116,10 @@ impl Said {
     /// over.
     pub fn note(&mut self, entrance: Entrance, now: u64) -> Due
         ensures apart { result ≡ Say → IsApart self.old now }
-        ensures news { (want : Want) → entrance ≡ Wanting want → has self.old.wants want ≡ false
-            → IsApart self.old now → (result ≡ Say) × (has self.new.wants want ≡ true) }
-        ensures once { (want : Want) → entrance ≡ Wanting want → has self.old.wants want ≡ true
+        ensures news { (want : Want) → entrance ≡ Wanting want
+            → was_said self.old.wants want ≡ false
+            → IsApart self.old now → (result ≡ Say) × (was_said self.new.wants want ≡ true) }
+        ensures once { (want : Want) → entrance ≡ Wanting want → was_said self.old.wants want ≡ true
             → (result ≢ Say) × (self.new.wants ≡ self.old.wants) }
         ensures gone { (code : ℤ) → entrance ≡ Gone code → IsApart self.old now → result ≡ Say }
         ensures said { result ≡ Say → self.new.at ≡ Some now }

@@ -31,7 +31,7 @@ impl<B: Naming> Seats<B> {
     }
 
     /// A seat that was given back, or else a new one of the board. `None` if the board has given out all its seats.
-    pub fn take<R: Wait>(&self, rt: &R, board: &Board<B>) -> Option<Seat<B>> {
+    pub fn pop<R: Wait>(&self, rt: &R, board: &Board<B>) -> Option<Seat<B>> {
         let back = self.back.lock(rt).pop();
         match back {
             Some(seat) => Some(seat),

@@ -1,5 +1,5 @@
 //! One connection.
-use crate::hall::Hall;
+use crate::connection_context::ConnectionContext;
 use crate::patience::{Pace, Reading, Writing, milliseconds};
 use std::alloc::Global;
 use std::io::{self, BufReader, BufWriter, Read};
@@ -7,7 +7,7 @@ use std::net::{Shutdown, TcpStream};
 use std::sync::Wait;
 use std::time::Duration;
 use up_dispatch::{Ended, Exchange, Ids, Naming, Seat, Service, SharedIds};
-use up_events::MOST_BYTES;
+use up_events::MAX_UPLOAD_BYTES;
 use up_hooks::PreHooks;
 use up_wire::{Input, Output};
 
@@ -26,37 +26,40 @@ const DROPPED: usize = 8192;
 const LINGERING: u64 = 2000;
 
 /// How many times bytes are read and dropped of a connection that is being closed.
-const MOST_DROPPED: usize = MOST_BYTES as usize / DROPPED;
+const MAX_DROPPED: usize = MAX_UPLOAD_BYTES as usize / DROPPED;
 
 /// Serves a connection from a seat. An error means that the connection can't be set up, or that memory ran out for its
 /// buffers. Nothing was served then.
-fn talk<'x, B: Naming, I: Ids, S: Service, T: Wait>(
+fn serve_stream<'x, B: Naming, I: Ids, S: Service, T: Wait>(
     rt: &'x T,
     alloc: Global,
-    hall: &'x Hall<'x, B, I>,
+    context: &'x ConnectionContext<'x, B, I>,
     hooks: &PreHooks,
     service: &S,
     seat: &mut Seat<B>,
     stream: &'x TcpStream,
 ) -> io::Result<Ended> {
     stream.set_nodelay(true)?;
-    hall.patience.set_on(stream)?;
-    let pace = &Pace::new(hall.patience);
+    context.patience.set_on(stream)?;
+    let pace = &Pace::new(context.patience);
     let reading = Reading {
         stream,
         pace,
-        ending: hall.ending,
+        ending: context.ending,
     };
     let writing = Writing { stream, pace };
     let mut source = Input::new(BufReader::with_capacity(alloc, READ_BUFFER, reading)?);
     let mut sink = Output::new(BufWriter::with_capacity(alloc, WRITE_BUFFER, writing)?);
-    let mut ids = SharedIds { rt, ids: &hall.ids };
+    let mut ids = SharedIds {
+        rt,
+        ids: &context.ids,
+    };
     let mut exchange = Exchange {
         ids: &mut ids,
         source: &mut source,
         sink: &mut sink,
     };
-    Ok(service.converse(rt, alloc, hall.board, seat, hooks, &mut exchange))
+    Ok(service.converse(rt, alloc, context.board, seat, hooks, &mut exchange))
 }
 
 /// Closes a connection after its last answer. Bytes that the client has sent, or still sends, are read and dropped. If
@@ -68,7 +71,7 @@ fn close(stream: &TcpStream) -> io::Result<()> {
     let mut dropped = [0; DROPPED];
     let mut unheard = stream;
     let begun = milliseconds();
-    for _ in 0..MOST_DROPPED {
+    for _ in 0..MAX_DROPPED {
         let left = LINGERING.saturating_sub(milliseconds().saturating_sub(begun));
         if left == 0 {
             break;
@@ -83,19 +86,19 @@ fn close(stream: &TcpStream) -> io::Result<()> {
 
 /// Serves a connection from a seat, which it takes and puts back, and closes the connection. If no seat is free, or if
 /// the connection can't be set up, it is closed without an answer, and nothing changes for others.
-pub fn attend<B: Naming, I: Ids, S: Service, T: Wait>(
+pub fn serve_connection<B: Naming, I: Ids, S: Service, T: Wait>(
     rt: &T,
     alloc: Global,
-    hall: &Hall<'_, B, I>,
+    context: &ConnectionContext<'_, B, I>,
     hooks: &PreHooks,
     service: &S,
     stream: TcpStream,
 ) {
-    if let Some(mut seat) = hall.seats.take(rt, hall.board) {
-        hall.begin_reading(rt, &stream);
-        let ended = talk(&*rt, alloc, &*hall, hooks, service, &mut seat, &stream);
-        hall.end_reading(rt, &stream);
-        hall.seats.put_back(rt, seat);
+    if let Some(mut seat) = context.seats.pop(rt, context.board) {
+        context.begin_reading(rt, &stream);
+        let ended = serve_stream(&*rt, alloc, &*context, hooks, service, &mut seat, &stream);
+        context.end_reading(rt, &stream);
+        context.seats.put_back(rt, seat);
         if matches!(ended, Ok(Ended::Closed)) {
             let _ = close(&stream);
         }

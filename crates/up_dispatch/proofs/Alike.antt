@@ -6,7 +6,7 @@ use Rattle.up_headers.specs.declared.request.Request.TheVariants as request
 use Rattle.up_wire.specs.Device.{Device}
 use Rattle.up_wire.specs.declared.taken.Taken.{Taken}
 use Rattle.up_message.specs.declared.response.Response.{Response}
-use Rattle.up_dispatch.specs.Turn.{Answering, Converses, IsAnswered, IsCutCarriedOut, IsServed, Passes, Stand, TakesTurn}
+use Rattle.up_dispatch.specs.Turn.{Answering, Converses, IsAnswered, IsCutCarriedOut, IsServed, TurnsLeadTo, ConversationState, TakesTurn}
 use Rattle.up_dispatch.specs.declared.conversation.Ended.{Ended}
 
 module _ {C : Type 0} (a b : Answering C)
@@ -36,22 +36,22 @@ module _ {C : Type 0} (a b : Answering C)
   served Taken.End max_size is_last old new before after ended is = is
 
   turn :
-      (max_size : ℕ) (is_last : Bool) (old new : Stand C) (ended : Option Ended) → TakesTurn a max_size is_last old new ended
+      (max_size : ℕ) (is_last : Bool) (old new : ConversationState C) (ended : Option Ended) → TakesTurn a max_size is_last old new ended
       → TakesTurn b max_size is_last old new ended
   turn max_size is_last old new ended is = record {
     taken = is.taken;
     sink = is.sink;
     is_reading = is.is_reading;
-    is_served = served is.taken max_size is_last old.course new.course is.sink new.sink ended is.is_served;
+    is_served = served is.taken max_size is_last old.keeper_state new.keeper_state is.sink new.sink ended is.is_served;
   }
 
-  passes : (max_size turns : ℕ) (old new : Stand C) → Passes a max_size turns old new → Passes b max_size turns old new
-  unfolding Passes
+  passes : (max_size turns : ℕ) (old new : ConversationState C) → TurnsLeadTo a max_size turns old new → TurnsLeadTo b max_size turns old new
+  unfolding TurnsLeadTo
   passes max_size zero old new is = is
   passes max_size (suc turns) old new is = (is.0, passes max_size turns old is.0 is.1, turn max_size _ is.0 new _ is.2)
 
   pub converses_alike :
-      (max_size : ℕ) (old new : Stand C) (ended : Ended) → Converses a max_size old new ended → Converses b max_size old new ended
+      (max_size : ℕ) (old new : ConversationState C) (ended : Ended) → Converses a max_size old new ended → Converses b max_size old new ended
   converses_alike max_size old new ended is = record {
     turns = is.turns;
     last = is.last;

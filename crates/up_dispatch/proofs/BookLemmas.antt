@@ -8,7 +8,7 @@ use Rattle.up_headers.specs.declared.request.Request.TheVariants as request
 use Rattle.up_machine.proofs.PlanLemmas.{refusals_kept}
 use Rattle.up_machine.specs.Asks.{ask_of}
 use Rattle.up_machine.specs.Content.{Content, is_complete, patched}
-use Rattle.up_machine.specs.Decision.{Answers, decide, decide_plan, new_content, patch_completes, planned_rows, plan_to_create, plan_to_remove, plan_to_take, response_to, unless}
+use Rattle.up_machine.specs.Decision.{IsExpectedOrNoMemory, decide, decide_plan, new_content, patch_completes, planned_rows, plan_to_create, plan_to_remove, plan_to_take, response_to, unless}
 use Rattle.up_machine.specs.State.{State}
 use Rattle.up_machine.specs.declared.ask.Ask.{Ask}
 use Rattle.up_machine.specs.declared.ask.Point.TheVariants as point
@@ -21,11 +21,11 @@ use Rattle.up_machine.specs.declared.refusal.Refusal.{Refusal}
 use Rattle.up_machine.specs.declared.refusal.Refusal.TheVariants as refusal
 use Rattle.up_message.specs.Refused.{out_of_memory}
 use Rattle.up_message.specs.declared.response.Response.{Response}
-use Rattle.up_dispatch.specs.Answering.{Answered, Course, Serves, Tells}
+use Rattle.up_dispatch.specs.Answering.{Answered, KeeperState, Serves, IsResponseTo}
 use Rattle.up_dispatch.specs.ByBook.{IsAnsweredTo, IsCommitted, IsOutcome}
-use Rattle.up_dispatch.specs.Counts.{Counts}
-use Rattle.up_dispatch.specs.Keepers.{BookLeaves, by_book}
-use Rattle.up_dispatch.specs.Keeps.{CommitsAsAsked, Follows, Gives, IsAsked}
+use Rattle.up_dispatch.specs.Counts.{CountsIds}
+use Rattle.up_dispatch.specs.Keepers.{BookIsMadeOrUnchanged, by_book}
+use Rattle.up_dispatch.specs.Keeps.{CommitsAsAsked, Follows, ClosureAnswers, IsAsked}
 use Rattle.up_dispatch.specs.Replies.{IsReply}
 
 -- ---- a plan with a response is the decision
@@ -97,47 +97,47 @@ wanting : (response : Response) → IsReply out_of_memory response → response 
 wanting response (inl e) = e
 wanting response (inr e) = e
 
-module _ (gives : Gives) (s t : State) (asks : Request) (id : ℕ) (response : Response) where
+module _ (gives : ClosureAnswers) (s t : State) (asks : Request) (id : ℕ) (response : Response) where
   by_decision :
-      (result : Result Done Refusal) → IsCommitted gives s asks id result → BookLeaves s asks id t result → Tells result response
+      (result : Result Done Refusal) → IsCommitted gives s asks id result → BookIsMadeOrUnchanged s asks id t result → IsResponseTo result response
       → IsOutcome gives s asks id response t
   by_decision (Ok done) committed leaves tells = inl (Ok done, committed, (tells, leaves))
   by_decision (Err r) committed leaves (inl tells) = inl (Err r, committed, (tells, leaves))
   by_decision (Err r) committed leaves (inr wants) = inr (wants, leaves)
 
   by_want :
-      (result : Result Done Refusal) → result ≡ Err refusal.NoMemory → BookLeaves s asks id t result → Tells result response
+      (result : Result Done Refusal) → result ≡ Err refusal.NoMemory → BookIsMadeOrUnchanged s asks id t result → IsResponseTo result response
       → IsOutcome gives s asks id response t
   by_want result is leaves tells =
-      inr (wanting response (subst (λ r. Tells r response) is tells), subst (BookLeaves s asks id t) is leaves)
+      inr (wanting response (subst (λ r. IsResponseTo r response) is tells), subst (BookIsMadeOrUnchanged s asks id t) is leaves)
 
   by_commit :
-      (asked : Asked) (result : Result Done Refusal) → IsAsked gives (decide_plan s asks) asked → Answers result (decide s asks id asked)
-      → BookLeaves s asks id t result → Tells result response → IsOutcome gives s asks id response t
+      (asked : Asked) (result : Result Done Refusal) → IsAsked gives (decide_plan s asks) asked → IsExpectedOrNoMemory result (decide s asks id asked)
+      → BookIsMadeOrUnchanged s asks id t result → IsResponseTo result response → IsOutcome gives s asks id response t
   by_commit asked result is (inl e) leaves tells = by_decision result (asked, is, e) leaves tells
   by_commit asked result is (inr wants) leaves tells = by_want result wants.0 leaves tells
 
   -- the plan is that of the decision, and the closures were asked what it says
   by_asking :
       (p : Plan) (result : Result Done Refusal) → Ok p ≡ decide_plan s asks → CommitsAsAsked (by_book gives) s asks id p result t
-      → Tells result response → IsOutcome gives s asks id response t
+      → IsResponseTo result response → IsOutcome gives s asks id response t
   by_asking p result e commits tells =
       by_commit commits.0 result (subst (λ (r : Result Plan Refusal). IsAsked gives r commits.0) e commits.1) commits.2.0 commits.2.1 tells
 
   by_plan :
-      (planned : Result Plan Refusal) (result : Result Done Refusal) → Answers planned (decide_plan s asks)
-      → Follows (by_book gives) s asks id planned result t → Tells result response → IsOutcome gives s asks id response t
+      (planned : Result Plan Refusal) (result : Result Done Refusal) → IsExpectedOrNoMemory planned (decide_plan s asks)
+      → Follows (by_book gives) s asks id planned result t → IsResponseTo result response → IsOutcome gives s asks id response t
   by_plan (Err r) result (inl e) follows tells =
       by_decision (Err r)
       (Skipped, subst (λ (p : Result Plan Refusal). IsAsked gives p Skipped) e refl, sym (refusals_kept s asks id Skipped r (sym e)))
-      follows.1 (subst (λ x. Tells x response) follows.0 tells)
+      follows.1 (subst (λ x. IsResponseTo x response) follows.0 tells)
   by_plan (Err r) result (inr wants) follows tells =
       let h : r ≡ refusal.NoMemory = let e = wants.0 in cc in
-      by_want result (follows.0 ∙ ap Err h) (subst (BookLeaves s asks id t) (sym follows.0) follows.1) tells
+      by_want result (follows.0 ∙ ap Err h) (subst (BookIsMadeOrUnchanged s asks id t) (sym follows.0) follows.1) tells
   by_plan (Ok (plan.Answer r)) result (inl e) follows tells =
       by_decision (Ok (unchanged r))
       (Skipped, subst (λ (p : Result Plan Refusal). IsAsked gives p Skipped) e refl, plan_is_decision s asks id r e)
-      follows.1 (subst (λ x. Tells x response) follows.0 tells)
+      follows.1 (subst (λ x. IsResponseTo x response) follows.0 tells)
   by_plan (Ok (plan.Ask ask)) result (inl e) follows tells = by_asking (plan.Ask ask) result e follows tells
   by_plan (Ok (plan.AskBoth first second)) result (inl e) follows tells = by_asking (plan.AskBoth first second) result e follows tells
   by_plan (Ok plan.Ready) result (inl e) follows tells = by_asking plan.Ready result e follows tells
@@ -148,14 +148,14 @@ module _ (gives : Gives) (s t : State) (asks : Request) (id : ℕ) (response : R
 
 -- ---- with counted ids
 
-module _ (gives : Gives) (old new : Course State ℕ) where
+module _ (gives : ClosureAnswers) (old new : KeeperState State ℕ) where
   answered :
-      (asks : Request) (response : Response) (is : Serves (by_book gives) Counts old new asks response)
+      (asks : Request) (response : Response) (is : Serves (by_book gives) CountsIds old new asks response)
       → IsOutcome gives old.state asks is.id response new.state
   answered asks response is = by_lent gives old.state new.state asks is.id response is.answered
 
   pub exact :
-      (asks : Request) (response : Response) → Serves (by_book gives) Counts old new asks response
+      (asks : Request) (response : Response) → Serves (by_book gives) CountsIds old new asks response
       → IsAnsweredTo gives old new asks response
   exact request.Options response is = record { answer = answered request.Options response is; ids = is.takes.1 }
   exact (request.Create made) response is = record {

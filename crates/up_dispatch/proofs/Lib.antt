@@ -3,7 +3,7 @@ pub mod BookLemmas
 pub mod Borrowed
 pub mod Drops
 pub mod Each
-pub mod Feeding
+pub mod QueueCursors
 pub mod Filling
 pub mod Handing
 pub mod HistoryLemmas

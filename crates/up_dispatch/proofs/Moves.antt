@@ -12,15 +12,15 @@ use Rattle.up_events.proofs.HistoryLemmas.{log_of-snoc}
 use Rattle.up_headers.specs.declared.request.Request.{Request}
 use Rattle.up_machine.specs.Fits.{IsSoundBook}
 use Rattle.up_machine.specs.State.{State, after}
-use Rattle.up_queue.specs.Sides.{QueueId, PutSide}
-use Rattle.up_dispatch.specs.declared.feed.Feed.{Feed}
+use Rattle.up_queue.specs.EndViews.{QueueId, PutEndView}
+use Rattle.up_dispatch.specs.declared.queue_cursor.QueueCursor.{QueueCursor}
 use Rattle.up_dispatch.specs.Lists.{EachAt}
-use Rattle.up_dispatch.specs.Fed.{IsFed}
+use Rattle.up_dispatch.specs.QueuedUpTo.{IsQueuedUpTo}
 use Rattle.up_dispatch.specs.Commits.{changed}
 use Rattle.up_dispatch.specs.Puts.{no_end, end_at, Extends, FillsOnly, IsFilled}
-use Rattle.up_dispatch.specs.Standing.{ends_of, IsLawfulBoard}
+use Rattle.up_dispatch.specs.BoardView.{ends_of, IsLawfulBoard}
 use Rattle.up_dispatch.proofs.Each.{EachAt-weaker}
-use Rattle.up_dispatch.proofs.Feeding.{fed_grown}
+use Rattle.up_dispatch.proofs.QueueCursors.{queued_grown}
 use Rattle.up_dispatch.proofs.Prefixes.{extends_same}
 
 get_map : {X Y : Type 0} (f : X → Y) (xs : List X) (i : ℕ) (d : X) (e : Y) → i < length xs → get_or (map f xs) i e ≡ f (get_or xs i d)
@@ -28,41 +28,41 @@ get_map f [] i d e within = absurd (omega arith)
 get_map f (x ∷ xs) zero d e within = refl
 get_map f (x ∷ xs) (suc i) d e within = get_map f xs i d e (omega arith)
 
-abbrev end_of : Feed → PutSide
+abbrev end_of : QueueCursor → PutEndView
 end_of f = f.put_end
 
 -- the end of the lane's feed
-pub end_is : (feeds : List Feed) (lane : ℕ) (feed : Feed) → lane < length feeds → feed ≡ get_or feeds lane feed → end_at (ends_of feeds) lane ≡ feed.put_end
-end_is feeds lane feed within is = get_map end_of feeds lane feed no_end within ∙ ap end_of (sym is)
+pub end_is : (cursors : List QueueCursor) (lane : ℕ) (cursor : QueueCursor) → lane < length cursors → cursor ≡ get_or cursors lane cursor → end_at (ends_of cursors) lane ≡ cursor.put_end
+end_is cursors lane cursor within is = get_map end_of cursors lane cursor no_end within ∙ ap end_of (sym is)
 
-pub end_set : (feeds : List Feed) (lane : ℕ) (new : Feed) → lane < length feeds → end_at (ends_of (set feeds lane new)) lane ≡ new.put_end
-end_set feeds lane new within = ap (λ l. get_or l lane no_end) (map-set end_of feeds lane new) ∙ get_or-set_same (map end_of feeds) lane (end_of new) no_end (omega (arith, length-map feeds end_of))
+pub end_set : (cursors : List QueueCursor) (lane : ℕ) (new : QueueCursor) → lane < length cursors → end_at (ends_of (set cursors lane new)) lane ≡ new.put_end
+end_set cursors lane new within = ap (λ l. get_or l lane no_end) (map-set end_of cursors lane new) ∙ get_or-set_same (map end_of cursors) lane (end_of new) no_end (omega (arith, length-map cursors end_of))
 
-pub fills_only : (feeds : List Feed) (lane : ℕ) (old new : Feed) → lane < length feeds → old ≡ get_or feeds lane old → Extends old.put_end new.put_end
-    → FillsOnly (ends_of feeds) (ends_of (set feeds lane new)) lane
-fills_only feeds lane old new within is extends =
-    let moved : ends_of (set feeds lane new) ≡ set (ends_of feeds) lane (end_of new) = map-set end_of feeds lane new in
-    let was = end_is feeds lane old within is in
+pub fills_only : (cursors : List QueueCursor) (lane : ℕ) (old new : QueueCursor) → lane < length cursors → old ≡ get_or cursors lane old → Extends old.put_end new.put_end
+    → FillsOnly (ends_of cursors) (ends_of (set cursors lane new)) lane
+fills_only cursors lane old new within is extends =
+    let moved : ends_of (set cursors lane new) ≡ set (ends_of cursors) lane (end_of new) = map-set end_of cursors lane new in
+    let was = end_is cursors lane old within is in
     record {
-      count = ap length moved ∙ length-set (ends_of feeds) lane (end_of new);
-      own = subst (λ e. Extends e (end_at (ends_of (set feeds lane new)) lane)) (sym was) (subst (λ e. Extends (end_of old) e) (sym (end_set feeds lane new within)) extends);
-      others = λ k ne. ap (λ l. get_or l k no_end) moved ∙ get_or-set_other (ends_of feeds) lane k (end_of new) no_end ne;
+      count = ap length moved ∙ length-set (ends_of cursors) lane (end_of new);
+      own = subst (λ e. Extends e (end_at (ends_of (set cursors lane new)) lane)) (sym was) (subst (λ e. Extends (end_of old) e) (sym (end_set cursors lane new within)) extends);
+      others = λ k ne. ap (λ l. get_or l k no_end) moved ∙ get_or-set_other (ends_of cursors) lane k (end_of new) no_end ne;
     }
 
-pub fills_extends : (old new : List PutSide) (lane : ℕ) → FillsOnly old new lane → (k : ℕ) → Extends (end_at old k) (end_at new k)
+pub fills_extends : (old new : List PutEndView) (lane : ℕ) → FillsOnly old new lane → (k : ℕ) → Extends (end_at old k) (end_at new k)
 fills_extends old new lane fills k =
     ⊎_elim (λ (e : k ≡ lane). subst (λ (n : ℕ). Extends (end_at old n) (end_at new n)) (sym e) fills.own)
-    (λ (ne : k ≢ lane). subst (λ (e : PutSide). Extends (end_at old k) e) (sym (fills.others k ne)) (extends_same (end_at old k)))
+    (λ (ne : k ≢ lane). subst (λ (e : PutEndView). Extends (end_at old k) e) (sym (fills.others k ne)) (extends_same (end_at old k)))
     (cases_eq k lane)
 
 -- one change more, while changes are accepted
 abbrev with_change : State → Accepted → State
 with_change s c = record s { journal = noted s.journal c }
 
-pub lawful_change : (queue : ℕ → QueueId) (count limit : ℕ) (s t : State) (c : Accepted) (feeds : List Feed) (given total parts amount : ℕ) → IsLawfulBoard queue count limit s feeds given total parts amount → s.closed ≡ false
+pub lawful_change : (queue : ℕ → QueueId) (count limit : ℕ) (s t : State) (c : Accepted) (cursors : List QueueCursor) (given total parts amount : ℕ) → IsLawfulBoard queue count limit s cursors given total parts amount → s.closed ≡ false
     → IsSoundBook t → t.journal ≡ noted s.journal c → t.closed ≡ s.closed → t.max_size ≡ s.max_size
-    → IsLawfulBoard queue count limit t feeds given (total + 1) parts amount
-lawful_change queue count limit s t c feeds given total parts amount lawful going sound noted_is same size =
+    → IsLawfulBoard queue count limit t cursors given (total + 1) parts amount
+lawful_change queue count limit s t c cursors given total parts amount lawful going sound noted_is same size =
     let lanes : t.journal.lanes ≡ s.journal.lanes = ap (λ j. j.lanes) noted_is in
     record {
       sound = sound;
@@ -70,14 +70,14 @@ lawful_change queue count limit s t c feeds given total parts amount lawful goin
       sized = size ∙ lawful.sized;
       some = subst (λ n. 0 < n) (sym lanes) lawful.some;
       lanes = lawful.lanes ∙ sym lanes;
-      fed = EachAt-weaker (λ k (f : Feed). IsFed (queue k) (lane_log s.journal k) s.closed f) (λ k (f : Feed). IsFed (queue k) (lane_log t.journal k) t.closed f) feeds lawful.fed
+      queued = EachAt-weaker (λ k (f : QueueCursor). IsQueuedUpTo (queue k) (lane_log s.journal k) s.closed f) (λ k (f : QueueCursor). IsQueuedUpTo (queue k) (lane_log t.journal k) t.closed f) cursors lawful.queued
           (λ k f within was.
           let more : List Event = cond (eqb (id_of c % s.journal.lanes) k) (numbered (id_of c) (length (events_of s.journal.accepted (id_of c))) (steps_of s.journal.accepted c)) [] in
           let log : lane_log t.journal k ≡ lane_log s.journal k ++ more = ap (λ j. lane_log j k) noted_is ∙ log_of-snoc s.journal.lanes s.journal.accepted c k in
-          subst (λ l. IsFed (queue k) l t.closed f) (sym log)
-          (subst (λ b. IsFed (queue k) (lane_log s.journal k ++ more) b f) (sym (same ∙ going))
-          (fed_grown (queue k) (lane_log s.journal k) more f (subst (λ b. IsFed (queue k) (lane_log s.journal k) b f) going was))));
-      behind = subst (λ (j : Records). EachAt (λ k (f : Feed). first_of j k ≤ f.cursor) feeds) (sym noted_is) lawful.behind;
+          subst (λ l. IsQueuedUpTo (queue k) l t.closed f) (sym log)
+          (subst (λ b. IsQueuedUpTo (queue k) (lane_log s.journal k ++ more) b f) (sym (same ∙ going))
+          (queued_grown (queue k) (lane_log s.journal k) more f (subst (λ b. IsQueuedUpTo (queue k) (lane_log s.journal k) b f) going was))));
+      behind = subst (λ (j : Records). EachAt (λ k (f : QueueCursor). first_of j k ≤ f.position) cursors) (sym noted_is) lawful.behind;
       counted = omega (arith, lawful.counted, length-append s.journal.accepted (c ∷ []), ap (λ j. length j.accepted) noted_is);
       seats = lawful.seats;
       most = lawful.most;
@@ -85,16 +85,16 @@ lawful_change queue count limit s t c feeds given total parts amount lawful goin
     }
 
 -- a book with what a request changed, or as it was
-pub lawful_after : (queue : ℕ → QueueId) (count limit : ℕ) (s t : State) (request : Request) (id : ℕ) (change : Option Accepted) (feeds : List Feed) (given total parts amount : ℕ) → IsLawfulBoard queue count limit s feeds given total parts amount
+pub lawful_after : (queue : ℕ → QueueId) (count limit : ℕ) (s t : State) (request : Request) (id : ℕ) (change : Option Accepted) (cursors : List QueueCursor) (given total parts amount : ℕ) → IsLawfulBoard queue count limit s cursors given total parts amount
     → (change ≢ None → s.closed ≡ false) → IsSoundBook t → t ≡ after s request id change
-    → IsLawfulBoard queue count limit t feeds given (total + changed change) parts amount
-lawful_after queue count limit s t request id None feeds given total parts amount lawful open_if sound is =
-    subst (λ n. IsLawfulBoard queue count limit t feeds given n parts amount) (omega arith) (subst (λ (u : State). IsLawfulBoard queue count limit u feeds given total parts amount) (sym is) lawful)
-lawful_after queue count limit s t request id (Some c) feeds given total parts amount lawful open_if sound is =
-    lawful_change queue count limit s t c feeds given total parts amount lawful (open_if (λ e. cc)) sound (ap (λ (u : State). u.journal) is) (ap (λ (u : State). u.closed) is) (ap (λ (u : State). u.max_size) is)
+    → IsLawfulBoard queue count limit t cursors given (total + changed change) parts amount
+lawful_after queue count limit s t request id None cursors given total parts amount lawful open_if sound is =
+    subst (λ n. IsLawfulBoard queue count limit t cursors given n parts amount) (omega arith) (subst (λ (u : State). IsLawfulBoard queue count limit u cursors given total parts amount) (sym is) lawful)
+lawful_after queue count limit s t request id (Some c) cursors given total parts amount lawful open_if sound is =
+    lawful_change queue count limit s t c cursors given total parts amount lawful (open_if (λ e. cc)) sound (ap (λ (u : State). u.journal) is) (ap (λ (u : State). u.closed) is) (ap (λ (u : State). u.max_size) is)
 
 -- one lane more is filled
-pub filled_more : (s t : State) → t ≡ s → (old new : List PutSide) (lane : ℕ) → ((k : ℕ) → k < lane → IsFilled s k (end_at old k)) → FillsOnly old new lane → IsFilled s lane (end_at new lane)
+pub filled_more : (s t : State) → t ≡ s → (old new : List PutEndView) (lane : ℕ) → ((k : ℕ) → k < lane → IsFilled s k (end_at old k)) → FillsOnly old new lane → IsFilled s lane (end_at new lane)
     → (k : ℕ) → k < lane + 1 → IsFilled t k (end_at new k)
 filled_more s t same old new lane before fills here k less =
     subst (λ (u : State). IsFilled u k (end_at new k)) (sym same)

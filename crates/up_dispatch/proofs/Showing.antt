@@ -4,14 +4,14 @@ use Rattle.std.proofs.lemmas.List.{length-map}
 use Rattle.up_events.specs.Records.{lane_log}
 use Rattle.up_machine.specs.Fits.{IsSoundBook}
 use Rattle.up_machine.specs.State.{State, recalled}
-use Rattle.up_queue.specs.Sides.{QueueId, PutSide}
-use Rattle.up_dispatch.specs.declared.feed.Feed.{Feed}
+use Rattle.up_queue.specs.EndViews.{QueueId, PutEndView}
+use Rattle.up_dispatch.specs.declared.queue_cursor.QueueCursor.{QueueCursor}
 use Rattle.up_dispatch.specs.Lists.{EachAt}
-use Rattle.up_dispatch.specs.Fed.{IsFed}
+use Rattle.up_dispatch.specs.QueuedUpTo.{IsQueuedUpTo}
 use Rattle.up_dispatch.specs.Reports.{IsRefusedFor}
 use Rattle.up_dispatch.specs.declared.finish.FinishFault.{FinishFault}
 use Rattle.up_dispatch.specs.declared.finish.FinishFault.TheVariants as finish
-use Rattle.up_dispatch.specs.Standing.{standing, IsPutOf, IsLawfulBoard, IsLawfulStanding}
+use Rattle.up_dispatch.specs.BoardView.{board_view, IsPrefixOfLog, IsLawfulBoard, IsLawfulBoardView}
 
 at_map : {X Y : Type 0} (f : X → Y) (xs : List X) (k : ℕ) (e : Y) → k < length xs → (x : X) × (get_or (map f xs) k e ≡ f x) × ((d : X) → get_or xs k d ≡ x)
 at_map f [] k e within = absurd (omega arith)
@@ -29,14 +29,14 @@ module _ {X Y : Type 0} (f : X → Y) (P : ℕ → X → Type 0) (Q : ℕ → Y 
 pub recalled_sound : (book : State) → IsSoundBook book → IsSoundBook (recalled book)
 recalled_sound book sound = record { legal = sound.legal; fits = sound.fits; small = sound.small }
 
-pub standing_lawful : (queue : ℕ → QueueId) (count limit : ℕ) (book : State) (feeds : List Feed) (given total parts amount : ℕ) → IsLawfulBoard queue count limit book feeds given total parts amount → IsLawfulStanding queue count limit (standing book feeds given total)
-standing_lawful queue count limit book feeds given total parts amount lawful = record {
+pub board_view_lawful : (queue : ℕ → QueueId) (count limit : ℕ) (book : State) (cursors : List QueueCursor) (given total parts amount : ℕ) → IsLawfulBoard queue count limit book cursors given total parts amount → IsLawfulBoardView queue count limit (board_view book cursors given total)
+board_view_lawful queue count limit book cursors given total parts amount lawful = record {
   sound = recalled_sound book lawful.sound;
   named = lawful.named;
   sized = lawful.sized;
-  lanes = length-map feeds (λ (f : Feed). f.put_end) ∙ lawful.lanes;
-  queues = EachAt-map (λ (f : Feed). f.put_end) (λ k (f : Feed). IsFed (queue k) (lane_log book.journal k) book.closed f) (λ k (e : PutSide). e.queue ≡ queue k) feeds lawful.fed (λ k f fed. fed.queue_is);
-  puts = EachAt-map (λ (f : Feed). f.put_end) (λ k (f : Feed). IsFed (queue k) (lane_log book.journal k) book.closed f) (λ k (e : PutSide). IsPutOf book k e) feeds lawful.fed (λ k f fed. (f.cursor, f.ended, fed.put_is, fed.within, fed.whole));
+  lanes = length-map cursors (λ (f : QueueCursor). f.put_end) ∙ lawful.lanes;
+  queues = EachAt-map (λ (f : QueueCursor). f.put_end) (λ k (f : QueueCursor). IsQueuedUpTo (queue k) (lane_log book.journal k) book.closed f) (λ k (e : PutEndView). e.queue ≡ queue k) cursors lawful.queued (λ k f queued. queued.queue_is);
+  puts = EachAt-map (λ (f : QueueCursor). f.put_end) (λ k (f : QueueCursor). IsQueuedUpTo (queue k) (lane_log book.journal k) book.closed f) (λ k (e : PutEndView). IsPrefixOfLog book k e) cursors lawful.queued (λ k f queued. (f.position, f.ended, queued.put_is, queued.within, queued.whole));
   counted = lawful.counted;
 }
 

@@ -1,23 +1,23 @@
 -- Turns in a row, and that the last one ends a conversation.
 use Rattle.std.proofs.Common.{◌≡◌, ℕ, zero, suc, eqb, true, add-one, ◌+◌, ◌≤◌, Bool, Option, Some, None, List, refl, sym, subst, ⊎_elim, ◌<◌, arith}
 use Rattle.std.proofs.lemmas.Bool.{cases_lt, eq-eqb}
-use Rattle.up_dispatch.specs.Turn.{Answering, IsFaultSent, IsServed, Sends, Stand, TakesTurn, Passes, unanswered}
+use Rattle.up_dispatch.specs.Turn.{Answering, IsFaultSent, IsServed, Sends, ConversationState, TakesTurn, TurnsLeadTo, unanswered}
 use Rattle.up_dispatch.specs.declared.conversation.Ended.{Ended}
 use Rattle.up_wire.specs.Device.{Device}
 use Rattle.up_wire.specs.Response.{response_text}
 use Rattle.up_wire.specs.declared.taken.Taken.{Taken}
 use Rattle.up_wire.specs.declared.wire_fault.WireFault.{WireFault}
 
-pub no_passes : {C : Type 0} (answers : Answering C) (max_size : ℕ) (stand : Stand C) → Passes answers max_size 0 stand stand
-unfolding Passes
-no_passes answers max_size stand = refl
+pub no_passes : {C : Type 0} (answers : Answering C) (max_size : ℕ) (conversation_state : ConversationState C) → TurnsLeadTo answers max_size 0 conversation_state conversation_state
+unfolding TurnsLeadTo
+no_passes answers max_size conversation_state = refl
 
 pub passes_more :
-    {C : Type 0} (answers : Answering C) (max_size turns : ℕ) (old mid new : Stand C) → Passes answers max_size turns old mid
-    → TakesTurn answers max_size (eqb (turns + 1) 10000) mid new None → Passes answers max_size (turns + 1) old new
-unfolding Passes
+    {C : Type 0} (answers : Answering C) (max_size turns : ℕ) (old mid new : ConversationState C) → TurnsLeadTo answers max_size turns old mid
+    → TakesTurn answers max_size (eqb (turns + 1) 10000) mid new None → TurnsLeadTo answers max_size (turns + 1) old new
+unfolding TurnsLeadTo
 passes_more answers max_size turns old mid new before turn =
-    subst (λ n. Passes answers max_size n old new) (sym (add-one turns)) (mid, before, turn)
+    subst (λ n. TurnsLeadTo answers max_size n old new) (sym (add-one turns)) (mid, before, turn)
 
 -- an answer that closes the conversation ends it
 closing_sent : (before after : Device) (text : List ℕ) → Sends before after text true None → ⊥
@@ -41,9 +41,9 @@ last_served answers Taken.End max_size old new before after served = let ended =
 
 -- so no more turns than there may be go before the last one
 pub passes_few :
-    {C : Type 0} (answers : Answering C) (max_size turns : ℕ) (old new : Stand C) → 10000 ≤ turns → Passes answers max_size turns old new
+    {C : Type 0} (answers : Answering C) (max_size turns : ℕ) (old new : ConversationState C) → 10000 ≤ turns → TurnsLeadTo answers max_size turns old new
     → ⊥
-unfolding Passes
+unfolding TurnsLeadTo
 passes_few answers max_size zero old new least passes = absurd (omega arith)
 passes_few answers max_size (suc turns) old new least passes =
     ⊎_elim
@@ -51,5 +51,5 @@ passes_few answers max_size (suc turns) old new least passes =
     (λ (most : turns + 1 ≤ 10000).
     let all : turns + 1 ≡ 10000 = omega arith in
     let turn = subst (λ b. TakesTurn answers max_size b passes.0 new None) (eq-eqb (turns + 1) 10000 all) passes.2 in
-    last_served answers turn.taken max_size passes.0.course new.course turn.sink new.sink turn.is_served)
+    last_served answers turn.taken max_size passes.0.keeper_state new.keeper_state turn.sink new.sink turn.is_served)
     (cases_lt 10000 (turns + 1))

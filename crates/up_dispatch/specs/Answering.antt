@@ -10,13 +10,13 @@ use Rattle.up_dispatch.specs.Keeps.{Keeping, Keeps}
 use Rattle.up_dispatch.specs.Replies.{IsReply}
 
 -- the answer to a request: the response of what was done, or the reply to the refusal
-abbrev pub Tells : Result Done Refusal → Response → Type 0
-Tells (Ok done) response = response ≡ done.response
-Tells (Err refusal) response = IsReply (response_of refusal) response
+abbrev pub IsResponseTo : Result Done Refusal → Response → Type 0
+IsResponseTo (Ok done) response = response ≡ done.response
+IsResponseTo (Err refusal) response = IsReply (response_of refusal) response
 
 -- a request gets one plan and at most one commit, and the result is answered
 abbrev pub Answered : {S : Type 0} → Keeping S → S → Request → ℕ → Response → S → Type 0
-Answered k s request id response t = (result : Result Done Refusal) × Keeps k s request id result t × Tells result response
+Answered k s request id response t = (result : Result Done Refusal) × Keeps k s request id result t × IsResponseTo result response
 
 -- what a source of ids may give: the source before the call, the id, and the source after it
 abbrev pub Drawing : Type 0 → Type 1
@@ -32,16 +32,16 @@ TakesId draws d (request.Delete u) id e = (id ≡ 0) × (e ≡ d)
 TakesId draws d (request.Get u) id e = (id ≡ 0) × (e ≡ d)
 
 -- what is known of the keeper, and the source of ids
-pub record Course (S D : Type 0) : Type 0 where
+pub record KeeperState (S D : Type 0) : Type 0 where
   pub state : S
   pub ids : D
 
-abbrev pub course : {S D : Type 0} → S → D → Course S D
-course state ids = record { state = state; ids = ids }
+abbrev pub keeper_state : {S D : Type 0} → S → D → KeeperState S D
+keeper_state state ids = record { state = state; ids = ids }
 
 -- a request is answered with the id that it takes
 pub record Serves {S D : Type 0} (k : Keeping S) (draws : Drawing D)
-    (old new : Course S D) (request : Request) (response : Response) : Type 0 where
+    (old new : KeeperState S D) (request : Request) (response : Response) : Type 0 where
   pub id : ℕ
   pub takes : TakesId draws old.ids request id new.ids
   pub answered : Answered k old.state request id response new.state

@@ -1,14 +1,14 @@
 -- A conversation as its exchange shows it.
 use Rattle.std.specs.Prelude.{◌≡◌}
-use Rattle.up_dispatch.specs.Answering.{Course, course}
-use Rattle.up_dispatch.specs.Turn.{Stand, stand}
+use Rattle.up_dispatch.specs.Answering.{KeeperState, keeper_state}
+use Rattle.up_dispatch.specs.Turn.{ConversationState, conversation_state}
 use Rattle.up_dispatch.specs.declared.exchange.Exchange.{Exchange}
 use Rattle.up_wire.specs.Device.{Device}
 
 -- the state of the keeper, the ids, and the devices of the source and the sink
-abbrev pub stand_in : {S I R W : Type 0} → (R → Device) → (W → Device) → S → Exchange I R W → Stand (Course S I)
+abbrev pub stand_in : {S I R W : Type 0} → (R → Device) → (W → Device) → S → Exchange I R W → ConversationState (KeeperState S I)
 stand_in source sink state exchange =
-    stand (course state exchange.ids.now) (source exchange.source.now) (sink exchange.sink.now)
+    conversation_state (keeper_state state exchange.ids.now) (source exchange.source.now) (sink exchange.sink.now)
 
 -- the exchange still holds the same three borrows
 abbrev pub KeepsBorrows : {I R W : Type 0} → Exchange I R W → Exchange I R W → Type 0

@@ -1,43 +1,43 @@
 -- What a keeper's plans and commits may be.
 use Rattle.std.specs.Prelude.{◌≡◌, ◌≤◌, ℕ, Result, Ok, Err, length}
 use Rattle.up_headers.specs.declared.request.Request.{Request}
-use Rattle.up_machine.specs.Decision.{Answers, decide, decide_plan}
+use Rattle.up_machine.specs.Decision.{IsExpectedOrNoMemory, decide, decide_plan}
 use Rattle.up_machine.specs.State.{State, after}
 use Rattle.up_machine.specs.declared.plan.Done.{Done}
 use Rattle.up_machine.specs.declared.refusal.Refusal.{Refusal}
-use Rattle.up_queue.specs.Sides.{QueueId}
-use Rattle.up_dispatch.specs.Commits.{CommitsTo}
-use Rattle.up_dispatch.specs.Keeps.{Committing, Gives, Keeping, Planning, keeping}
-use Rattle.up_dispatch.specs.Standing.{Standing, IsLawfulStanding}
+use Rattle.up_queue.specs.EndViews.{QueueId}
+use Rattle.up_dispatch.specs.Commits.{IsCommitOf}
+use Rattle.up_dispatch.specs.Keeps.{Committing, ClosureAnswers, Keeping, Planning, keeping}
+use Rattle.up_dispatch.specs.BoardView.{BoardView, IsLawfulBoardView}
 
 -- the plans of a book
 abbrev pub BookPlans : Planning State
-BookPlans s request result = Answers result (decide_plan s request)
+BookPlans s request result = IsExpectedOrNoMemory result (decide_plan s request)
 
 -- what a commit leaves of a book: the change is carried out, or nothing changes
-abbrev pub BookLeaves : State → Request → ℕ → State → Result Done Refusal → Type 0
-BookLeaves s request id t (Ok done) = t ≡ after s request id done.change
-BookLeaves s request id t (Err refusal) = t ≡ s
+abbrev pub BookIsMadeOrUnchanged : State → Request → ℕ → State → Result Done Refusal → Type 0
+BookIsMadeOrUnchanged s request id t (Ok done) = t ≡ after s request id done.change
+BookIsMadeOrUnchanged s request id t (Err refusal) = t ≡ s
 
 -- the commits of a book
 abbrev pub BookCommits : Committing State
-BookCommits s request id asked t result = Answers result (decide s request id asked) × BookLeaves s request id t result
+BookCommits s request id asked t result = IsExpectedOrNoMemory result (decide s request id asked) × BookIsMadeOrUnchanged s request id t result
 
 -- a book as a keeper
-abbrev pub by_book : Gives → Keeping State
+abbrev pub by_book : ClosureAnswers → Keeping State
 by_book gives = keeping BookPlans BookCommits gives
 
 -- the plans of some lawful board with this many lanes and this size limit, which has all changes made from the seat
 abbrev pub SeatPlans : (ℕ → QueueId) → ℕ → ℕ → Planning ℕ
 SeatPlans queue lanes max_size count request result =
-    (s : Standing) × IsLawfulStanding queue lanes max_size s × (count ≤ length s.book.journal.accepted)
-    × Answers result (decide_plan s.book request)
+    (s : BoardView) × IsLawfulBoardView queue lanes max_size s × (count ≤ length s.book.journal.accepted)
+    × IsExpectedOrNoMemory result (decide_plan s.book request)
 
 -- the commits of such a board
 abbrev pub SeatCommits : (ℕ → QueueId) → ℕ → ℕ → Committing ℕ
 SeatCommits queue lanes max_size count request id asked after_it result =
-    (old : Standing) × (new : Standing) × CommitsTo queue lanes max_size old new count after_it request id asked result
+    (old : BoardView) × (new : BoardView) × IsCommitOf queue lanes max_size old new count after_it request id asked result
 
 -- a seat of such a board as a keeper
-abbrev pub by_seat : (ℕ → QueueId) → ℕ → ℕ → Gives → Keeping ℕ
+abbrev pub by_seat : (ℕ → QueueId) → ℕ → ℕ → ClosureAnswers → Keeping ℕ
 by_seat queue lanes max_size gives = keeping (SeatPlans queue lanes max_size) (SeatCommits queue lanes max_size) gives

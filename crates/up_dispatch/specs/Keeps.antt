@@ -19,26 +19,26 @@ abbrev pub Committing : Type 0 → Type 1
 Committing S = S → Request → ℕ → Asked → S → Result Done Refusal → Type 0
 
 -- what the closures together may answer to a question
-abbrev pub Gives : Type 1
-Gives = Ask → Asked → Type 0
+abbrev pub ClosureAnswers : Type 1
+ClosureAnswers = Ask → Asked → Type 0
 
 -- the plans and the commits of a keeper, and the answers of the closures
 pub record Keeping (S : Type 0) : Type 1 where
   pub plans : Planning S
   pub commits : Committing S
-  pub gives : Gives
+  pub gives : ClosureAnswers
 
-abbrev pub keeping : {S : Type 0} → Planning S → Committing S → Gives → Keeping S
+abbrev pub keeping : {S : Type 0} → Planning S → Committing S → ClosureAnswers → Keeping S
 keeping plans commits gives = record { plans = plans; commits = commits; gives = gives }
 
 -- the answer to the first question if it is a refusal, else the answer to the second
-abbrev pub AreAskedInTurn : Gives → Ask → Ask → Asked → Type 0
+abbrev pub AreAskedInTurn : ClosureAnswers → Ask → Ask → Asked → Type 0
 AreAskedInTurn gives first second asked =
     (gives first asked × (is_refusal asked ≡ true))
     ⊎ ((passed : Asked) × gives first passed × (is_refusal passed ≡ false) × gives second asked)
 
 -- the answer of the closures to the questions of a plan; `Skipped` if there is none
-abbrev pub IsAsked : Gives → Result Plan Refusal → Asked → Type 0
+abbrev pub IsAsked : ClosureAnswers → Result Plan Refusal → Asked → Type 0
 IsAsked gives (Ok (plan.Answer response)) asked = asked ≡ Skipped
 IsAsked gives (Ok (plan.Ask ask)) asked = gives ask asked
 IsAsked gives (Ok (plan.AskBoth first second)) asked = AreAskedInTurn gives first second asked

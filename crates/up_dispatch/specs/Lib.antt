@@ -3,7 +3,7 @@ pub mod ByBook
 pub mod Commits
 pub mod Counts
 pub mod Exchanges
-pub mod Fed
+pub mod QueuedUpTo
 pub mod Idle
 pub mod Keepers
 pub mod Keeps
@@ -13,8 +13,8 @@ pub mod Parts
 pub mod Puts
 pub mod Replies
 pub mod Reports
-pub mod Standing
-pub mod StandingCode
+pub mod BoardView
+pub mod BoardViewCode
 pub mod Turn
 pub mod Tied
 pub mod TiedCode

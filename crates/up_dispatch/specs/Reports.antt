@@ -24,8 +24,8 @@ pub record TellsUploads (lanes : ℕ) (accepted : List Accepted) (lane : ℕ) (h
   pub all : drained ≡ true → (u : ℕ) → u % lanes ≡ lane → handed_of handed u ≡ events_of accepted u
 
 -- each lane once, in ascending order
-abbrev pub IsInOrder : {X : Type 0} → (X → ℕ) → ℕ → List X → Type 0
-IsInOrder lane count xs = (length xs ≡ count) × EachAt (λ k x. lane x ≡ k) xs
+abbrev pub AreLanesInOrder : {X : Type 0} → (X → ℕ) → ℕ → List X → Type 0
+AreLanesInOrder lane count xs = (length xs ≡ count) × EachAt (λ k x. lane x ≡ k) xs
 
 -- each lane handed over a prefix of its log of the accepted changes, all of it if it is drained
 abbrev pub HandOver : {H : Type 0} → (H → List Event) → ℕ → List Accepted → List (LaneReport H) → Type 0

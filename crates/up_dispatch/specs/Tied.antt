@@ -5,23 +5,23 @@ use Rattle.up_log.specs.declared.entry.Entry.{Entry}
 use Rattle.up_machine.specs.State.{State}
 use Rattle.up_machine.specs.declared.plan.Done.{Done}
 use Rattle.up_machine.specs.declared.refusal.Refusal.{Refusal}
-use Rattle.up_queue.specs.Sides.{QueueId}
+use Rattle.up_queue.specs.EndViews.{QueueId}
 use Rattle.up_replay.specs.Replay.{asked_of}
-use Rattle.up_dispatch.specs.Commits.{CommitsTo}
-use Rattle.up_dispatch.specs.Standing.{Standing}
+use Rattle.up_dispatch.specs.Commits.{IsCommitOf}
+use Rattle.up_dispatch.specs.BoardView.{BoardView}
 
 -- the board, the entries that it follows, and whether it follows them still
 pub record Tied : Type 0 where
-  pub board : Standing
+  pub board : BoardView
   pub follows : Following
   pub is_tied : Bool
 
-abbrev pub tied : Standing → Following → Bool → Tied
+abbrev pub tied : BoardView → Following → Bool → Tied
 tied board follows is_tied = record { board = board; follows = follows; is_tied = is_tied }
 
 -- for each entry it is known whether it was carried out, and as long as the board follows the entries, its book is the
 -- one that they define
-abbrev pub IsTied : ℕ → ℕ → Standing → Following → Bool → Type 0
+abbrev pub IsTied : ℕ → ℕ → BoardView → Following → Bool → Type 0
 IsTied lanes max_size board follows is_tied =
     (length follows.carried ≡ length follows.entries) × (is_tied ≡ true → IsBookOf lanes max_size follows board.book)
 
@@ -38,6 +38,6 @@ IsDecidedAt lanes max_size place book =
 -- their order
 abbrev pub CommitsAt : (ℕ → QueueId) → ℕ → ℕ → ℕ → ℕ → Entry → ℕ → Result Done Refusal → Type 0
 CommitsAt queue lanes max_size place count entry after_it result =
-    (old : Standing) × (new : Standing)
-    × CommitsTo queue lanes max_size old new count after_it entry.request entry.id (asked_of entry.consent) result
+    (old : BoardView) × (new : BoardView)
+    × IsCommitOf queue lanes max_size old new count after_it entry.request entry.id (asked_of entry.consent) result
     × IsDecidedAt lanes max_size place old.book

@@ -1,12 +1,12 @@
 -- The answer to one message, the state after it, and a conversation turn by turn.
 use Rattle.std.specs.Prelude.{◌≡◌, ℕ, zero, suc, ◌+◌, ◌==◌, ◌||◌, Bool, true, false, List, Option, Some, None, Result, Ok, Err}
 use Rattle.std.specs.Io.KnownBytes.{Appends}
-use Rattle.up_headers.specs.Table.{IsAnswer}
+use Rattle.up_headers.specs.Table.{IsRequestOf}
 use Rattle.up_headers.specs.declared.header_fault.HeaderFault.{HeaderFault}
 use Rattle.up_headers.specs.declared.request.Request.{Request}
 use Rattle.up_headers.specs.declared.request.Request.TheVariants as request
 use Rattle.up_dispatch.specs.Replies.{IsReply, reply_to_header_fault, reply_to_wire_fault}
-use Rattle.up_dispatch.specs.declared.conversation.TheConstants.{MOST_MESSAGES}
+use Rattle.up_dispatch.specs.declared.conversation.TheConstants.{MAX_MESSAGES}
 use Rattle.up_dispatch.specs.declared.conversation.Ended.{Ended}
 use Rattle.up_dispatch.specs.declared.conversation.Ended.TheVariants.{Closed, Cut, ReadFailed, WriteFailed}
 use Rattle.up_wire.specs.Device.{Device, GaveUp, interrupted}
@@ -30,7 +30,7 @@ IsAnswered answers old new response (Ok request) = answers old new request respo
 -- the message is read as a request, the request is decided, and that is answered
 abbrev pub IsTurn : {C : Type 0} → Answering C → Message → ℕ → C → C → Response → Type 0
 IsTurn answers m max_size old new response =
-    (read : Result Request HeaderFault) × IsAnswer m max_size read × IsAnswered answers old new response read
+    (read : Result Request HeaderFault) × IsRequestOf m max_size read × IsAnswered answers old new response read
 
 -- an append is carried out, and its answer is dropped; no other request is carried out
 abbrev pub IsCutCarriedOut : {C : Type 0} → Answering C → C → C → Result Request HeaderFault → Type 0
@@ -45,7 +45,7 @@ IsCutCarriedOut answers old new (Ok (request.Get u)) = new ≡ old
 -- a message that broke off is read as a request, and carried out if it is an append
 abbrev pub IsCutTurn : {C : Type 0} → Answering C → Message → ℕ → C → C → Type 0
 IsCutTurn answers m max_size old new =
-    (read : Result Request HeaderFault) × IsAnswer m max_size read × IsCutCarriedOut answers old new read
+    (read : Result Request HeaderFault) × IsRequestOf m max_size read × IsCutCarriedOut answers old new read
 
 -- the whole text was written, and the conversation is closed or goes on; or a prefix of it was written, and no more can
 -- be
@@ -87,31 +87,31 @@ IsServed answers (Taken.Fault fault bare) max_size is_last old new before after 
 IsServed answers Taken.End max_size is_last old new before after ended = (new ≡ old) × (after ≡ before) × (ended ≡ Some Closed)
 
 -- the state of a conversation: what answers requests, the source that is read, and the sink that is written
-pub record Stand (C : Type 0) : Type 0 where
-  pub course : C
+pub record ConversationState (C : Type 0) : Type 0 where
+  pub keeper_state : C
   pub source : Device
   pub sink : Device
 
-abbrev pub stand : {C : Type 0} → C → Device → Device → Stand C
-stand course source sink = record { course = course; source = source; sink = sink }
+abbrev pub conversation_state : {C : Type 0} → C → Device → Device → ConversationState C
+conversation_state keeper_state source sink = record { keeper_state = keeper_state; source = source; sink = sink }
 
 -- a message, a part of one, a fault or the end is taken from the input, and served
 pub record TakesTurn {C : Type 0} (answers : Answering C) (max_size : ℕ) (is_last : Bool)
-    (old new : Stand C) (ended : Option Ended) : Type 0 where
+    (old new : ConversationState C) (ended : Option Ended) : Type 0 where
   pub taken : Taken
   pub sink : Device
   pub is_reading : IsReading max_size old.source new.source old.sink sink taken
-  pub is_served : IsServed answers taken max_size is_last old.course new.course sink new.sink ended
+  pub is_served : IsServed answers taken max_size is_last old.keeper_state new.keeper_state sink new.sink ended
 
 -- this many turns led from one state to the other, and none of them ended the conversation
-unfoldable pub Passes : {C : Type 0} → Answering C → ℕ → ℕ → Stand C → Stand C → Type 0
-Passes {C = C} answers max_size zero old new = old ≡ new
-Passes {C = C} answers max_size (suc turns) old new =
-    (mid : Stand C) × Passes answers max_size turns old mid × TakesTurn answers max_size (turns + 1 == MOST_MESSAGES) mid new None
+unfoldable pub TurnsLeadTo : {C : Type 0} → Answering C → ℕ → ℕ → ConversationState C → ConversationState C → Type 0
+TurnsLeadTo {C = C} answers max_size zero old new = old ≡ new
+TurnsLeadTo {C = C} answers max_size (suc turns) old new =
+    (mid : ConversationState C) × TurnsLeadTo answers max_size turns old mid × TakesTurn answers max_size (turns + 1 == MAX_MESSAGES) mid new None
 
 -- turns follow each other until one ends the conversation, at the latest the 10,000th
-pub record Converses {C : Type 0} (answers : Answering C) (max_size : ℕ) (old new : Stand C) (ended : Ended) : Type 0 where
+pub record Converses {C : Type 0} (answers : Answering C) (max_size : ℕ) (old new : ConversationState C) (ended : Ended) : Type 0 where
   pub turns : ℕ
-  pub last : Stand C
-  pub passes : Passes answers max_size turns old last
-  pub ends : TakesTurn answers max_size (turns + 1 == MOST_MESSAGES) last new (Some ended)
+  pub last : ConversationState C
+  pub passes : TurnsLeadTo answers max_size turns old last
+  pub ends : TakesTurn answers max_size (turns + 1 == MAX_MESSAGES) last new (Some ended)

@@ -1,14 +1,14 @@
 //! Answers a request: plans it, asks the closures, and commits it.
 ghost use Rattle.std.specs.Prelude.{◌≡◌, Ok};
 ghost use Rattle.up_headers.specs.Table.{FitsWithin};
-ghost use Rattle.up_hooks.specs.Gives.{ClosuresGive};
+ghost use Rattle.up_hooks.specs.MayAnswer.{ClosuresMayAnswer};
 ghost use Rattle.up_dispatch.specs.Answering.{Answered};
 ghost use Rattle.up_dispatch.specs.Keeps.{IsAsked, Keeps, keeping};
 
 use crate::keeper::Keeper;
 use crate::reply::reply_to_refusal;
 use std::alloc::Global;
-use up_events::{Id, MOST_BYTES};
+use up_events::{Id, MAX_UPLOAD_BYTES};
 use up_headers::Request;
 use up_hooks::PreHooks;
 use up_machine::{Asked, Done, Plan, Refusal};
@@ -17,7 +17,7 @@ use up_message::Response;
 /// What the closures answer to the questions of a plan. If there are two questions, the second is asked only if no
 /// closure refuses at the first. If there is none, the result is `Skipped`.
 fn ask_as_planned(hooks: &PreHooks, plan: &Plan) -> Asked
-    ensures { IsAsked (ClosuresGive hooks.now) (Ok plan.now) result }
+    ensures { IsAsked (ClosuresMayAnswer hooks.now) (Ok plan.now) result }
 {
     match plan {
         Plan::Answer(_) | Plan::Ready => Asked::Skipped,
@@ -43,8 +43,8 @@ fn carry_out<K: Keeper>(
     request: Request,
     id: Id,
 ) -> Result<Done, Refusal>
-    requires bounded { FitsWithin MOST_BYTES request }
-    ensures kept { Keeps (keeping K.plans K.commits (ClosuresGive hooks.now))
+    requires bounded { FitsWithin MAX_UPLOAD_BYTES request }
+    ensures kept { Keeps (keeping K.plans K.commits (ClosuresMayAnswer hooks.now))
         (K.state keeper.old) request id result (K.state keeper.new) }
     ensures lender { K.lender keeper.new ≡ K.lender keeper.old }
 {
@@ -66,8 +66,8 @@ pub fn answer<K: Keeper>(
     request: Request,
     id: Id,
 ) -> Response
-    requires bounded { FitsWithin MOST_BYTES request }
-    ensures answered { Answered (keeping K.plans K.commits (ClosuresGive hooks.now))
+    requires bounded { FitsWithin MAX_UPLOAD_BYTES request }
+    ensures answered { Answered (keeping K.plans K.commits (ClosuresMayAnswer hooks.now))
         (K.state keeper.old) request id result (K.state keeper.new) }
     ensures lender { K.lender keeper.new ≡ K.lender keeper.old }
 {

@@ -1,6 +1,6 @@
 //! The board: a book that threads share.
 ghost use Rattle.std.specs.Prelude.{◌≡◌, ◌≤◌, ◌<◌, ◌^◌, [], length, vec_len, IfNone, IfOk, IfSome};
-ghost use Rattle.up_events.specs.Limits.{most_bytes};
+ghost use Rattle.up_events.specs.Limits.{max_upload_bytes};
 ghost use Rattle.up_headers.specs.Table.{FitsWithin};
 ghost use Rattle.up_dispatch.specs.Lists.{EachAt};
 ghost use Rattle.up_dispatch.specs.Parts.{IsNamed, capacities_of};
@@ -15,7 +15,7 @@ use crate::parts::BoardParts;
 use crate::seat::Seat;
 use std::alloc::Global;
 use std::sync::{Condvar, Mutex, Wait};
-use up_events::{Id, MOST_BYTES, MOST_LANES, NoMemory};
+use up_events::{Id, MAX_LANES, MAX_UPLOAD_BYTES, NoMemory};
 use up_headers::Request;
 use up_lanes::Refill;
 use up_log::Entry;
@@ -30,7 +30,7 @@ pub struct Board<B: Naming> {
     pub(crate) bells: Vec<Condvar>,
     pub(crate) max_size: u64,
     ghost one_for_each: { vec_len bells ≡ B.lanes },
-    ghost small: { max_size ≤ most_bytes },
+    ghost small: { max_size ≤ max_upload_bytes },
     ghost sized: { max_size ≡ B.max_size },
 }
 
@@ -55,8 +55,8 @@ impl<B: Naming> Board<B> {
     ) -> Result<(Board<B>, Vec<TakeEnd>), NoMemory>
         requires named { IsNamed B.name B.parts B.queue B.lanes parts }
         requires some_lane { 0 < length parts.queues }
-        requires few_lanes { length parts.queues ≤ MOST_LANES }
-        requires small { max_size ≤ MOST_BYTES }
+        requires few_lanes { length parts.queues ≤ MAX_LANES }
+        requires small { max_size ≤ MAX_UPLOAD_BYTES }
         requires sized { max_size ≡ B.max_size }
         ensures ends { IfOk result (λ r. (length r.1.items ≡ length parts.queues)
             × EachAt (λ k e. (e.taken ≡ []) × (e.queue ≡ B.queue k)) r.1.items) }
@@ -74,8 +74,8 @@ impl<B: Naming> Board<B> {
     ) -> Result<(Board<B>, Vec<TakeEnd>), NoMemory>
         requires named { IsNamed B.name B.parts B.queue B.lanes parts }
         requires some_lane { 0 < length parts.queues }
-        requires few_lanes { length parts.queues ≤ MOST_LANES }
-        requires small { max_size ≤ MOST_BYTES }
+        requires few_lanes { length parts.queues ≤ MAX_LANES }
+        requires small { max_size ≤ MAX_UPLOAD_BYTES }
         requires sized { max_size ≡ B.max_size }
         ensures ends { IfOk result (λ r. (length r.1.items ≡ length parts.queues)
             × EachAt (λ k e. (e.taken ≡ []) × (e.queue ≡ B.queue k)) r.1.items) }
@@ -93,7 +93,7 @@ impl<B: Naming> Board<B> {
         max_size: u64,
     ) -> Result<Board<B>, NoMemory>
         requires named { lanes ≡ B.lanes }
-        requires small { max_size ≤ MOST_BYTES }
+        requires small { max_size ≤ MAX_UPLOAD_BYTES }
         requires sized { max_size ≡ B.max_size }
         requires new { IsNewBook B.lanes B.max_size inside.book }
     {
@@ -108,7 +108,7 @@ impl<B: Naming> Board<B> {
     /// The most bytes that an upload may have.
     pub fn max_size(&self) -> u64
         ensures size { result ≡ B.max_size }
-        ensures small { result ≤ MOST_BYTES }
+        ensures small { result ≤ MAX_UPLOAD_BYTES }
     {
         self.max_size
     }
@@ -150,7 +150,7 @@ impl<B: Naming> Board<B> {
         id: Id,
         asked: &Asked,
     ) -> Result<Done, Refusal>
-        requires bounded { FitsWithin MOST_BYTES request }
+        requires bounded { FitsWithin MAX_UPLOAD_BYTES request }
         ensures { SeatCommits B.queue B.lanes B.max_size seat.old request id asked.now
             seat.new result }
     {
@@ -175,7 +175,7 @@ impl<B: Naming> Board<B> {
         place: u64,
         entry: Entry,
     ) -> Option<Result<Done, Refusal>>
-        requires bounded { FitsWithin MOST_BYTES entry.request }
+        requires bounded { FitsWithin MAX_UPLOAD_BYTES entry.request }
         ensures some { IfSome result (λ r.
             CommitsAt B.queue B.lanes B.max_size place seat.old entry seat.new r) }
         ensures none { IfNone result (seat.new ≡ seat.old) }

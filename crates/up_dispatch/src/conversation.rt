@@ -1,8 +1,8 @@
 //! One conversation: each message is read, decided and answered before the next.
 ghost use Rattle.std.specs.Prelude.{◌≡◌, ◌≤◌};
-ghost use Rattle.up_hooks.specs.Gives.{ClosuresGive};
+ghost use Rattle.up_hooks.specs.MayAnswer.{ClosuresMayAnswer};
 ghost use Rattle.up_wire.specs.Response.{response_text};
-ghost use Rattle.up_dispatch.specs.Answering.{Serves, TakesId, course};
+ghost use Rattle.up_dispatch.specs.Answering.{Serves, TakesId, keeper_state};
 ghost use Rattle.up_dispatch.specs.Exchanges.{KeepsBorrows, stand_in};
 ghost use Rattle.up_dispatch.specs.Keeps.{keeping};
 ghost use Rattle.up_dispatch.specs.Turn.{IsTurn, IsCutTurn, Converses, Sends, TakesTurn, unanswered};
@@ -13,14 +13,14 @@ use crate::ids::Ids;
 use crate::keeper::Keeper;
 use crate::reply::{reply_to_header_fault, reply_to_wire_fault};
 use std::alloc::Global;
-use up_events::{Id, MOST_BYTES};
+use up_events::{Id, MAX_UPLOAD_BYTES};
 use up_headers::{Request, request_of};
 use up_hooks::PreHooks;
 use up_message::{Message, Response};
 use up_wire::{Limits, Sink, Source, Taken, WireFault, WriteFailed, read_message, write_response};
 
 /// The most messages of a conversation.
-pub const MOST_MESSAGES: u64 = 10_000;
+pub const MAX_MESSAGES: u64 = 10_000;
 
 /// How a conversation ended.
 #[derive(Clone, Copy, Debug, PartialEq, Eq)]
@@ -55,9 +55,10 @@ fn answer_to<K: Keeper, I: Ids>(
     message: Message,
     max_size: u64,
 ) -> Response
-    requires small { max_size ≤ MOST_BYTES }
-    ensures turn { IsTurn (Serves (keeping K.plans K.commits (ClosuresGive hooks.now)) I.draws) message max_size
-        (course (K.state keeper.old) ids.old) (course (K.state keeper.new) ids.new) result }
+    requires small { max_size ≤ MAX_UPLOAD_BYTES }
+    ensures turn { IsTurn (Serves (keeping K.plans K.commits (ClosuresMayAnswer hooks.now)) I.draws) message max_size
+        (keeper_state (K.state keeper.old) ids.old) (keeper_state (K.state keeper.new) ids.new)
+        result }
     ensures lender { K.lender keeper.new ≡ K.lender keeper.old }
 {
     match request_of(alloc, message, max_size) {
@@ -78,9 +79,9 @@ fn carry_out_cut<K: Keeper, I: Ids>(
     message: Message,
     max_size: u64,
 )
-    requires small { max_size ≤ MOST_BYTES }
-    ensures turn { IsCutTurn (Serves (keeping K.plans K.commits (ClosuresGive hooks.now)) I.draws) message max_size
-        (course (K.state keeper.old) ids.old) (course (K.state keeper.new) ids.new) }
+    requires small { max_size ≤ MAX_UPLOAD_BYTES }
+    ensures turn { IsCutTurn (Serves (keeping K.plans K.commits (ClosuresMayAnswer hooks.now)) I.draws) message max_size
+        (keeper_state (K.state keeper.old) ids.old) (keeper_state (K.state keeper.new) ids.new) }
     ensures lender { K.lender keeper.new ≡ K.lender keeper.old }
 {
     match request_of(alloc, message, max_size) {
@@ -130,9 +131,9 @@ fn take_turn<K: Keeper, I: Ids, R: Source, W: Sink>(
     exchange: &mut Exchange<'_, I, R, W>,
     is_last: bool,
 ) -> Option<Ended>
-    requires small { max_size ≤ MOST_BYTES }
+    requires small { max_size ≤ MAX_UPLOAD_BYTES }
     ensures turn { TakesTurn
-        (Serves (keeping K.plans K.commits (ClosuresGive hooks.now)) I.draws) max_size is_last
+        (Serves (keeping K.plans K.commits (ClosuresMayAnswer hooks.now)) I.draws) max_size is_last
         (stand_in R.device W.device (K.state keeper.old) exchange.old)
         (stand_in R.device W.device (K.state keeper.new) exchange.new) result }
     ensures lender { K.lender keeper.new ≡ K.lender keeper.old }
@@ -170,16 +171,16 @@ pub fn converse<K: Keeper, I: Ids, R: Source, W: Sink>(
     max_size: u64,
     exchange: &mut Exchange<'_, I, R, W>,
 ) -> Ended
-    requires small { max_size ≤ MOST_BYTES }
+    requires small { max_size ≤ MAX_UPLOAD_BYTES }
     ensures turns { Converses
-        (Serves (keeping K.plans K.commits (ClosuresGive hooks.now)) I.draws) max_size
+        (Serves (keeping K.plans K.commits (ClosuresMayAnswer hooks.now)) I.draws) max_size
         (stand_in R.device W.device (K.state keeper.old) exchange.old)
         (stand_in R.device W.device (K.state keeper.new) exchange.new) result }
     ensures lender { K.lender keeper.new ≡ K.lender keeper.old }
     ensures borrows { KeepsBorrows exchange.old exchange.new }
 {
-    for turn in 0..MOST_MESSAGES {
-        let is_last = turn + 1 == MOST_MESSAGES;
+    for turn in 0..MAX_MESSAGES {
+        let is_last = turn + 1 == MAX_MESSAGES;
         if let Some(ended) = take_turn(alloc, keeper, hooks, max_size, exchange, is_last) {
             return ended;
         }

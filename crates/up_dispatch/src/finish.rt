@@ -5,15 +5,15 @@ ghost use Rattle.up_events.specs.History.{IsLegal};
 ghost use Rattle.up_events.specs.Records.{lane_log};
 ghost use Rattle.up_lanes.specs.HowOf.{is_drained};
 ghost use Rattle.up_dispatch.specs.Lists.{EachAt, EachPair};
-ghost use Rattle.up_dispatch.specs.Fed.{IsFed};
-ghost use Rattle.up_dispatch.specs.Reports.{HandOver, IsHandedOver, IsInOrder, IsRefusedFor, TellEachUpload};
-ghost use Rattle.up_dispatch.specs.Standing.{IsLawfulStanding, Standing};
+ghost use Rattle.up_dispatch.specs.QueuedUpTo.{IsQueuedUpTo};
+ghost use Rattle.up_dispatch.specs.Reports.{HandOver, IsHandedOver, AreLanesInOrder, IsRefusedFor, TellEachUpload};
+ghost use Rattle.up_dispatch.specs.BoardView.{IsLawfulBoardView, BoardView};
 
 use crate::board::Board;
-use crate::feed::Feed;
 use crate::inside::Inside;
 use crate::locked::Locked;
 use crate::naming::Naming;
+use crate::queue_cursor::QueueCursor;
 use crate::seat::Seat;
 use std::alloc::Global;
 use std::sync::Mutex;
@@ -68,9 +68,9 @@ pub struct Report<H> {
 }
 
 /// The report of a lane, from the two ends of its queue.
-fn report_of<H: PostHook + Drop>(book: &Book, feed: Feed, end: LaneEnd<H>) -> LaneReport<H>
-    requires fed { IsFed end.take_end.queue (lane_log book.now.journal end.lane)
-        book.now.closed feed }
+fn report_of<H: PostHook + Drop>(book: &Book, cursor: QueueCursor, end: LaneEnd<H>) -> LaneReport<H>
+    requires queued { IsQueuedUpTo end.take_end.queue (lane_log book.now.journal end.lane)
+        book.now.closed cursor }
     ensures same { (result.lane ≡ end.lane) × (result.hook ≡ end.hook) × (result.how ≡ end.how) }
     ensures handed { IsHandedOver (lane_log book.now.journal end.lane) (H.handed result.hook)
         (is_drained result.how) result.left }
@@ -82,14 +82,14 @@ fn report_of<H: PostHook + Drop>(book: &Book, feed: Feed, end: LaneEnd<H>) -> La
         how,
         ..
     } = end;
-    let Feed {
+    let QueueCursor {
         put_end,
-        cursor,
+        position,
         ended,
-    } = feed;
+    } = cursor;
     let held = compare(put_end, take_end);
     let end = u64::from(ended) - u64::from(how.is_drained());
-    let unput = book.journal().log_len(lane) - cursor;
+    let unput = book.journal().log_len(lane) - position;
     let left = unput + (held - end);
     LaneReport {
         lane,
@@ -103,25 +103,25 @@ fn report_of<H: PostHook + Drop>(book: &Book, feed: Feed, end: LaneEnd<H>) -> La
 fn settle<H: PostHook + Drop>(
     book: &Book,
     mut reports: Vec<LaneReport<H>>,
-    feeds: Vec<Feed>,
+    cursors: Vec<QueueCursor>,
     lanes: Vec<LaneEnd<H>>,
 ) -> Vec<LaneReport<H>>
     requires none { reports.items ≡ [] }
     requires room { vec_len lanes ≤ vec_capacity reports }
-    requires counts { (vec_len feeds ≡ book.now.journal.lanes)
+    requires counts { (vec_len cursors ≡ book.now.journal.lanes)
         × (vec_len lanes ≡ book.now.journal.lanes) }
     requires order { EachAt (λ k e. e.lane ≡ k) lanes.items }
-    requires fed { (k : ℕ) (f : _) (e : _) → k < vec_len lanes
-        → IsFed (slice_index_or lanes.items k e).take_end.queue (lane_log book.now.journal k)
-        book.now.closed (slice_index_or feeds.items k f) }
+    requires queued { (k : ℕ) (f : _) (e : _) → k < vec_len lanes
+        → IsQueuedUpTo (slice_index_or lanes.items k e).take_end.queue (lane_log book.now.journal k)
+        book.now.closed (slice_index_or cursors.items k f) }
     ensures count { vec_len result ≡ vec_len lanes }
     ensures same { EachPair (λ e x. (x.lane ≡ e.lane) × (x.hook ≡ e.hook) × (x.how ≡ e.how))
         lanes.items result.items }
     ensures handed { EachAt (λ k r. IsHandedOver (lane_log book.now.journal k)
         (H.handed r.hook) (is_drained r.how) r.left) result.items }
 {
-    for (feed, end) in feeds.into_iter().zip(lanes) {
-        reports.push_reserved(report_of(book, feed, end));
+    for (cursor, end) in cursors.into_iter().zip(lanes) {
+        reports.push_reserved(report_of(book, cursor, end));
     }
     reports
 }
@@ -151,7 +151,7 @@ fn gathered<B: Naming>(mut all: Share<B>, seats: Vec<Seat<B>>) -> Share<B>
 
 /// Whether the lanes are all there, each once and in ascending order.
 fn in_order<H: PostHook + Drop>(lanes: &[LaneEnd<H>], count: usize) -> bool
-    ensures { IsTrue result ↔ IsInOrder (λ e. e.lane) count lanes.now }
+    ensures { IsTrue result ↔ AreLanesInOrder (λ e. e.lane) count lanes.now }
 {
     if lanes.len() != count {
         return false;
@@ -172,18 +172,18 @@ impl<B: Naming> Inside<B> {
         lanes: &[LaneEnd<H>],
     ) -> Option<FinishFault>
         ensures none { IfNone result ((length self.now.book.journal.accepted ≤ sum seats.now)
-            × IsInOrder (λ e. e.lane) B.lanes lanes.now) }
+            × AreLanesInOrder (λ e. e.lane) B.lanes lanes.now) }
         ensures seats_out { result ≡ Some FinishFault.SeatsOut
             → sum seats.now < length self.now.book.journal.accepted }
         ensures lanes_out { result ≡ Some FinishFault.LanesOut
             → (length self.now.book.journal.accepted ≤ sum seats.now)
-            × ¬ IsInOrder (λ e. e.lane) B.lanes lanes.now }
+            × ¬ AreLanesInOrder (λ e. e.lane) B.lanes lanes.now }
         ensures memory { result ≢ Some FinishFault.NoMemory }
     {
         if missing(self.book.journal().accepted_count(), seats) > 0 {
             return Some(FinishFault::SeatsOut);
         }
-        if !in_order(lanes, self.feeds.len()) {
+        if !in_order(lanes, self.cursors.len()) {
             return Some(FinishFault::LanesOut);
         }
         None
@@ -200,15 +200,15 @@ impl<B: Naming> Inside<B> {
         ensures room { IfOk result (λ r. (r.items ≡ []) × (length lanes.now ≤ vec_capacity r)) }
         ensures all_seats { IfOk result (λ r.
             length self.now.book.journal.accepted ≤ sum seats.now) }
-        ensures all_lanes { IfOk result (λ r. IsInOrder (λ e. e.lane) B.lanes lanes.now) }
+        ensures all_lanes { IfOk result (λ r. AreLanesInOrder (λ e. e.lane) B.lanes lanes.now) }
         ensures seats_out { IfErr result (λ fault. fault ≡ FinishFault.SeatsOut
             → sum seats.now < length self.now.book.journal.accepted) }
         ensures lanes_out { IfErr result (λ fault. fault ≡ FinishFault.LanesOut
             → (length self.now.book.journal.accepted ≤ sum seats.now)
-            × ¬ IsInOrder (λ e. e.lane) B.lanes lanes.now) }
+            × ¬ AreLanesInOrder (λ e. e.lane) B.lanes lanes.now) }
         ensures no_memory { IfErr result (λ fault. fault ≡ FinishFault.NoMemory
             → (length self.now.book.journal.accepted ≤ sum seats.now)
-            × IsInOrder (λ e. e.lane) B.lanes lanes.now) }
+            × AreLanesInOrder (λ e. e.lane) B.lanes lanes.now) }
     {
         if let Some(fault) = self.fault(seats, lanes) {
             return Err(fault);
@@ -229,7 +229,7 @@ impl<B: Naming> Inside<B> {
         requires queues { All (λ e. e.take_end.queue ≡ B.queue e.lane) lanes.items }
         requires room { (reports.items ≡ []) × (vec_len lanes ≤ vec_capacity reports) }
         requires all_seats { length self.book.journal.accepted ≤ sum seats.items }
-        requires all_lanes { IsInOrder (λ e. e.lane) B.lanes lanes.items }
+        requires all_lanes { AreLanesInOrder (λ e. e.lane) B.lanes lanes.items }
         ensures accepted { result.accepted.items ≡ self.book.journal.accepted }
         ensures keeps { result.accepted.keeps ≡ self.book.journal.keeps }
         ensures legal { IsLegal result.accepted.items }
@@ -244,14 +244,14 @@ impl<B: Naming> Inside<B> {
     {
         let Inside {
             book,
-            feeds,
+            cursors,
             given: _,
             rest,
             mut total,
         } = self;
         let mut all = gathered(rest, seats);
         total.audit(&mut all);
-        let lanes = settle(&book, reports, feeds, lanes);
+        let lanes = settle(&book, reports, cursors, lanes);
         let accepted = book.into_accepted();
         Report { accepted, lanes }
     }
@@ -270,11 +270,11 @@ impl<B: Naming> Inside<B> {
             → sum seats.items < length self.book.journal.accepted) }
         ensures lanes_out { IfErr result (λ u. u.fault ≡ FinishFault.LanesOut
             → (length self.book.journal.accepted ≤ sum seats.items)
-            × ¬ IsInOrder (λ e. e.lane) B.lanes lanes.items) }
+            × ¬ AreLanesInOrder (λ e. e.lane) B.lanes lanes.items) }
         ensures no_memory { IfErr result (λ u. u.fault ≡ FinishFault.NoMemory
             → (length self.book.journal.accepted ≤ sum seats.items)
-            × IsInOrder (λ e. e.lane) B.lanes lanes.items) }
-        ensures all_lanes { IfOk result (λ r. IsInOrder (λ e. e.lane) B.lanes lanes.items) }
+            × AreLanesInOrder (λ e. e.lane) B.lanes lanes.items) }
+        ensures all_lanes { IfOk result (λ r. AreLanesInOrder (λ e. e.lane) B.lanes lanes.items) }
         ensures accepted { IfOk result (λ r. r.accepted.items ≡ self.book.journal.accepted) }
         ensures keeps { IfOk result (λ r. r.accepted.keeps ≡ self.book.journal.keeps) }
         ensures legal { IfOk result (λ r. IsLegal r.accepted.items) }
@@ -315,11 +315,11 @@ impl<B: Naming> Board<B> {
     ) -> Result<Report<H>, Unfinished<Board<B>, B, H>>
         requires { All (λ e. e.take_end.queue ≡ B.queue e.lane) lanes.items }
         ensures back { IfErr result (λ u. (u.seats ≡ seats) × (u.lanes ≡ lanes)) }
-        ensures refused { IfErr result (λ u. (s : Standing)
-            × IsLawfulStanding B.queue B.lanes B.max_size s
+        ensures refused { IfErr result (λ u. (s : BoardView)
+            × IsLawfulBoardView B.queue B.lanes B.max_size s
             × IsRefusedFor u.fault (length s.book.journal.accepted) (sum seats.items)
-            (IsInOrder (λ e. e.lane) B.lanes lanes.items)) }
-        ensures all_lanes { IfOk result (λ r. IsInOrder (λ e. e.lane) B.lanes lanes.items) }
+            (AreLanesInOrder (λ e. e.lane) B.lanes lanes.items)) }
+        ensures all_lanes { IfOk result (λ r. AreLanesInOrder (λ e. e.lane) B.lanes lanes.items) }
         ensures legal { IfOk result (λ r. IsLegal r.accepted.items) }
         ensures counts { IfOk result (λ r. length r.accepted.items ≡ sum seats.items) }
         ensures lanes { IfOk result (λ r. (vec_len r.lanes ≡ vec_len lanes)

@@ -42,9 +42,9 @@ impl Counting {
 }
 
 impl Ids for Counting {
-    ghost use Rattle.up_dispatch.specs.Counts.{Counts};
+    ghost use Rattle.up_dispatch.specs.Counts.{CountsIds};
 
-    ghost draws = { Counts };
+    ghost draws = { CountsIds };
 
     fn next_id(&mut self) -> Id {
         self.last = self.last.saturating_add(1);

@@ -3,27 +3,27 @@ ghost use Rattle.std.specs.Prelude.{◌≡◌, ◌+◌, ◌<◌, ◌≤◌, ◌^
 ghost use Rattle.std.specs.Prelude.{ℕ, length, IfOk, OnOk, OnErr, IsErr, IfSome, IfNone, true, false, IsTrue};
 ghost use Rattle.up_events.specs.Records.{empty_records, lane_log};
 ghost use Rattle.up_queue.specs.Line.{items_if};
-ghost use Rattle.up_queue.specs.Sides.{MayBeFull};
+ghost use Rattle.up_queue.specs.EndViews.{MayBeFull};
 ghost use Rattle.up_headers.specs.Table.{FitsWithin};
 ghost use Rattle.up_machine.specs.State.{counting_state, empty_state};
-ghost use Rattle.up_machine.specs.Decision.{Answers, decide, decide_plan, is_asked, is_refusal};
+ghost use Rattle.up_machine.specs.Decision.{IsExpectedOrNoMemory, decide, decide_plan, is_asked, is_refusal};
 ghost use Rattle.up_dispatch.specs.Lists.{EachAt};
 ghost use Rattle.up_dispatch.specs.Puts.{end_at, Extends, FillsOnly, IsFilled};
-ghost use Rattle.up_dispatch.specs.Commits.{changed, noted_in, CommitsTo};
+ghost use Rattle.up_dispatch.specs.Commits.{changed, noted_in, IsCommitOf};
 ghost use Rattle.up_dispatch.specs.Idle.{IsIdle};
 ghost use Rattle.up_dispatch.specs.Parts.{IsNamed, capacities_of};
-ghost use Rattle.up_dispatch.specs.Standing.{IsLawfulStanding};
+ghost use Rattle.up_dispatch.specs.BoardView.{IsLawfulBoardView};
 
 use crate::counts::Counts;
-use crate::feed::{Feed, Filled};
 use crate::naming::Naming;
-use crate::parts::{BoardParts, MOST_SEATS};
+use crate::parts::{BoardParts, MAX_SEATS};
+use crate::queue_cursor::{Filled, QueueCursor};
 use crate::seat::Seat;
 use std::alloc::Global;
 use std::marker::Model;
 use std::sync::ledger::Share;
 use std::sync::{Wait, ledger};
-use up_events::{Id, MOST_BYTES, MOST_LANES, NoMemory};
+use up_events::{Id, MAX_LANES, MAX_UPLOAD_BYTES, NoMemory};
 use up_headers::Request;
 use up_machine::{Asked, Book, Done, Plan, Refusal, Remains};
 use up_queue::TakeEnd;
@@ -32,23 +32,23 @@ use up_queue::TakeEnd;
 #[derive(Drop)]
 pub struct Inside<B: Naming> {
     pub(crate) book: Book,
-    pub(crate) feeds: Vec<Feed>,
+    pub(crate) cursors: Vec<QueueCursor>,
     pub(crate) given: u64,
     pub(crate) rest: Share<B>,
     pub(crate) total: ledger::Book<B>,
 }
 
 impl<B: Naming> Model for Inside<B> {
-    ghost use Rattle.up_dispatch.specs.Standing.{Standing, standing, IsLawfulBoard};
-    ghost use Rattle.up_dispatch.specs.StandingCode.{standing_code};
+    ghost use Rattle.up_dispatch.specs.BoardView.{BoardView, board_view, IsLawfulBoard};
+    ghost use Rattle.up_dispatch.specs.BoardViewCode.{board_view_code};
 
-    ghost Value = { Standing };
+    ghost Value = { BoardView };
 
-    ghost coded = { standing_code };
+    ghost coded = { board_view_code };
 
-    ghost view = { λ i. standing i.book i.feeds.items i.given i.total.total };
+    ghost view = { λ i. board_view i.book i.cursors.items i.given i.total.total };
 
-    ghost invariant = { λ i. IsLawfulBoard B.queue B.lanes B.max_size i.book i.feeds.items i.given
+    ghost invariant = { λ i. IsLawfulBoard B.queue B.lanes B.max_size i.book i.cursors.items i.given
         i.total.total i.rest.parts i.rest.amount };
 }
 
@@ -62,8 +62,8 @@ impl<B: Naming> Inside<B> {
     ) -> Result<(Inside<B>, Vec<TakeEnd>), NoMemory>
         requires named { IsNamed B.name B.parts B.queue B.lanes parts }
         requires some_lane { 0 < length parts.queues }
-        requires few_lanes { length parts.queues ≤ MOST_LANES }
-        requires small { max_size ≤ MOST_BYTES }
+        requires few_lanes { length parts.queues ≤ MAX_LANES }
+        requires small { max_size ≤ MAX_UPLOAD_BYTES }
         requires sized { max_size ≡ B.max_size }
         ensures book { IfOk result (λ r. r.0.book ≡ empty_state (length parts.queues) max_size) }
         ensures counts { IfOk result (λ r. (r.0.given ≡ 0) × (r.0.total ≡ 0)) }
@@ -83,8 +83,8 @@ impl<B: Naming> Inside<B> {
     ) -> Result<(Inside<B>, Vec<TakeEnd>), NoMemory>
         requires named { IsNamed B.name B.parts B.queue B.lanes parts }
         requires some_lane { 0 < length parts.queues }
-        requires few_lanes { length parts.queues ≤ MOST_LANES }
-        requires small { max_size ≤ MOST_BYTES }
+        requires few_lanes { length parts.queues ≤ MAX_LANES }
+        requires small { max_size ≤ MAX_UPLOAD_BYTES }
         requires sized { max_size ≡ B.max_size }
         ensures book { IfOk result (λ r. r.0.book ≡ counting_state (length parts.queues) max_size) }
         ensures counts { IfOk result (λ r. (r.0.given ≡ 0) × (r.0.total ≡ 0)) }
@@ -111,7 +111,7 @@ impl<B: Naming> Inside<B> {
         ensures capacities { capacities_of result.1.items ≡ parts.capacities }
     {
         let BoardParts {
-            feeds,
+            cursors,
             takes,
             blank,
         } = parts;
@@ -119,7 +119,7 @@ impl<B: Naming> Inside<B> {
         let (total, rest) = blank.open::<B>();
         let inside = Inside {
             book,
-            feeds,
+            cursors,
             given: 0,
             rest,
             total,
@@ -132,7 +132,7 @@ impl<B: Naming> Inside<B> {
         ensures lanes { result ≡ self.now.book.journal.lanes }
         ensures some { 0 < result }
     {
-        self.feeds.len() as u64
+        self.cursors.len() as u64
     }
 
     /// Whether the board accepts no more changes.
@@ -144,7 +144,7 @@ impl<B: Naming> Inside<B> {
 
     /// What a request would do. It changes nothing. The error says why the request would be refused.
     pub fn plan(&self, alloc: Global, request: &Request) -> Result<Plan, Refusal>
-        ensures { Answers result (decide_plan self.now.book request.now) }
+        ensures { IsExpectedOrNoMemory result (decide_plan self.now.book request.now) }
     {
         self.book.plan(alloc, request)
     }
@@ -162,10 +162,10 @@ impl<B: Naming> Inside<B> {
     {
         let closed = self.book.is_closed();
         let journal = self.book.journal();
-        let feed = &mut self.feeds[lane as usize];
-        let filled = feed.fill(rt, journal, lane, closed);
-        let cursor = feed.cursor;
-        self.book.forget(lane, cursor);
+        let cursor = &mut self.cursors[lane as usize];
+        let filled = cursor.fill(rt, journal, lane, closed);
+        let position = cursor.position;
+        self.book.forget(lane, position);
         filled
     }
 
@@ -174,14 +174,14 @@ impl<B: Naming> Inside<B> {
     pub fn is_idle(&self, lane: u64, taken: u64) -> bool
         ensures { IsTrue result ↔ IsIdle self.now lane taken }
     {
-        let Some(feed) = self.feeds.get(lane as usize) else {
+        let Some(cursor) = self.cursors.get(lane as usize) else {
             return false;
         };
         if self.book.is_closed() {
             return false;
         }
         let all = self.book.journal().log_len(lane);
-        feed.cursor == all && all == taken
+        cursor.position == all && all == taken
     }
 
     /// The counts of the book. The events that wait are counted lane by lane, with `waiting`, and are 0 here.
@@ -208,17 +208,17 @@ impl<B: Naming> Inside<B> {
             ≤ result + length (end_at self.old.ends lane).put }
     {
         let all = self.book.journal().log_len(lane);
-        match self.feeds.get_mut(lane as usize) {
-            Some(feed) => feed.waiting(rt, all),
+        match self.cursors.get_mut(lane as usize) {
+            Some(cursor) => cursor.waiting(rt, all),
             None => 0,
         }
     }
 
     /// For the prover: what lies under the lock is a lawful board. Does nothing.
     pub fn is_lawful(&self)
-        ensures { IsLawfulStanding B.queue B.lanes B.max_size self.now }
+        ensures { IsLawfulBoardView B.queue B.lanes B.max_size self.now }
     {
-        let _ = self.feeds.len();
+        let _ = self.cursors.len();
     }
 
     /// For the prover: the ledger counts at least the changes that this seat made, and exactly those that were
@@ -227,7 +227,7 @@ impl<B: Naming> Inside<B> {
         ensures same { (self.new ≡ self.old) × (seat.new ≡ seat.old) }
         ensures covers { seat.old ≤ self.old.total }
         ensures counts { self.old.total ≡ length self.old.book.journal.accepted }
-        ensures lawful { IsLawfulStanding B.queue B.lanes B.max_size self.old }
+        ensures lawful { IsLawfulBoardView B.queue B.lanes B.max_size self.old }
     {
         let Inside { total, .. } = self;
         let Seat { share, .. } = seat;
@@ -244,8 +244,8 @@ impl<B: Naming> Inside<B> {
         asked: &Asked,
         remains: &mut Remains,
     ) -> Result<Done, Refusal>
-        requires bounded { FitsWithin MOST_BYTES request }
-        ensures answer { Answers result (decide self.old.book request id asked.now) }
+        requires bounded { FitsWithin MAX_UPLOAD_BYTES request }
+        ensures answer { IsExpectedOrNoMemory result (decide self.old.book request id asked.now) }
         ensures ok { IfOk result (λ done.
             (self.new ≡ noted_in self.old request id done.change)
             × (seat.new ≡ seat.old + changed done.change)) }
@@ -275,8 +275,8 @@ impl<B: Naming> Inside<B> {
         id: Id,
         asked: &Asked,
     ) -> (Result<Done, Refusal>, Remains)
-        requires bounded { FitsWithin MOST_BYTES request }
-        ensures { CommitsTo B.queue B.lanes B.max_size self.old self.new seat.old seat.new
+        requires bounded { FitsWithin MAX_UPLOAD_BYTES request }
+        ensures { IsCommitOf B.queue B.lanes B.max_size self.old self.new seat.old seat.new
             request id asked.now result.0 }
     {
         self.audit(seat);
@@ -314,9 +314,9 @@ impl<B: Naming> Inside<B> {
     pub fn seat(&mut self) -> Option<Seat<B>>
         ensures given { IfSome result (λ s.
             (s ≡ 0) × (self.new ≡ record self.old { given = self.old.given + 1 })) }
-        ensures none { IfNone result ((self.old.given ≡ MOST_SEATS) × (self.new ≡ self.old)) }
+        ensures none { IfNone result ((self.old.given ≡ MAX_SEATS) × (self.new ≡ self.old)) }
     {
-        if self.given >= MOST_SEATS {
+        if self.given >= MAX_SEATS {
             return None;
         }
         let share = self.rest.split_off(1, 0);

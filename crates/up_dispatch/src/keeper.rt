@@ -7,7 +7,7 @@ use crate::naming::Naming;
 use crate::seat::Seat;
 use std::alloc::Global;
 use std::sync::Wait;
-use up_events::{Id, MOST_BYTES};
+use up_events::{Id, MAX_UPLOAD_BYTES};
 use up_headers::Request;
 use up_machine::{Asked, Book, Done, Plan, Refusal, Remains};
 
@@ -47,7 +47,7 @@ pub trait Keeper {
         id: Id,
         asked: &Asked,
     ) -> Result<Done, Refusal>
-        requires bounded { FitsWithin MOST_BYTES request }
+        requires bounded { FitsWithin MAX_UPLOAD_BYTES request }
         ensures commit { commits (state self.old) request id asked.now (state self.new) result }
         ensures lender { lender self.new ≡ lender self.old };
 }

@@ -1,22 +1,22 @@
 //! A book that is lent, with counted ids: exactly what it decides is answered.
 ghost use Rattle.std.specs.Prelude.{ℕ, ◌≤◌};
 ghost use Rattle.up_headers.specs.declared.request.Request.{Request};
-ghost use Rattle.up_hooks.specs.Gives.{ClosuresGive};
+ghost use Rattle.up_hooks.specs.MayAnswer.{ClosuresMayAnswer};
 ghost use Rattle.up_machine.specs.State.{State};
 ghost use Rattle.up_message.specs.declared.response.Response.{Response};
-ghost use Rattle.up_dispatch.specs.Answering.{Answered, Course, Serves, course};
+ghost use Rattle.up_dispatch.specs.Answering.{Answered, KeeperState, Serves, keeper_state};
 ghost use Rattle.up_dispatch.specs.ByBook.{GoesOn, IsAnsweredTo, IsOutcome};
-ghost use Rattle.up_dispatch.specs.Counts.{Counts};
+ghost use Rattle.up_dispatch.specs.Counts.{CountsIds};
 ghost use Rattle.up_dispatch.specs.Keepers.{by_book};
-ghost use Rattle.up_dispatch.specs.Turn.{Converses, Stand, stand};
+ghost use Rattle.up_dispatch.specs.Turn.{Converses, ConversationState, conversation_state};
 ghost use Rattle.up_dispatch.specs.declared.conversation.Ended.{Ended};
 
-use crate::conversation::{Ended, MOST_MESSAGES, converse};
+use crate::conversation::{Ended, MAX_MESSAGES, converse};
 use crate::exchange::Exchange;
 use crate::ids::Counting;
 use crate::keeper::Lent;
 use std::alloc::Global;
-use up_events::MOST_BYTES;
+use up_events::MAX_UPLOAD_BYTES;
 use up_hooks::PreHooks;
 use up_machine::Book;
 use up_wire::{Sink, Source};
@@ -25,19 +25,22 @@ use up_wire::{Sink, Source};
 /// the book is unchanged.
 pub fn lent_answer_is_exact(_hooks: &PreHooks)
     ensures { (s t : State) (request : Request) (id : ℕ) (response : Response)
-        → Answered (by_book (ClosuresGive _hooks.now)) s request id response t
-        → IsOutcome (ClosuresGive _hooks.now) s request id response t }
+        → Answered (by_book (ClosuresMayAnswer _hooks.now)) s request id response t
+        → IsOutcome (ClosuresMayAnswer _hooks.now) s request id response t }
 {}
 
 /// A law, which does nothing when it runs: a conversation over a lent book with counted ids is decided by the book
 /// alone. The book keeps its lanes, and its history grows at its end.
 pub fn lent_conversation_is_exact(_hooks: &PreHooks)
-    ensures turns { (max_size : ℕ) (old new : Stand (Course State ℕ)) (ended : Ended)
-        → Converses (Serves (by_book (ClosuresGive _hooks.now)) Counts) max_size old new ended
-        → Converses (IsAnsweredTo (ClosuresGive _hooks.now)) max_size old new ended }
-    ensures goes_on { (max_size : ℕ) (old new : Stand (Course State ℕ)) (ended : Ended)
-        → Converses (IsAnsweredTo (ClosuresGive _hooks.now)) max_size old new ended
-        → GoesOn MOST_MESSAGES old.course new.course }
+    ensures turns { (max_size : ℕ) (old new : ConversationState (KeeperState State ℕ))
+        (ended : Ended)
+        → Converses (Serves (by_book (ClosuresMayAnswer _hooks.now)) CountsIds) max_size old new
+        ended
+        → Converses (IsAnsweredTo (ClosuresMayAnswer _hooks.now)) max_size old new ended }
+    ensures goes_on { (max_size : ℕ) (old new : ConversationState (KeeperState State ℕ))
+        (ended : Ended)
+        → Converses (IsAnsweredTo (ClosuresMayAnswer _hooks.now)) max_size old new ended
+        → GoesOn MAX_MESSAGES old.keeper_state new.keeper_state }
 {}
 
 /// Serves one conversation by a book alone, with ids that are counted from that of `ids`.
@@ -50,10 +53,12 @@ pub fn converse_by_book<R: Source, W: Sink>(
     source: &mut R,
     sink: &mut W,
 ) -> Ended
-    requires small { max_size ≤ MOST_BYTES }
-    ensures turns { Converses (IsAnsweredTo (ClosuresGive hooks.now)) max_size
-        (stand (course book.old ids.old) (R.device source.old) (W.device sink.old))
-        (stand (course book.new ids.new) (R.device source.new) (W.device sink.new))
+    requires small { max_size ≤ MAX_UPLOAD_BYTES }
+    ensures turns { Converses (IsAnsweredTo (ClosuresMayAnswer hooks.now)) max_size
+        (conversation_state (keeper_state book.old ids.old) (R.device source.old)
+        (W.device sink.old))
+        (conversation_state (keeper_state book.new ids.new) (R.device source.new)
+        (W.device sink.new))
         result }
 {
     lent_conversation_is_exact(hooks);

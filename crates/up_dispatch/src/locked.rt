@@ -4,7 +4,7 @@ ghost use Rattle.up_commits.specs.Follows.{IsBookAfter};
 ghost use Rattle.up_headers.specs.Table.{FitsWithin};
 ghost use Rattle.up_machine.specs.declared.refusal.Refusal.TheVariants.{NoMemory};
 ghost use Rattle.up_replay.specs.Replay.{asked_of};
-ghost use Rattle.up_dispatch.specs.Commits.{CommitsTo};
+ghost use Rattle.up_dispatch.specs.Commits.{IsCommitOf};
 ghost use Rattle.up_dispatch.specs.Tied.{IsDecidedAt, IsNewBook};
 
 use crate::inside::Inside;
@@ -14,7 +14,7 @@ use std::alloc::Global;
 use std::marker::Model;
 use std::sync::Wait;
 use up_commits::{Followed, books_follow};
-use up_events::{Id, MOST_BYTES};
+use up_events::{Id, MAX_UPLOAD_BYTES};
 use up_headers::Request;
 use up_log::Entry;
 use up_machine::{Asked, Done, Refusal, Remains};
@@ -73,8 +73,8 @@ impl<B: Naming> Locked<B> {
         id: Id,
         asked: &Asked,
     ) -> (Result<Done, Refusal>, Remains)
-        requires bounded { FitsWithin MOST_BYTES request }
-        ensures { CommitsTo B.queue B.lanes B.max_size self.old.board self.new.board
+        requires bounded { FitsWithin MAX_UPLOAD_BYTES request }
+        ensures { IsCommitOf B.queue B.lanes B.max_size self.old.board self.new.board
             seat.old seat.new request id asked.now result.0 }
     {
         let (result, remains) = self.inside.commit(rt, alloc, seat, request, id, asked);
@@ -90,11 +90,11 @@ impl<B: Naming> Locked<B> {
         seat: &mut Seat<B>,
         entry: Entry,
     ) -> (Result<Done, Refusal>, Remains)
-        requires bounded { FitsWithin MOST_BYTES entry.request }
+        requires bounded { FitsWithin MAX_UPLOAD_BYTES entry.request }
         requires room { length self.old.follows.entries < u64.MAX }
         requires tied { IsTrue self.old.is_tied }
         requires going { self.old.board.book.closed ≡ false }
-        ensures commits { CommitsTo B.queue B.lanes B.max_size self.old.board self.new.board
+        ensures commits { IsCommitOf B.queue B.lanes B.max_size self.old.board self.new.board
             seat.old seat.new entry.request entry.id (asked_of entry.consent) result.0 }
         ensures after { IsBookAfter B.lanes B.max_size self.old.follows.entries
             self.old.board.book }
@@ -124,8 +124,8 @@ impl<B: Naming> Locked<B> {
         place: u64,
         entry: Entry,
     ) -> Option<(Result<Done, Refusal>, Remains)>
-        requires bounded { FitsWithin MOST_BYTES entry.request }
-        ensures commits { IfSome result (λ r. CommitsTo B.queue B.lanes B.max_size
+        requires bounded { FitsWithin MAX_UPLOAD_BYTES entry.request }
+        ensures commits { IfSome result (λ r. IsCommitOf B.queue B.lanes B.max_size
             self.old.board self.new.board seat.old seat.new
             entry.request entry.id (asked_of entry.consent) r.0) }
         ensures after { IfSome result (λ r.

@@ -1,7 +1,7 @@
 //! What a board is made of.
 ghost use Rattle.std.specs.Prelude.{◌≡◌, ◌+◌, ◌<◌, length, replicate, IfOk};
 
-use crate::feed::Feed;
+use crate::queue_cursor::QueueCursor;
 use std::alloc::Global;
 use std::marker::Model;
 use std::sync::ledger::Blank;
@@ -9,26 +9,26 @@ use up_events::NoMemory;
 use up_queue::{TakeEnd, lane_queue};
 
 /// The most seats that a board gives out.
-pub const MOST_SEATS: u64 = 65_536;
+pub const MAX_SEATS: u64 = 65_536;
 
 /// The queues of a board and its blank ledger, before the board has a name.
 #[derive(Drop)]
 pub struct BoardParts {
-    pub(crate) feeds: Vec<Feed>,
+    pub(crate) cursors: Vec<QueueCursor>,
     pub(crate) takes: Vec<TakeEnd>,
     pub(crate) blank: Blank,
 }
 
 impl Model for BoardParts {
     ghost use Rattle.std.specs.Prelude.{◌≡◌, ◌+◌};
-    ghost use Rattle.up_dispatch.specs.Parts.{Parts, parts_of, AreNew};
-    ghost use Rattle.up_dispatch.specs.declared.parts.TheConstants.{MOST_SEATS};
+    ghost use Rattle.up_dispatch.specs.Parts.{Parts, parts_view, AreNew};
+    ghost use Rattle.up_dispatch.specs.declared.parts.TheConstants.{MAX_SEATS};
 
     ghost Value = { Parts };
 
-    ghost view = { λ p. parts_of p.blank.name p.blank.parts p.feeds.items };
+    ghost view = { λ p. parts_view p.blank.name p.blank.parts p.cursors.items };
 
-    ghost invariant = { λ p. (p.blank.parts ≡ MOST_SEATS + 1) × AreNew p.feeds.items p.takes.items };
+    ghost invariant = { λ p. (p.blank.parts ≡ MAX_SEATS + 1) × AreNew p.cursors.items p.takes.items };
 }
 
 impl BoardParts {
@@ -38,25 +38,25 @@ impl BoardParts {
         requires { 0 < capacity }
         ensures lanes { IfOk result (λ p. length p.queues ≡ lanes) }
         ensures capacities { IfOk result (λ p. p.capacities ≡ replicate lanes capacity) }
-        ensures seats { IfOk result (λ p. p.parts ≡ MOST_SEATS + 1) }
+        ensures seats { IfOk result (λ p. p.parts ≡ MAX_SEATS + 1) }
     {
-        let mut feeds = Vec::new(alloc);
+        let mut cursors = Vec::new(alloc);
         let mut takes = Vec::new(alloc);
         for _lane in 0..lanes {
             let Ok((put_end, take_end)) = lane_queue(alloc, capacity) else {
                 return Err(NoMemory);
             };
-            feeds.push(Feed {
+            cursors.push(QueueCursor {
                 put_end,
-                cursor: 0,
+                position: 0,
                 ended: false,
             })?;
             takes.push(take_end)?;
         }
         Ok(BoardParts {
-            feeds,
+            cursors,
             takes,
-            blank: Blank::new(MOST_SEATS + 1),
+            blank: Blank::new(MAX_SEATS + 1),
         })
     }
 
@@ -64,6 +64,6 @@ impl BoardParts {
     pub fn lanes(&self) -> u64
         ensures { result ≡ length self.now.queues }
     {
-        self.feeds.len() as u64
+        self.cursors.len() as u64
     }
 }

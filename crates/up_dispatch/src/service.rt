@@ -1,6 +1,6 @@
 //! How the conversations of a server are served.
 ghost use Rattle.std.specs.Prelude.{◌≡◌};
-ghost use Rattle.up_hooks.specs.Gives.{ClosuresGive};
+ghost use Rattle.up_hooks.specs.MayAnswer.{ClosuresMayAnswer};
 ghost use Rattle.up_dispatch.specs.Answering.{Serves};
 ghost use Rattle.up_dispatch.specs.Exchanges.{KeepsBorrows, stand_in};
 ghost use Rattle.up_dispatch.specs.Keepers.{by_seat};
@@ -29,7 +29,8 @@ pub fn converse_at<B: Naming, I: Ids, R: Source, W: Sink, T: Wait>(
     exchange: &mut Exchange<'_, I, R, W>,
 ) -> Ended
     ensures served { Converses
-        (Serves (by_seat B.queue B.lanes B.max_size (ClosuresGive hooks.now)) I.draws) B.max_size
+        (Serves (by_seat B.queue B.lanes B.max_size (ClosuresMayAnswer hooks.now)) I.draws)
+        B.max_size
         (stand_in R.device W.device seat.old exchange.old)
         (stand_in R.device W.device seat.new exchange.new) result }
     ensures borrows { KeepsBorrows exchange.old exchange.new }

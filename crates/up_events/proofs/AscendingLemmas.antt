@@ -14,7 +14,7 @@ use Rattle.std.proofs.lemmas.Option.{slice_get_read}
 use Rattle.std.proofs.lemmas.List.Edits.{length-insert}
 use Rattle.std.proofs.lemmas.List.Folds.{list_any-append, list_any_at, list_any_none}
 use Rattle.std.proofs.lemmas.List.Sorted.{searched, IsPermutation-insert, IsNonDecreasingBy-insert, list_any-IsPermutation}
-use Rattle.up_events.specs.Ascending.{has, Adds, AreBlocks, ids_in}
+use Rattle.up_events.specs.Ascending.{has, HasAdded, AreBlocks, ids_in}
 use Rattle.up_events.specs.Blocks.{IsBlock, IsNewBlock}
 use Rattle.up_events.proofs.BlockLemmas.{block_length, block_read, new_block}
 use Rattle.up_events.proofs.ListLemmas.{each_push, each_set, not_same}
@@ -34,11 +34,11 @@ or_false false = refl
 pub has-push : (ids : List ℕ) (id u : ℕ) → has (ids ++ id ∷ []) u ≡ (has ids u || eqb id u)
 has-push ids id u = list_any-append (λ i. eqb i u) ids (id ∷ []) ∙ ap (λ b. has ids u || b) (or_false (eqb id u))
 
-pub has-insert : (ids : List ℕ) (i id : ℕ) → Adds ids id (insert ids i id)
+pub has-insert : (ids : List ℕ) (i id : ℕ) → HasAdded ids id (insert ids i id)
 has-insert ids i id u = sym (list_any-IsPermutation (λ k. eqb k u) (id ∷ ids) (insert ids i id) (IsPermutation-insert ids i id)) ∙ or_swap (eqb id u) (has ids u)
 
 -- an id that is there adds nothing
-pub has_already : (ids : List ℕ) (id : ℕ) → has ids id ≡ true → Adds ids id ids
+pub has_already : (ids : List ℕ) (id : ℕ) → has ids id ≡ true → HasAdded ids id ids
 has_already ids id here u =
     elim (eqb id u) as (λ b. eqb id u ≡ b → has ids u ≡ (has ids u || b)) [
       | true ↦ λ e. let there : has ids u ≡ true = subst (λ v. has ids v ≡ true) (eqb-true id u e) here in rw there refl

@@ -5,8 +5,8 @@ use Rattle.std.proofs.lemmas.List.{map-append}
 use Rattle.std.proofs.lemmas.List.Elements.{Contains-append_left, Contains-append_right, Contains-push, Contains-append_cases}
 use Rattle.up_events.specs.declared.event.Accepted.{Accepted}
 use Rattle.up_events.specs.declared.event.Event.{Event}
-use Rattle.up_events.specs.History.{Step, events_of}
-use Rattle.up_events.specs.Log.{numbered, log_of, step_of, is_of, CountsFrom}
+use Rattle.up_events.specs.History.{EventBody, events_of}
+use Rattle.up_events.specs.Log.{numbered, log_of, body_of, is_of, CountsFrom}
 use Rattle.up_events.specs.Delivery.{IsWithin, IsPrefix, IsNumbered, IsDelivered}
 use Rattle.up_events.proofs.LogLemmas.{own_is, own_away, steps-numbered}
 
@@ -55,22 +55,22 @@ above_counts n [] e c h = absurd h
 above_counts n (f ∷ mine) e c (inl is) = let k : e.number ≡ n + 1 = ap (λ (e : Event). e.number) (sym is) ∙ c.0 in omega arith
 above_counts n (f ∷ mine) e c (inr h) = let k : n + 1 + 1 ≤ e.number = above_counts (n + 1) mine e c.1 h in omega arith
 
-above_numbered : (u n : ℕ) (steps : List Step) (e : Event) → In (numbered u n steps) e → n + 1 ≤ e.number
+above_numbered : (u n : ℕ) (steps : List EventBody) (e : Event) → In (numbered u n steps) e → n + 1 ≤ e.number
 above_numbered u n [] e h = absurd h
 above_numbered u n (s ∷ steps) e (inl is) = let k : e.number ≡ n + 1 = ap (λ (e : Event). e.number) (sym is) in omega arith
 above_numbered u n (s ∷ steps) e (inr h) = let k : n + 1 + 1 ≤ e.number = above_numbered u (n + 1) steps e h in omega arith
 
 -- an event with the first number is the first event
-first_is : (u n : ℕ) (s : Step) (steps : List Step) (e : Event) → e.number ≡ n + 1 → In (numbered u n (s ∷ steps)) e → record { id = u; number = n + 1; hook = s.0; offset = s.1; length = s.2 } ≡ e
+first_is : (u n : ℕ) (s : EventBody) (steps : List EventBody) (e : Event) → e.number ≡ n + 1 → In (numbered u n (s ∷ steps)) e → record { id = u; number = n + 1; hook = s.0; offset = s.1; length = s.2 } ≡ e
 first_is u n s steps e k (inl is) = is
 first_is u n s steps e k (inr h) = absurd (let a : n + 1 + 1 ≤ e.number = above_numbered u (n + 1) steps e h in omega arith)
 
 -- an event with a later number is a later event
-later_in : (u n : ℕ) (s : Step) (steps : List Step) (e : Event) → n + 1 + 1 ≤ e.number → In (numbered u n (s ∷ steps)) e → In (numbered u (n + 1) steps) e
+later_in : (u n : ℕ) (s : EventBody) (steps : List EventBody) (e : Event) → n + 1 + 1 ≤ e.number → In (numbered u n (s ∷ steps)) e → In (numbered u (n + 1) steps) e
 later_in u n s steps e k (inl is) = absurd (let a : e.number ≡ n + 1 = ap (λ (e : Event). e.number) (sym is) in omega arith)
 later_in u n s steps e k (inr h) = h
 
-counts_prefix : (u n : ℕ) (steps : List Step) (mine : List Event) → CountsFrom n mine → ((e : Event) → In mine e → In (numbered u n steps) e) → IsPrefix mine (numbered u n steps)
+counts_prefix : (u n : ℕ) (steps : List EventBody) (mine : List Event) → CountsFrom n mine → ((e : Event) → In mine e → In (numbered u n steps) e) → IsPrefix mine (numbered u n steps)
 counts_prefix u n steps [] c within = (numbered u n steps, refl)
 counts_prefix u n [] (e ∷ mine) c within = absurd (within e (inl refl))
 counts_prefix u n (s ∷ steps) (e ∷ mine) c within =
@@ -80,8 +80,8 @@ counts_prefix u n (s ∷ steps) (e ∷ mine) c within =
 
 -- ---- without ids and numbers
 
-prefix_steps : (u : ℕ) (steps : List Step) (mine : List Event) → IsPrefix mine (numbered u 0 steps) → IsPrefix (map step_of mine) steps
-prefix_steps u steps mine p = (map step_of p.0, sym (steps-numbered u 0 steps) ∙ ap (map step_of) p.1 ∙ map-append step_of mine p.0)
+prefix_steps : (u : ℕ) (steps : List EventBody) (mine : List Event) → IsPrefix mine (numbered u 0 steps) → IsPrefix (map body_of mine) steps
+prefix_steps u steps mine p = (map body_of p.0, sym (steps-numbered u 0 steps) ∙ ap (map body_of) p.1 ∙ map-append body_of mine p.0)
 
 -- what a lane handed of an upload is in the upload's own numbered events, whichever lane it is
 own_within : (lanes k u : ℕ) (changes : List Accepted) (handed : List Event) → IsWithin handed (log_of lanes changes k) → (e : Event) → In (filter (is_of u) handed) e → In (numbered u 0 (events_of changes u)) e

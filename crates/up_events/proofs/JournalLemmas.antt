@@ -16,7 +16,7 @@ use Rattle.up_events.specs.declared.track.Track.{Track}
 use Rattle.up_events.specs.declared.journal.Journal.TheInside.{Inside}
 use Rattle.up_events.specs.Ascending.{has}
 use Rattle.up_events.specs.Lists.{gather, EachFollows, first_given}
-use Rattle.up_events.specs.History.{id_of, kind_of, length_of, is_final, offset_of, is_terminated, is_alive, CanFollow, IsLegal, Step, steps_at, steps_of, events_of}
+use Rattle.up_events.specs.History.{id_of, kind_of, length_of, is_final, offset_of, is_terminated, is_alive, CanFollow, IsLegal, EventBody, steps_at, steps_of, events_of}
 use Rattle.up_events.specs.Log.{numbered, log_of}
 use Rattle.up_events.specs.Left.{Left, log_length}
 use Rattle.up_events.specs.Listing.{Listing}
@@ -223,7 +223,7 @@ step_events changes c r s can is =
     ∙ ap (λ k. numbered (id_of c) k (steps_at c (reached old c).offset (reached old c).length)) (events-reached old c)
     ∙ ap (numbered (id_of c) (length (events_of changes (id_of c)))) (sym (steps_of-reached changes c s can))
 
-length-numbered : (u n : ℕ) (steps : List Step) → length (numbered u n steps) ≡ length steps
+length-numbered : (u n : ℕ) (steps : List EventBody) → length (numbered u n steps) ≡ length steps
 length-numbered u n [] = refl
 length-numbered u n (s ∷ steps) = ap suc (length-numbered u (n + 1) steps)
 

@@ -8,14 +8,14 @@ use Rattle.up_events.specs.declared.event.Hook.{Hook}
 use Rattle.up_events.specs.declared.event.Hook.TheVariants.{Create, Receive, Finish, Terminate}
 use Rattle.up_events.specs.declared.event.Kind.{Kind}
 use Rattle.up_events.specs.Lists.{gather, first_given}
-use Rattle.up_events.specs.History.{id_of, kind_of, length_of, offset_of, is_known, is_terminated, most_of, CanFollow, IsLegal, Step, is_whole, receive_at, finish_at, steps_at, events_of}
+use Rattle.up_events.specs.History.{id_of, kind_of, length_of, offset_of, is_known, is_terminated, max_length_of, CanFollow, IsLegal, EventBody, is_whole, receive_at, finish_at, steps_at, events_of}
 use Rattle.up_events.specs.declared.event.Event.{Event}
 use Rattle.up_events.specs.Log.{is_finish, numbered, log_of, is_of, IsLawfulRun, IsLawful}
 use Rattle.up_events.proofs.LogLemmas.{own_is, own_away, counts-numbered}
 use Rattle.up_events.proofs.HistoryLemmas.{legal_induction, kind_of-other, length_of-other, offset_of-other, is_terminated-other, events_of-other}
 use Rattle.up_events.proofs.Sound.{IsSound, sound, sound_empty, sound_more, alive_known, events_of-own, length_of-terminated, offset_of-terminated, is_terminated-terminated}
 
-abbrev pub Begins : List Step → Type 0
+abbrev pub Begins : List EventBody → Type 0
 Begins [] = Unit {0}
 Begins (s ∷ steps) = s.0 ≡ Create
 
@@ -26,54 +26,54 @@ is_end Finish = false
 is_end Terminate = true
 
 -- no Terminate
-abbrev pub GoesOn : List Step → Type 0
+abbrev pub GoesOn : List EventBody → Type 0
 GoesOn [] = Unit {0}
 GoesOn (s ∷ steps) = (is_end s.0 ≡ false) × GoesOn steps
 
 -- nothing follows a Terminate
-abbrev pub EndsOnce : List Step → Type 0
+abbrev pub EndsOnce : List EventBody → Type 0
 EndsOnce [] = Unit {0}
 EndsOnce (s ∷ steps) = (is_end s.0 ≡ true → steps ≡ []) × EndsOnce steps
 
-abbrev pub finishes : List Step → ℕ
-finishes steps = count_by (λ (s : Step). is_finish s.0) steps
+abbrev pub finishes : List EventBody → ℕ
+finishes steps = count_by (λ (s : EventBody). is_finish s.0) steps
 
-begins_append : (xs ys : List Step) → Begins xs → (xs ≡ [] → Begins ys) → Begins (xs ++ ys)
+begins_append : (xs ys : List EventBody) → Begins xs → (xs ≡ [] → Begins ys) → Begins (xs ++ ys)
 begins_append [] ys b h = h refl
 begins_append (x ∷ xs) ys b h = b
 
-goes_append : (xs ys : List Step) → GoesOn xs → GoesOn ys → GoesOn (xs ++ ys)
+goes_append : (xs ys : List EventBody) → GoesOn xs → GoesOn ys → GoesOn (xs ++ ys)
 goes_append [] ys g h = h
 goes_append (x ∷ xs) ys g h = (g.0, goes_append xs ys g.1 h)
 
-ends_append : (xs ys : List Step) → GoesOn xs → EndsOnce ys → EndsOnce (xs ++ ys)
+ends_append : (xs ys : List EventBody) → GoesOn xs → EndsOnce ys → EndsOnce (xs ++ ys)
 ends_append [] ys g h = h
 ends_append (x ∷ xs) ys g h = (λ e. absurd (false≢true (sym g.0 ∙ e)), ends_append xs ys g.1 h)
 
-goes_ends : (xs : List Step) → GoesOn xs → EndsOnce xs
+goes_ends : (xs : List EventBody) → GoesOn xs → EndsOnce xs
 goes_ends [] g = tt
 goes_ends (x ∷ xs) g = (λ e. absurd (false≢true (sym g.0 ∙ e)), goes_ends xs g.1)
 
 finish_goes : (o : ℕ) (n : Option ℕ) → GoesOn (finish_at o n)
-finish_goes o n = elim (is_whole o n) as (λ b. GoesOn (cond b (let s : Step = (Finish, o, n) in s ∷ []) [])) [ true ↦ (refl, tt) | false ↦ tt ]
+finish_goes o n = elim (is_whole o n) as (λ b. GoesOn (cond b (let s : EventBody = (Finish, o, n) in s ∷ []) [])) [ true ↦ (refl, tt) | false ↦ tt ]
 
 finish_count : (o : ℕ) (n : Option ℕ) → finishes (finish_at o n) ≡ cond (is_whole o n) 1 0
-finish_count o n = elim (is_whole o n) as (λ b. finishes (cond b (let s : Step = (Finish, o, n) in s ∷ []) []) ≡ cond b 1 0) [ true ↦ refl | false ↦ refl ]
+finish_count o n = elim (is_whole o n) as (λ b. finishes (cond b (let s : EventBody = (Finish, o, n) in s ∷ []) []) ≡ cond b 1 0) [ true ↦ refl | false ↦ refl ]
 
 receive_goes : (k o : ℕ) (n : Option ℕ) → GoesOn (receive_at k o n)
-receive_goes k o n = elim (eqb k 0) as (λ b. GoesOn (cond b [] (let s : Step = (Receive, o, n) in s ∷ []))) [ true ↦ tt | false ↦ (refl, tt) ]
+receive_goes k o n = elim (eqb k 0) as (λ b. GoesOn (cond b [] (let s : EventBody = (Receive, o, n) in s ∷ []))) [ true ↦ tt | false ↦ (refl, tt) ]
 
 receive_count : (k o : ℕ) (n : Option ℕ) → finishes (receive_at k o n) ≡ 0
-receive_count k o n = elim (eqb k 0) as (λ b. finishes (cond b [] (let s : Step = (Receive, o, n) in s ∷ [])) ≡ 0) [ true ↦ refl | false ↦ refl ]
+receive_count k o n = elim (eqb k 0) as (λ b. finishes (cond b [] (let s : EventBody = (Receive, o, n) in s ∷ [])) ≡ 0) [ true ↦ refl | false ↦ refl ]
 
-cons_some : (s : Step) (steps : List Step) → s ∷ steps ≡ [] → ⊥
+cons_some : (s : EventBody) (steps : List EventBody) → s ∷ steps ≡ [] → ⊥
 cons_some s steps e = cc
 
-append_some : (xs : List Step) (s : Step) (ys : List Step) → xs ++ s ∷ ys ≡ [] → ⊥
+append_some : (xs : List EventBody) (s : EventBody) (ys : List EventBody) → xs ++ s ∷ ys ≡ [] → ⊥
 append_some [] s ys e = cc
 append_some (x ∷ xs) s ys e = cc
 
-append_nothing : (xs ys : List Step) → xs ++ ys ≡ [] → xs ≡ []
+append_nothing : (xs ys : List EventBody) → xs ++ ys ≡ [] → xs ≡ []
 append_nothing [] ys e = refl
 append_nothing (x ∷ xs) ys e = absurd (cc)
 
@@ -105,16 +105,16 @@ run_created changes u n kind s can =
     let o = offset_of (changes ++ c ∷ []) u in
     let m = length_of (changes ++ c ∷ []) u in
     let events : events_of (changes ++ c ∷ []) u ≡ steps_at c o m = events_of-own changes c ∙ ap (λ l. l ++ steps_at c o m) (s.no_events can.0) in
-    let f : Step = (Create, o, m) in
+    let f : EventBody = (Create, o, m) in
     record {
       begins = subst Begins (sym events) refl;
       some = λ _ none. absurd (cons_some f (finish_at o m) (sym events ∙ none));
-      count = λ _. ap finishes events ∙ sum_by-append (λ (s : Step). cond (is_finish s.0) 1 0) (f ∷ []) (finish_at o m) ∙ omega (arith, finish_count o m);
+      count = λ _. ap finishes events ∙ sum_by-append (λ (s : EventBody). cond (is_finish s.0) 1 0) (f ∷ []) (finish_at o m) ∙ omega (arith, finish_count o m);
       goes = λ _. subst GoesOn (sym events) (refl, finish_goes o m);
       ends = subst EndsOnce (sym events) (goes_ends (steps_at c o m) (refl, finish_goes o m));
     }
 
-below_apart : (o count : ℕ) (n : Option ℕ) → o + count ≤ most_of n → 1 ≤ count → is_whole o n ≡ false
+below_apart : (o count : ℕ) (n : Option ℕ) → o + count ≤ max_length_of n → 1 ≤ count → is_whole o n ≡ false
 below_apart o count None room some = refl
 below_apart o count (Some m) room some = elim (eqb o m) as (λ b. eqb o m ≡ b → b ≡ false) [ true ↦ λ e. let same = eqb-true o m e in absurd (omega arith) | false ↦ λ e. refl ] refl
 
@@ -125,14 +125,14 @@ run_appended changes u n r can =
     let m = length_of (changes ++ c ∷ []) u in
     let alive = alive_known (is_known changes u) (is_terminated changes u) can.0.0 in
     let events : events_of (changes ++ c ∷ []) u ≡ events_of changes u ++ steps_at c o m = events_of-own changes c in
-    let f : Step = (Receive, o, m) in
+    let f : EventBody = (Receive, o, m) in
     let goes = r.goes alive.1 in
     let before : finishes (events_of changes u) ≡ 0 = r.count alive.0 ∙ ap (λ b. cond b 1 0) (below_apart (offset_of changes u) n (length_of changes u) can.2 can.1) in
-    let added : finishes (steps_at c o m) ≡ cond (is_whole o m) 1 0 = sum_by-append (λ (s : Step). cond (is_finish s.0) 1 0) (f ∷ []) (finish_at o m) ∙ omega (arith, finish_count o m) in
+    let added : finishes (steps_at c o m) ≡ cond (is_whole o m) 1 0 = sum_by-append (λ (s : EventBody). cond (is_finish s.0) 1 0) (f ∷ []) (finish_at o m) ∙ omega (arith, finish_count o m) in
     record {
       begins = subst Begins (sym events) (begins_append (events_of changes u) (steps_at c o m) r.begins (λ none. absurd (r.some alive.0 none)));
       some = λ _ none. absurd (append_some (events_of changes u) f (finish_at o m) (sym events ∙ none));
-      count = λ _. ap finishes events ∙ sum_by-append (λ (s : Step). cond (is_finish s.0) 1 0) (events_of changes u) (steps_at c o m) ∙ omega (arith, before, added);
+      count = λ _. ap finishes events ∙ sum_by-append (λ (s : EventBody). cond (is_finish s.0) 1 0) (events_of changes u) (steps_at c o m) ∙ omega (arith, before, added);
       goes = λ _. subst GoesOn (sym events) (goes_append (events_of changes u) (steps_at c o m) goes (refl, finish_goes o m));
       ends = subst EndsOnce (sym events) (ends_append (events_of changes u) (steps_at c o m) goes (goes_ends (steps_at c o m) (refl, finish_goes o m)));
     }
@@ -146,12 +146,12 @@ run_declared changes u n k r can =
     let events : events_of (changes ++ c ∷ []) u ≡ events_of changes u ++ steps_at c o m = events_of-own changes c in
     let goes = r.goes alive.1 in
     let before : finishes (events_of changes u) ≡ 0 = r.count alive.0 ∙ ap (λ n. cond (is_whole (offset_of changes u) n) 1 0) can.1 in
-    let added : finishes (steps_at c o m) ≡ cond (is_whole o m) 1 0 = sum_by-append (λ (s : Step). cond (is_finish s.0) 1 0) (receive_at k o m) (finish_at o m) ∙ omega (arith, receive_count k o m, finish_count o m) in
+    let added : finishes (steps_at c o m) ≡ cond (is_whole o m) 1 0 = sum_by-append (λ (s : EventBody). cond (is_finish s.0) 1 0) (receive_at k o m) (finish_at o m) ∙ omega (arith, receive_count k o m, finish_count o m) in
     let on : GoesOn (steps_at c o m) = goes_append (receive_at k o m) (finish_at o m) (receive_goes k o m) (finish_goes o m) in
     record {
       begins = subst Begins (sym events) (begins_append (events_of changes u) (steps_at c o m) r.begins (λ none. absurd (r.some alive.0 none)));
       some = λ _ none. absurd (r.some alive.0 (append_nothing (events_of changes u) (steps_at c o m) (sym events ∙ none)));
-      count = λ _. ap finishes events ∙ sum_by-append (λ (s : Step). cond (is_finish s.0) 1 0) (events_of changes u) (steps_at c o m) ∙ omega (arith, before, added);
+      count = λ _. ap finishes events ∙ sum_by-append (λ (s : EventBody). cond (is_finish s.0) 1 0) (events_of changes u) (steps_at c o m) ∙ omega (arith, before, added);
       goes = λ _. subst GoesOn (sym events) (goes_append (events_of changes u) (steps_at c o m) goes on);
       ends = subst EndsOnce (sym events) (ends_append (events_of changes u) (steps_at c o m) goes (goes_ends (steps_at c o m) on));
     }
@@ -165,13 +165,13 @@ run_terminated changes u r can =
     let size = length_of-terminated changes u u in
     let offset = offset_of-terminated changes u u in
     let events : events_of (changes ++ c ∷ []) u ≡ events_of changes u ++ steps_at c o m = events_of-own changes c in
-    let f : Step = (Terminate, o, m) in
+    let f : EventBody = (Terminate, o, m) in
     let goes = r.goes alive.1 in
     let ended = is_terminated-terminated changes u in
     record {
       begins = subst Begins (sym events) (begins_append (events_of changes u) (steps_at c o m) r.begins (λ none. absurd (r.some alive.0 none)));
       some = λ _ none. absurd (append_some (events_of changes u) f [] (sym events ∙ none));
-      count = λ _. ap finishes events ∙ sum_by-append (λ (s : Step). cond (is_finish s.0) 1 0) (events_of changes u) (steps_at c o m) ∙ (omega arith ∙ r.count alive.0) ∙ ap (λ k. cond (is_whole k (length_of changes u)) 1 0) (sym offset) ∙ ap (λ q. cond (is_whole o q) 1 0) (sym size);
+      count = λ _. ap finishes events ∙ sum_by-append (λ (s : EventBody). cond (is_finish s.0) 1 0) (events_of changes u) (steps_at c o m) ∙ (omega arith ∙ r.count alive.0) ∙ ap (λ k. cond (is_whole k (length_of changes u)) 1 0) (sym offset) ∙ ap (λ q. cond (is_whole o q) 1 0) (sym size);
       goes = λ h. absurd (false≢true (sym h ∙ ended));
       ends = subst EndsOnce (sym events) (ends_append (events_of changes u) (steps_at c o m) goes (λ _. refl, tt));
     }
@@ -201,26 +201,26 @@ run_of changes legal = (runs_both changes legal).1
 
 -- ---- numbered events of such a run are lawful
 
-first_create : (u n : ℕ) (steps : List Step) → Begins steps → (e : Event) (rest : List Event) → numbered u n steps ≡ e ∷ rest → e.hook ≡ Create
+first_create : (u n : ℕ) (steps : List EventBody) → Begins steps → (e : Event) (rest : List Event) → numbered u n steps ≡ e ∷ rest → e.hook ≡ Create
 first_create u n [] b e rest is = absurd (cc)
 first_create u n (s ∷ steps) b e rest is = let h : record { id = u; number = n + 1; hook = s.0; offset = s.1; length = s.2 } ≡ e = cc in ap (λ (e : Event). e.hook) (sym h) ∙ b
 
 count_cons : (e : Event) (events : List Event) → count_by (λ (e : Event). is_finish e.hook) (e ∷ events) ≡ cond (is_finish e.hook) 1 0 + count_by (λ (e : Event). is_finish e.hook) events
 count_cons e events = sum_by-append (λ (e : Event). cond (is_finish e.hook) 1 0) (e ∷ []) events ∙ omega arith
 
-step_cons : (s : Step) (steps : List Step) → finishes (s ∷ steps) ≡ cond (is_finish s.0) 1 0 + finishes steps
-step_cons s steps = sum_by-append (λ (s : Step). cond (is_finish s.0) 1 0) (s ∷ []) steps ∙ omega arith
+step_cons : (s : EventBody) (steps : List EventBody) → finishes (s ∷ steps) ≡ cond (is_finish s.0) 1 0 + finishes steps
+step_cons s steps = sum_by-append (λ (s : EventBody). cond (is_finish s.0) 1 0) (s ∷ []) steps ∙ omega arith
 
-count_numbered : (u n : ℕ) (steps : List Step) → count_by (λ (e : Event). is_finish e.hook) (numbered u n steps) ≡ finishes steps
+count_numbered : (u n : ℕ) (steps : List EventBody) → count_by (λ (e : Event). is_finish e.hook) (numbered u n steps) ≡ finishes steps
 count_numbered u n [] = refl
 count_numbered u n (s ∷ steps) =
     count_cons (record { id = u; number = n + 1; hook = s.0; offset = s.1; length = s.2 }) (numbered u (n + 1) steps)
     ∙ ap (λ k. cond (is_finish s.0) 1 0 + k) (count_numbered u (n + 1) steps) ∙ sym (step_cons s steps)
 
-nothing_numbered : (u n : ℕ) (steps : List Step) → steps ≡ [] → numbered u n steps ≡ []
+nothing_numbered : (u n : ℕ) (steps : List EventBody) → steps ≡ [] → numbered u n steps ≡ []
 nothing_numbered u n steps e = ap (numbered u n) e
 
-last_end : (u n : ℕ) (steps : List Step) → EndsOnce steps → (front back : List Event) (e : Event) → numbered u n steps ≡ front ++ e ∷ back → e.hook ≡ Terminate → back ≡ []
+last_end : (u n : ℕ) (steps : List EventBody) → EndsOnce steps → (front back : List Event) (e : Event) → numbered u n steps ≡ front ++ e ∷ back → e.hook ≡ Terminate → back ≡ []
 last_end u n [] once [] back e is end = absurd (cc)
 last_end u n [] once (f ∷ front) back e is end = absurd (cc)
 last_end u n (s ∷ steps) once [] back e is end =

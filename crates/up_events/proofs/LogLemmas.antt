@@ -4,8 +4,8 @@ use Rattle.std.proofs.lemmas.Bool.{eqb-true, eq-eqb}
 use Rattle.up_events.specs.declared.event.Accepted.{Accepted}
 use Rattle.up_events.specs.declared.event.Event.{Event}
 use Rattle.up_events.specs.Lists.{gather}
-use Rattle.up_events.specs.History.{id_of, Step, steps_of, events_of}
-use Rattle.up_events.specs.Log.{numbered, log_of, step_of, is_of, CountsFrom}
+use Rattle.up_events.specs.History.{id_of, EventBody, steps_of, events_of}
+use Rattle.up_events.specs.Log.{numbered, log_of, body_of, is_of, CountsFrom}
 use Rattle.up_events.proofs.HistoryLemmas.{append_nil, log_of-snoc, events_of-other}
 use Rattle.up_events.proofs.Sound.{events_of-own}
 
@@ -17,7 +17,7 @@ from_back P more before (x ∷ rest) here = subst P (append_assoc before (x ∷ 
 
 -- ---- numbered events
 
-numbered-append : (u n : ℕ) (xs ys : List Step) → numbered u n (xs ++ ys) ≡ numbered u n xs ++ numbered u (n + length xs) ys
+numbered-append : (u n : ℕ) (xs ys : List EventBody) → numbered u n (xs ++ ys) ≡ numbered u n xs ++ numbered u (n + length xs) ys
 numbered-append u n [] ys = ap (λ k. numbered u k ys) (omega arith)
 numbered-append u n (s ∷ xs) ys = ap (λ l. record { id = u; number = n + 1; hook = s.0; offset = s.1; length = s.2 } ∷ l) (numbered-append u (n + 1) xs ys ∙ ap (λ k. numbered u (n + 1) xs ++ numbered u k ys) (omega arith))
 
@@ -25,20 +25,20 @@ pub filter-append : (p : Event → Bool) (xs ys : List Event) → filter p (xs +
 filter-append p [] ys = refl
 filter-append p (x ∷ xs) ys = elim (p x) as (λ b. cond b (x ∷ filter p (xs ++ ys)) (filter p (xs ++ ys)) ≡ cond b (x ∷ filter p xs) (filter p xs) ++ filter p ys) [ true ↦ ap (λ l. x ∷ l) (filter-append p xs ys) | false ↦ filter-append p xs ys ]
 
-own-numbered : (u n : ℕ) (steps : List Step) → filter (is_of u) (numbered u n steps) ≡ numbered u n steps
+own-numbered : (u n : ℕ) (steps : List EventBody) → filter (is_of u) (numbered u n steps) ≡ numbered u n steps
 own-numbered u n [] = refl
 own-numbered u n (s ∷ steps) = ap (λ b. cond b (record { id = u; number = n + 1; hook = s.0; offset = s.1; length = s.2 } ∷ filter (is_of u) (numbered u (n + 1) steps)) (filter (is_of u) (numbered u (n + 1) steps))) (eq-eqb u u refl)
     ∙ ap (λ l. record { id = u; number = n + 1; hook = s.0; offset = s.1; length = s.2 } ∷ l) (own-numbered u (n + 1) steps)
 
-other-numbered : (u v n : ℕ) (steps : List Step) → eqb v u ≡ false → filter (is_of u) (numbered v n steps) ≡ []
+other-numbered : (u v n : ℕ) (steps : List EventBody) → eqb v u ≡ false → filter (is_of u) (numbered v n steps) ≡ []
 other-numbered u v n [] e = refl
 other-numbered u v n (s ∷ steps) e = ap (λ b. cond b (record { id = v; number = n + 1; hook = s.0; offset = s.1; length = s.2 } ∷ filter (is_of u) (numbered v (n + 1) steps)) (filter (is_of u) (numbered v (n + 1) steps))) e ∙ other-numbered u v (n + 1) steps e
 
-pub steps-numbered : (u n : ℕ) (steps : List Step) → map step_of (numbered u n steps) ≡ steps
+pub steps-numbered : (u n : ℕ) (steps : List EventBody) → map body_of (numbered u n steps) ≡ steps
 steps-numbered u n [] = refl
 steps-numbered u n (s ∷ steps) = ap (λ l. s ∷ l) (steps-numbered u (n + 1) steps)
 
-pub counts-numbered : (u n : ℕ) (steps : List Step) → CountsFrom n (numbered u n steps)
+pub counts-numbered : (u n : ℕ) (steps : List EventBody) → CountsFrom n (numbered u n steps)
 counts-numbered u n [] = tt
 counts-numbered u n (s ∷ steps) = (refl, counts-numbered u (n + 1) steps)
 
@@ -47,7 +47,7 @@ counts-numbered u n (s ∷ steps) = (refl, counts-numbered u (n + 1) steps)
 OwnIs : ℕ → ℕ → List Accepted → Type 0
 OwnIs lanes u changes = filter (is_of u) (log_of lanes changes (u % lanes)) ≡ numbered u 0 (events_of changes u)
 
-none_of_other : (b : Bool) (u v n : ℕ) (steps : List Step) → eqb v u ≡ false → filter (is_of u) (cond b (numbered v n steps) []) ≡ []
+none_of_other : (b : Bool) (u v n : ℕ) (steps : List EventBody) → eqb v u ≡ false → filter (is_of u) (cond b (numbered v n steps) []) ≡ []
 none_of_other true u v n steps e = other-numbered u v n steps e
 none_of_other false u v n steps e = refl
 
@@ -76,8 +76,8 @@ unfolding OwnIs log_of events_of gather
 own_is lanes u changes = from_back (OwnIs lanes u) (own_more lanes u) [] changes refl
 
 -- the events of an upload in the log of its lane, without ids and numbers, are the upload's events
-pub log_steps : (lanes u : ℕ) (changes : List Accepted) → map step_of (filter (is_of u) (log_of lanes changes (u % lanes))) ≡ events_of changes u
-log_steps lanes u changes = ap (map step_of) (own_is lanes u changes) ∙ steps-numbered u 0 (events_of changes u)
+pub log_steps : (lanes u : ℕ) (changes : List Accepted) → map body_of (filter (is_of u) (log_of lanes changes (u % lanes))) ≡ events_of changes u
+log_steps lanes u changes = ap (map body_of) (own_is lanes u changes) ∙ steps-numbered u 0 (events_of changes u)
 
 -- ---- an upload has no event in another lane's log
 

@@ -2,7 +2,7 @@
 use Rattle.std.proofs.Common.{◌≡◌, ℕ, ◌+◌, ◌*◌, ◌^◌, ◌≤◌, Bool, true, false, cond, eqb, ◌||◌, ◌&&◌, not, Option, Some, None, is_some, unwrap_or, List, [], ◌∷◌, ◌++◌, length, zero, suc, refl, sym, ap, ◌∙◌, subst, arith, length-append}
 use Rattle.std.proofs.lemmas.Bool.{eqb-true, eq-eqb, false≢true}
 use Rattle.std.specs.Option.{option_or}
-use Rattle.up_events.specs.History.{id_of, kind_of, length_of, received, is_final, is_final_kind, offset_of, is_known, is_terminated, most_of, CanFollow, IsLegal, Step, is_whole, finish_at, steps_at, steps_of, events_of}
+use Rattle.up_events.specs.History.{id_of, kind_of, length_of, received, is_final, is_final_kind, offset_of, is_known, is_terminated, max_length_of, CanFollow, IsLegal, EventBody, is_whole, finish_at, steps_at, steps_of, events_of}
 use Rattle.up_events.specs.declared.event.Accepted.{Accepted}
 use Rattle.up_events.specs.declared.event.Accepted.TheVariants.{Created, Appended, Declared, Terminated}
 use Rattle.up_events.specs.declared.event.Hook.TheVariants.{Receive, Finish}
@@ -120,9 +120,9 @@ pub record IsSound (changes : List Accepted) (u : ℕ) : Type 0 where
   pub no_bytes : is_known changes u ≡ false → received changes u ≡ 0
   pub not_ended : is_known changes u ≡ false → is_terminated changes u ≡ false
   pub few : length (events_of changes u) ≤ 2 * received changes u + cond (is_some (length_of changes u)) 2 1 + cond (is_terminated changes u) 1 0
-  pub within : offset_of changes u ≤ most_of (length_of changes u)
+  pub within : offset_of changes u ≤ max_length_of (length_of changes u)
   pub final : is_final (kind_of changes u) ≡ true → received changes u ≡ 0
-  pub small : most_of (length_of changes u) ≤ 2 ^ 30
+  pub small : max_length_of (length_of changes u) ≤ 2 ^ 30
 
 pub sound_empty : (u : ℕ) → IsSound [] u
 unfolding events_of gather kind_of length_of first_given received is_terminated offset_of
@@ -167,7 +167,7 @@ created_le u kind offset (Some n) = omega (arith, finish_le offset (Some n))
 -- a declaration without bytes makes at most one event
 declared_le : (u n k offset : ℕ) (size : Option ℕ) → length (steps_at (Declared u n k) offset size) ≤ 2 * k + 1
 declared_le u n k offset size =
-    elim (eqb k 0) as (λ b. eqb k 0 ≡ b → length (cond b [] (let s : Step = (Receive, offset, size) in s ∷ []) ++ finish_at offset size) ≤ 2 * k + 1) [
+    elim (eqb k 0) as (λ b. eqb k 0 ≡ b → length (cond b [] (let s : EventBody = (Receive, offset, size) in s ∷ []) ++ finish_at offset size) ≤ 2 * k + 1) [
       | true ↦ λ e. omega (arith, finish_le offset size)
       | false ↦ λ e. let some = positive k e in omega (arith, finish_le offset size)
     ] refl
@@ -175,7 +175,7 @@ declared_le u n k offset size =
 steps_le : (c : Accepted) (offset : ℕ) (n : Option ℕ) → length (steps_at c offset n) ≤ 2
 steps_le (Created u m kind) offset n = omega (arith, finish_le offset n)
 steps_le (Appended u m) offset n = omega (arith, finish_le offset n)
-steps_le (Declared u m k) offset n = elim (eqb k 0) as (λ b. length (cond b [] (let s : Step = (Receive, offset, n) in s ∷ []) ++ finish_at offset n) ≤ 2) [ true ↦ omega (arith, finish_le offset n) | false ↦ omega (arith, finish_le offset n) ]
+steps_le (Declared u m k) offset n = elim (eqb k 0) as (λ b. length (cond b [] (let s : EventBody = (Receive, offset, n) in s ∷ []) ++ finish_at offset n) ≤ 2) [ true ↦ omega (arith, finish_le offset n) | false ↦ omega (arith, finish_le offset n) ]
 steps_le (Terminated u) offset n = omega arith
 
 -- an upload whose kind is there is known
@@ -190,7 +190,7 @@ alive_known false b e = absurd (false≢true e)
 more_events : (changes : List Accepted) (c : Accepted) → length (events_of (changes ++ c ∷ []) (id_of c)) ≡ length (events_of changes (id_of c)) + length (steps_of changes c)
 more_events changes c = ap length (events_of-own changes c) ∙ length-append (events_of changes (id_of c)) (steps_of changes c)
 
-created_within : (kind : Kind) (n : Option ℕ) → cond (is_final_kind kind) (unwrap_or n 0) 0 ≤ most_of n
+created_within : (kind : Kind) (n : Option ℕ) → cond (is_final_kind kind) (unwrap_or n 0) 0 ≤ max_length_of n
 created_within Plain n = omega arith
 created_within Partial n = omega arith
 created_within Final None = omega arith

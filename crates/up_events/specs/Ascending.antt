@@ -11,8 +11,8 @@ abbrev pub has : List ℕ → ℕ → Bool
 has ids u = list_any (λ id. id == u) ids
 
 -- the new list has this id and the ids of the old list, and no other
-abbrev pub Adds : List ℕ → ℕ → List ℕ → Type 0
-Adds old id new = (u : ℕ) → has new u ≡ (has old u || id == u)
+abbrev pub HasAdded : List ℕ → ℕ → List ℕ → Type 0
+HasAdded old id new = (u : ℕ) → has new u ≡ (has old u || id == u)
 
 -- the blocks have the ids, in order
 abbrev pub AreBlocks : List ℕ → List (Vec ℕ Global) → Type 0

@@ -1,7 +1,7 @@
 -- When the events that were handed over are a prefix of the events of each upload.
 use Rattle.std.specs.Prelude.{◌≡◌, ℕ, List, ◌++◌, length, map, filter, Contains}
-use Rattle.up_events.specs.History.{Step, events_of}
-use Rattle.up_events.specs.Log.{log_of, step_of, is_of, CountsFrom}
+use Rattle.up_events.specs.History.{EventBody, events_of}
+use Rattle.up_events.specs.Log.{log_of, body_of, is_of, CountsFrom}
 use Rattle.up_events.specs.declared.event.Accepted.{Accepted}
 use Rattle.up_events.specs.declared.event.Event.{Event}
 
@@ -22,8 +22,8 @@ abbrev pub IsNumbered : List Event → Type 0
 IsNumbered events = (u : ℕ) → CountsFrom 0 (filter (is_of u) events)
 
 -- the events of an upload that were handed over, without ids and numbers
-abbrev pub handed_of : List Event → ℕ → List Step
-handed_of handed u = map step_of (filter (is_of u) handed)
+abbrev pub handed_of : List Event → ℕ → List EventBody
+handed_of handed u = map body_of (filter (is_of u) handed)
 
 -- what was handed over of each upload is a prefix of its events, each once and in order
 abbrev pub IsDelivered : List Accepted → List Event → Type 0

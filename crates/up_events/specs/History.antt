@@ -2,7 +2,7 @@
 use Rattle.std.specs.Prelude.{◌≡◌, ℕ, ◌+◌, ◌≤◌, Bool, true, false, ◌&&◌, not, Option, Some, None, is_some, is_none, unwrap_or, List, [], ◌∷◌, ◌++◌, sum_by, if◌then◌else◌, ◌==◌}
 use Rattle.std.specs.List.{list_any}
 use Rattle.up_events.specs.Lists.{gather, EachFollows, first_given}
-use Rattle.up_events.specs.declared.limits.TheConstants.{MOST_BYTES}
+use Rattle.up_events.specs.declared.limits.TheConstants.{MAX_UPLOAD_BYTES}
 use Rattle.up_events.specs.declared.event.Accepted.{Accepted}
 use Rattle.up_events.specs.declared.event.Accepted.TheVariants.{Created, Appended, Declared, Terminated}
 use Rattle.up_events.specs.declared.event.Hook.{Hook}
@@ -85,8 +85,8 @@ abbrev pub is_alive : List Accepted → ℕ → Bool
 is_alive changes u = is_known changes u && not (is_terminated changes u)
 
 -- the maximum number of bytes of an upload of this length: 2^30 while the length is not known
-abbrev pub most_of : Option ℕ → ℕ
-most_of length = unwrap_or length MOST_BYTES
+abbrev pub max_length_of : Option ℕ → ℕ
+max_length_of length = unwrap_or length MAX_UPLOAD_BYTES
 
 -- an upload that exists and is not final
 abbrev pub IsOpen : List Accepted → ℕ → Type 0
@@ -99,9 +99,9 @@ IsOpen before u = (is_alive before u ≡ true) × (is_final (kind_of before u) �
 --   to that length, perhaps none
 -- - the termination of an upload that exists
 abbrev pub CanFollow : List Accepted → Accepted → Type 0
-CanFollow before (Created id length kind) = (is_known before id ≡ false) × (most_of length ≤ MOST_BYTES) × ((is_final_kind kind && is_none length) ≡ false)
-CanFollow before (Appended id count) = IsOpen before id × (1 ≤ count) × (offset_of before id + count ≤ most_of (length_of before id))
-CanFollow before (Declared id length count) = IsOpen before id × (length_of before id ≡ None) × (offset_of before id + count ≤ length) × (length ≤ MOST_BYTES)
+CanFollow before (Created id length kind) = (is_known before id ≡ false) × (max_length_of length ≤ MAX_UPLOAD_BYTES) × ((is_final_kind kind && is_none length) ≡ false)
+CanFollow before (Appended id count) = IsOpen before id × (1 ≤ count) × (offset_of before id + count ≤ max_length_of (length_of before id))
+CanFollow before (Declared id length count) = IsOpen before id × (length_of before id ≡ None) × (offset_of before id + count ≤ length) × (length ≤ MAX_UPLOAD_BYTES)
 CanFollow before (Terminated id) = is_alive before id ≡ true
 
 -- each change can follow those before it
@@ -111,8 +111,8 @@ IsLegal changes = EachFollows CanFollow [] changes
 -- ---- events
 
 -- an event without id and number: the hook, the offset and the length
-abbrev pub Step : Type 0
-Step = Hook × ℕ × Option ℕ
+abbrev pub EventBody : Type 0
+EventBody = Hook × ℕ × Option ℕ
 
 -- whether all bytes have arrived: the length is known, and the offset is the length
 abbrev pub is_whole : ℕ → Option ℕ → Bool
@@ -120,26 +120,26 @@ is_whole offset None = false
 is_whole offset (Some length) = offset == length
 
 -- a post-finish, if the offset is the length
-abbrev pub finish_at : ℕ → Option ℕ → List Step
+abbrev pub finish_at : ℕ → Option ℕ → List EventBody
 finish_at offset length = if is_whole offset length then (Finish, offset, length) ∷ [] else []
 
 -- a post-receive, if there are bytes
-abbrev pub receive_at : ℕ → ℕ → Option ℕ → List Step
+abbrev pub receive_at : ℕ → ℕ → Option ℕ → List EventBody
 receive_at count offset length = if count == 0 then [] else (Receive, offset, length) ∷ []
 
 -- the events of a change, at the offset that it reaches and with the length of its upload, if that is then known
-abbrev pub steps_at : Accepted → ℕ → Option ℕ → List Step
+abbrev pub steps_at : Accepted → ℕ → Option ℕ → List EventBody
 steps_at (Created id _ kind) offset length = (Create, offset, length) ∷ finish_at offset length
 steps_at (Appended id count) offset length = (Receive, offset, length) ∷ finish_at offset length
 steps_at (Declared id _ count) offset length = receive_at count offset length ++ finish_at offset length
 steps_at (Terminated id) offset length = (Terminate, offset, length) ∷ []
 
 -- the events of a change that follows these
-abbrev pub steps_of : List Accepted → Accepted → List Step
+abbrev pub steps_of : List Accepted → Accepted → List EventBody
 steps_of before c =
     let through = before ++ c ∷ [] in
     steps_at c (offset_of through (id_of c)) (length_of through (id_of c))
 
 -- the events of an upload: those of each of its changes, in order
-unfoldable pub events_of : List Accepted → ℕ → List Step
+unfoldable pub events_of : List Accepted → ℕ → List EventBody
 events_of changes u = gather (λ before c. if id_of c == u then steps_of before c else []) [] changes

@@ -6,7 +6,7 @@ use Rattle.up_events.specs.Ascending.{has}
 use Rattle.up_events.specs.History.{is_alive, is_terminated, offset_of, length_of, events_of, IsLegal}
 use Rattle.up_events.specs.Left.{Left}
 use Rattle.up_events.specs.Log.{log_of}
-use Rattle.up_events.specs.declared.limits.TheConstants.{MOST_LANES}
+use Rattle.up_events.specs.declared.limits.TheConstants.{MAX_LANES}
 use Rattle.up_events.specs.declared.event.Event.{Event}
 use Rattle.up_events.specs.declared.event.Accepted.{Accepted}
 use Rattle.up_events.specs.declared.track.Track.{Track}
@@ -25,7 +25,7 @@ pub record IsTailOf (log : List Event) (tail : Left) : Type 0 where
 -- the states of the uploads that exist, and the ids are those of the terminated uploads
 pub record IsKept (a : Inside) : Type 0 where
   pub some_lane : 0 < a.lanes
-  pub few_lanes : a.lanes ≤ MOST_LANES
+  pub few_lanes : a.lanes ≤ MAX_LANES
   pub legal : IsLegal a.accepted.items
   pub rows : length a.logs.items ≡ a.lanes
   pub logs : (k : ℕ) (log : Left) → slice_get a.logs.items k ≡ Some log → IsTailOf (log_of a.lanes a.accepted.items k) log

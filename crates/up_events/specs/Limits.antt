@@ -2,9 +2,9 @@
 use Rattle.std.specs.Prelude.{ℕ, ◌^◌}
 
 -- the maximum number of lanes of a server
-abbrev pub most_lanes : ℕ
-most_lanes = 16
+abbrev pub max_lanes : ℕ
+max_lanes = 16
 
 -- the maximum number of bytes of an upload
-abbrev pub most_bytes : ℕ
-most_bytes = 2 ^ 30
+abbrev pub max_upload_bytes : ℕ
+max_upload_bytes = 2 ^ 30

@@ -1,14 +1,14 @@
 -- Numbered events: the log that the accepted changes define for a lane, and when a list of events is lawful.
 use Rattle.std.specs.Prelude.{◌≡◌, ℕ, ◌+◌, ◌%◌, ◌≤◌, Bool, true, false, List, [], ◌∷◌, ◌++◌, length, map, filter, count_by, if◌then◌else◌, ◌==◌}
 use Rattle.up_events.specs.Lists.{gather}
-use Rattle.up_events.specs.History.{id_of, Step, steps_of, events_of, IsLegal}
+use Rattle.up_events.specs.History.{id_of, EventBody, steps_of, events_of, IsLegal}
 use Rattle.up_events.specs.declared.event.Accepted.{Accepted}
 use Rattle.up_events.specs.declared.event.Event.{Event}
 use Rattle.up_events.specs.declared.event.Hook.{Hook}
 use Rattle.up_events.specs.declared.event.Hook.TheVariants.{Create, Receive, Finish, Terminate}
 
 -- the events of an upload after its first n, with their numbers
-abbrev pub numbered : ℕ → ℕ → List Step → List Event
+abbrev pub numbered : ℕ → ℕ → List EventBody → List Event
 numbered u n [] = []
 numbered u n (s ∷ steps) = record { id = u; number = n + 1; hook = s.0; offset = s.1; length = s.2 } ∷ numbered u (n + 1) steps
 
@@ -23,8 +23,8 @@ unfoldable pub log_of : ℕ → List Accepted → ℕ → List Event
 log_of lanes changes k = gather (added_to lanes k) [] changes
 
 -- an event without its id and number
-abbrev pub step_of : Event → Step
-step_of e = (e.hook, e.offset, e.length)
+abbrev pub body_of : Event → EventBody
+body_of e = (e.hook, e.offset, e.length)
 
 -- whether the event belongs to the upload
 abbrev pub is_of : ℕ → Event → Bool
@@ -60,7 +60,7 @@ LogsAreLawful = (lanes k : ℕ) (changes : List Accepted) → IsLegal changes �
 
 -- the events of an upload in the log of its lane are the events that its changes result in, ids and numbers aside
 abbrev pub LogsTellEvents : Type 0
-LogsTellEvents = (lanes u : ℕ) (changes : List Accepted) → IsLegal changes → map step_of (filter (is_of u) (log_of lanes changes (u % lanes))) ≡ events_of changes u
+LogsTellEvents = (lanes u : ℕ) (changes : List Accepted) → IsLegal changes → map body_of (filter (is_of u) (log_of lanes changes (u % lanes))) ≡ events_of changes u
 
 -- one more change adds its events at the end of the log of its lane, and nothing to another log
 abbrev pub LogsGrowAtTheirEnd : Type 0

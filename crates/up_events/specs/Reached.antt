@@ -29,11 +29,11 @@ hook_of (Declared id length count) = if count == 0 then None else Some Receive
 hook_of (Terminated id) = Some Terminate
 
 -- whether the change makes its upload complete, with this offset and length after it
-abbrev pub completes : Accepted → ℕ → Option ℕ → Bool
-completes (Created id _ kind) offset length = is_whole offset length
-completes (Appended id count) offset length = is_whole offset length
-completes (Declared id _ count) offset length = is_whole offset length
-completes (Terminated id) offset length = false
+abbrev pub makes_whole : Accepted → ℕ → Option ℕ → Bool
+makes_whole (Created id _ kind) offset length = is_whole offset length
+makes_whole (Appended id count) offset length = is_whole offset length
+makes_whole (Declared id _ count) offset length = is_whole offset length
+makes_whole (Terminated id) offset length = false
 
 -- the state of the upload that is kept: none once it is terminated
 abbrev pub track_left : Accepted → Track → Option Track

@@ -7,7 +7,7 @@ use crate::ended::Ended;
 use crate::event::{Accepted, Event};
 use crate::fault::NoMemory;
 use crate::id::Id;
-use crate::limits::MOST_LANES;
+use crate::limits::MAX_LANES;
 use crate::tail::Tail;
 use crate::track::{Track, write};
 use std::alloc::Global;
@@ -78,11 +78,11 @@ impl Journal {
     ghost use Rattle.up_events.specs.Records.{kept_log, lane_log, noted, ArePlaces};
     ghost use Rattle.up_events.specs.History.{is_known, CanFollow, IsLegal};
 
-    /// A journal without changes, for 1 to `MOST_LANES` lanes. It keeps its changes. `NoMemory` if memory for the logs
+    /// A journal without changes, for 1 to `MAX_LANES` lanes. It keeps its changes. `NoMemory` if memory for the logs
     /// runs out.
     pub fn new(alloc: Global, lanes: u64) -> Result<Journal, NoMemory>
         requires some_lane { 0 < lanes }
-        requires few_lanes { lanes ≤ MOST_LANES }
+        requires few_lanes { lanes ≤ MAX_LANES }
         ensures { IfOk result (λ journal. journal ≡ empty_records lanes) }
     {
         let ended = Ended::empty(alloc)?;
@@ -99,7 +99,7 @@ impl Journal {
     /// The same, but the journal counts the changes and does not keep them. `NoMemory` if memory runs out.
     pub fn forgetting(alloc: Global, lanes: u64) -> Result<Journal, NoMemory>
         requires some_lane { 0 < lanes }
-        requires few_lanes { lanes ≤ MOST_LANES }
+        requires few_lanes { lanes ≤ MAX_LANES }
         ensures { IfOk result (λ journal.
             journal ≡ record (empty_records lanes) { keeps = false }) }
     {

@@ -1,10 +1,10 @@
 //! Laws about the definitions.
 ghost use Rattle.std.specs.Prelude.{◌≡◌};
-ghost use Rattle.up_events.specs.Limits.{most_bytes, most_lanes};
+ghost use Rattle.up_events.specs.Limits.{max_upload_bytes, max_lanes};
 ghost use Rattle.up_events.specs.Log.{FrontsAreLawful, LogsAreLawful, LogsGrowAtTheirEnd, LogsTellEvents};
 ghost use Rattle.up_events.specs.Delivery.{NumberedIsDelivered};
 
-use crate::limits::{MOST_BYTES, MOST_LANES};
+use crate::limits::{MAX_LANES, MAX_UPLOAD_BYTES};
 
 /// For every legal list of changes, the log of a lane is lawful: the events of each upload are numbered 1, 2, 3 and so
 /// on, with post-create first, post-finish at most once, and nothing after post-terminate. In the log of its lane, an
@@ -32,6 +32,6 @@ pub fn fronts_are_lawful()
 
 /// The constants have the values that the definitions give.
 pub fn limits_are_exact()
-    ensures lanes { MOST_LANES ≡ most_lanes }
-    ensures bytes { MOST_BYTES ≡ most_bytes }
+    ensures lanes { MAX_LANES ≡ max_lanes }
+    ensures bytes { MAX_UPLOAD_BYTES ≡ max_upload_bytes }
 {}

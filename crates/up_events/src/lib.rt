@@ -26,6 +26,6 @@ pub use law::{
     fronts_are_lawful, limits_are_exact, logs_are_lawful, logs_grow_at_their_end,
     numbered_events_are_delivered,
 };
-pub use limits::{MOST_BYTES, MOST_LANES};
+pub use limits::{MAX_LANES, MAX_UPLOAD_BYTES};
 pub use room::make_room;
 pub use trace::Trace;

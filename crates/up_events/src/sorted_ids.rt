@@ -4,7 +4,7 @@ ghost use Rattle.std.specs.Prelude.{length, slice_get, Some, option_to_list, OnO
 ghost use Rattle.std.specs.List.{insert};
 ghost use Rattle.std.specs.List.Sorted.{IsBinarySearchResult, IsNonDecreasing};
 ghost use Rattle.std.specs.Ordering.{nat_cmp};
-ghost use Rattle.up_events.specs.Ascending.{Adds, AreBlocks, has, ids_in};
+ghost use Rattle.up_events.specs.Ascending.{HasAdded, AreBlocks, has, ids_in};
 
 use crate::blocks::new_block;
 use crate::fault::NoMemory;
@@ -147,7 +147,7 @@ impl SortedIds {
     /// Inserts an id if it is not there. `NoMemory` if memory runs out or there are already 2^64 - 1 ids; the list is
     /// then unchanged.
     pub fn insert(&mut self, id: Id) -> Result<(), NoMemory>
-        ensures ok { OnOk result (Adds self.old id self.new) }
+        ensures ok { OnOk result (HasAdded self.old id self.new) }
         ensures err { OnErr result (self.new ≡ self.old) }
     {
         let Err(place) = self.find(id) else {

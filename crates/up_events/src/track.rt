@@ -4,7 +4,7 @@ ghost use Rattle.std.specs.Ordering.{nat_cmp};
 ghost use Rattle.std.specs.BTreeMap.{Updates, IsUnchanged};
 ghost use Rattle.up_events.specs.History.{id_of, steps_at};
 ghost use Rattle.up_events.specs.Log.{numbered};
-ghost use Rattle.up_events.specs.Reached.{reached, hook_of, bytes_added, completes, track_left, ended_by};
+ghost use Rattle.up_events.specs.Reached.{reached, hook_of, bytes_added, makes_whole, track_left, ended_by};
 
 use crate::changes::Changes;
 use crate::ended::Ended;
@@ -85,7 +85,7 @@ fn own_hook(change: &Accepted) -> Option<Hook>
 
 /// Whether the change makes its upload complete; `track` is the state after the change.
 fn is_completing(change: &Accepted, track: Track) -> bool
-    ensures { result ≡ completes change.now track.offset track.length }
+    ensures { result ≡ makes_whole change.now track.offset track.length }
 {
     match change {
         Accepted::Created { .. } | Accepted::Appended { .. } | Accepted::Declared { .. } => {

@@ -3,8 +3,8 @@
 #![tactic(auto)]
 
 ghost use Rattle.std.specs.Prelude.{IsTrue};
-ghost use Rattle.up_hooks.specs.Told.{has_code};
-ghost use Rattle.up_hooks.specs.Verdicts.{is_lawful};
+ghost use Rattle.up_hooks.specs.Recorded.{has_code};
+ghost use Rattle.up_hooks.specs.Verdicts.{is_allowed_verdict};
 
 use std::io::{self, BufReader, BufWriter};
 use up_events::{Event, Hook};
@@ -29,12 +29,12 @@ fn scan(rt: &impl Eprint, upload: &Event) -> Outcome
 
 fn main(rt: HostRuntime) -> anyhow::Result<()> {
     let named = |ask: &Ask| -> Verdict
-        ensures { IsTrue (is_lawful result) }
+        ensures { IsTrue (is_allowed_verdict result) }
     { needs_key(ask, b"filename") };
     let mut hooks = Vec::new(rt.alloc());
     hooks.push(PreHook::new(Point::Create, Box::new(rt.alloc(), named)?))?;
     let no_program = |ask: &Ask| -> Verdict
-        ensures { IsTrue (is_lawful result) }
+        ensures { IsTrue (is_allowed_verdict result) }
     {
         match ask.value(b"filename") {
             Some(name) if name.ends_with(b".exe") => refuse(422, b"programs are not taken"),
@@ -43,7 +43,7 @@ fn main(rt: HostRuntime) -> anyhow::Result<()> {
     };
     hooks.push(PreHook::new(Point::Create, Box::new(rt.alloc(), no_program)?))?;
     let small = |ask: &Ask| -> Verdict
-        ensures { IsTrue (is_lawful result) }
+        ensures { IsTrue (is_allowed_verdict result) }
     { finishes_at_most(ask, 16) };
     hooks.push(PreHook::new(Point::Finish, Box::new(rt.alloc(), small)?))?;
 

@@ -19,12 +19,12 @@ module _ {H D : Type 0} {g : Ghosts D} where
   before_of continued = continued.before
 
   -- the events, of those still in the log, that all runs together handed over, in order
-  abbrev pub events_of : Continued H D g → List Event
-  events_of continued = continued.told.items
+  abbrev pub handed_events : Continued H D g → List Event
+  handed_events continued = continued.told.items
 
   -- the inner post-hook
-  abbrev pub hook_of : Continued H D g → H
-  hook_of continued = continued.hook
+  abbrev pub inner_hook : Continued H D g → H
+  inner_hook continued = continued.hook
 
   -- the count
   abbrev pub handed_of : Continued H D g → Handed D g

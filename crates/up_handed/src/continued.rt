@@ -42,7 +42,7 @@ pub struct Continued<H, D: Disk> {
 }
 
 impl<H: PostHook, D: Disk + Send> PostHook for Continued<H, D> {
-    ghost use Rattle.up_handed.specs.Continues.{GoesOn, IsAllCounted, IsStopped, events_of};
+    ghost use Rattle.up_handed.specs.Continues.{GoesOn, IsAllCounted, IsStopped, handed_events};
 
     ghost is_sound = { GoesOn H.PostHook };
 
@@ -56,7 +56,7 @@ impl<H: PostHook, D: Disk + Send> PostHook for Continued<H, D> {
     fn ready(&mut self) -> Result<(), NoMemory>
         requires { GoesOn H.PostHook self.old }
         ensures sound { GoesOn H.PostHook self.new }
-        ensures same { events_of self.new ≡ events_of self.old }
+        ensures same { handed_events self.new ≡ handed_events self.old }
         ensures alike { (event : Told) (outcome : Answer)
             → ⟦<Continued<H, D> as PostHook>⟧.may_answer self.new event outcome
             → ⟦<Continued<H, D> as PostHook>⟧.may_answer self.old event outcome }
@@ -91,7 +91,7 @@ impl<H: PostHook, D: Disk + Send> PostHook for Continued<H, D> {
 }
 
 impl<H: PostHook, D: Disk + Send> Continued<H, D> {
-    ghost use Rattle.up_handed.specs.Continues.{before_of, hook_of, handed_of, left_out_of};
+    ghost use Rattle.up_handed.specs.Continues.{before_of, inner_hook, handed_of, left_out_of};
 
     /// A post-hook that was handed nothing, for a run that continues after as many events as `handed` counts. This
     /// number is on the disk, as it is after the count was opened.
@@ -99,7 +99,7 @@ impl<H: PostHook, D: Disk + Send> Continued<H, D> {
         requires sound { H.is_sound hook }
         requires handed { H.handed hook ≡ [] }
         requires on_disk { IsOnDisk D.Disk (device_of handed) (count_of handed) }
-        ensures hook { hook_of result ≡ hook }
+        ensures hook { inner_hook result ≡ hook }
         ensures before { before_of result ≡ count_of handed }
         ensures all { left_out_of result ≡ 0 }
         ensures handed { handed_of result ≡ handed }
@@ -115,7 +115,7 @@ impl<H: PostHook, D: Disk + Send> Continued<H, D> {
         requires handed { H.handed hook ≡ [] }
         requires on_disk { IsOnDisk D.Disk (device_of handed) (count_of handed) }
         requires fits { left_out ≤ count_of handed }
-        ensures hook { hook_of result ≡ hook }
+        ensures hook { inner_hook result ≡ hook }
         ensures before { left_out + before_of result ≡ count_of handed }
         ensures left_out { left_out_of result ≡ left_out }
         ensures handed { handed_of result ≡ handed }
@@ -136,7 +136,7 @@ impl<H: PostHook, D: Disk + Send> Continued<H, D> {
 }
 
 impl<H, D: Disk> Continued<H, D> {
-    ghost use Rattle.up_handed.specs.Continues.{before_of, events_of, hook_of, handed_of, left_out_of};
+    ghost use Rattle.up_handed.specs.Continues.{before_of, handed_events, inner_hook, handed_of, left_out_of};
 
     /// The number of events that earlier runs handed over, of those that are still in the log.
     pub fn before(&self) -> u64
@@ -155,17 +155,17 @@ impl<H, D: Disk> Continued<H, D> {
 
     /// The inner post-hook, which was handed the events that earlier runs did not hand over.
     pub fn hook(&self) -> &H
-        ensures { result.now ≡ hook_of self.now }
+        ensures { result.now ≡ inner_hook self.now }
     {
         &self.hook
     }
 
     /// The inner post-hook, and the count, which includes all events that were handed over, or all but the last.
     pub fn into_parts(self) -> (H, Handed<D>)
-        ensures hook { result.0 ≡ hook_of self }
+        ensures hook { result.0 ≡ inner_hook self }
         ensures handed { result.1 ≡ handed_of self }
         ensures counted { CountsAllButOne D.Disk (device_of result.1)
-            (left_out_of self + before_of self) (left_out_of self + length (events_of self)) }
+            (left_out_of self + before_of self) (left_out_of self + length (handed_events self)) }
     {
         (self.hook, self.handed)
     }

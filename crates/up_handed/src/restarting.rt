@@ -1,6 +1,6 @@
 //! The count that a run finds after a run that crashed.
 ghost use Rattle.std.specs.Prelude.{◌+◌, length, IfOk, IsTrue};
-ghost use Rattle.up_handed.specs.Continues.{before_of, events_of, left_out_of};
+ghost use Rattle.up_handed.specs.Continues.{before_of, handed_events, left_out_of};
 ghost use Rattle.up_handed.specs.Counts.{count_of, device_of};
 ghost use Rattle.up_handed.specs.OnDisk.{IsAllButOne, IsOnDisk};
 
@@ -14,7 +14,7 @@ use sqlite_disk::Crash;
 pub fn restart<H: Drop, D: Crash>(earlier: Continued<H, D>) -> Result<Handed<D>, Refused<D>>
     ensures count { IfOk result (λ handed. IsTrue (D.Disk.is_clean (device_of handed))
         → IsAllButOne (left_out_of earlier + before_of earlier)
-        (left_out_of earlier + length (events_of earlier)) (count_of handed)) }
+        (left_out_of earlier + length (handed_events earlier)) (count_of handed)) }
     ensures on_disk { IfOk result (λ handed.
         IsOnDisk D.Disk (device_of handed) (count_of handed)) }
 {

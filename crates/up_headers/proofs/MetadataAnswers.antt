@@ -13,7 +13,7 @@ use Rattle.up_headers.proofs.DecodedBytes.{back_bytes, decoded_is_bytes}
 use Rattle.up_headers.specs.declared.metadata_fault.MetadataFault.{MetadataFault}
 use Rattle.up_headers.specs.declared.metadata_fault.MetadataFault.TheVariants as Fault
 use Rattle.up_headers.specs.Metadata.{Pair, HaveNoCommas, IsPart, has_key, ArePairs, with_commas, ReadsPairs, IsPartFault, HasFault, IsRefusal}
-use Rattle.up_headers.specs.Reading.{key_of, value_of, with_value, part_reading, and_then, parts_reading, reading, Answers, ReadingTells}
+use Rattle.up_headers.specs.Reading.{key_of, value_text, with_value, part_reading, and_then, parts_reading, reading, IsReadOrNoMemory, ReadingTells}
 use Rattle.up_message.specs.Fields.{split_commas}
 use Rattle.up_headers.proofs.MetadataTexts.{split_no_commas, joined_split}
 use Rattle.up_headers.proofs.WordLemmas.{begins_with, no_word}
@@ -49,24 +49,24 @@ decode_empty = ap (decode_of standard) (sym (encoding_empty [] refl)) ∙ decode
 pub part_relates : (before : List Pair) (part : List ℕ) (pair : Pair) → IsBytes part → part_reading before part ≡ Ok pair
     → IsPart part pair × (has_key pair.0 before ≡ false)
 part_relates before part pair bytes is =
-    let o = outcome_parts (length (key_of part) == 0) (has_key (key_of part) before) (key_of part) (decode_of standard (value_of part)) pair is in
+    let o = outcome_parts (length (key_of part) == 0) (has_key (key_of part) before) (key_of part) (decode_of standard (value_text part)) pair is in
     let p = parted part in
     let key : p.key ≡ pair.0 = sym p.is_key ∙ o.2 in
     let inner = back_bytes p.left (p.key ++ p.rest) (subst IsBytes p.spelled bytes) in
-    let behind = back_bytes p.gap (value_of part ++ p.right) (subst IsBytes p.is_rest (back_bytes p.key p.rest inner)) in
-    let read : IsBytes (value_of part) = front_bytes (value_of part) p.right behind in
-    let value : value_of part ≡ encode_of standard pair.1 = decode_of_strict standard (value_of part) pair.1 (refl, refl) read o.3 in
+    let behind = back_bytes p.gap (value_text part ++ p.right) (subst IsBytes p.is_rest (back_bytes p.key p.rest inner)) in
+    let read : IsBytes (value_text part) = front_bytes (value_text part) p.right behind in
+    let value : value_text part ≡ encode_of standard pair.1 = decode_of_strict standard (value_text part) pair.1 (refl, refl) read o.3 in
     let none : length p.gap ≡ 0 → pair.1 ≡ [] = λ (e : length p.gap ≡ 0).
     let ok = sym o.3 ∙ ap (decode_of standard) (p.apart e) ∙ decode_empty in cc ok in (
       record {
         left = p.left;
         gap = p.gap;
         right = p.right;
-        spelled = p.spelled ∙ ap (λ r. p.left ++ (p.key ++ r)) p.is_rest ∙ ap (λ k. p.left ++ (k ++ (p.gap ++ (value_of part ++ p.right)))) key
+        spelled = p.spelled ∙ ap (λ r. p.left ++ (p.key ++ r)) p.is_rest ∙ ap (λ k. p.left ++ (k ++ (p.gap ++ (value_text part ++ p.right)))) key
             ∙ ap (λ v. p.left ++ (pair.0 ++ (p.gap ++ (v ++ p.right)))) value;
         spaces = p.spaces;
         is_key = (omega (arith, ap length o.2, some_of (length (key_of part)) o.0), subst (λ k. list_all is_no_space k ≡ true) key p.keyed);
-        is_value = decoded_is_bytes (value_of part) pair.1 read o.3;
+        is_value = decoded_is_bytes (value_text part) pair.1 read o.3;
         apart = apart_of (length p.gap) pair.1 none;
       },
       ap (λ k. has_key k before) (sym o.2) ∙ o.1,
@@ -90,7 +90,7 @@ outcome_fault false false key (Err x) fault is =
 
 -- a part in the case of a fault has it
 fault_of_case : (before : List Pair) (part : List ℕ) (fault : MetadataFault)
-    → Case fault (length (key_of part) == 0) (has_key (key_of part) before) (decode_of standard (value_of part)) → IsPartFault before part fault
+    → Case fault (length (key_of part) == 0) (has_key (key_of part) before) (decode_of standard (value_text part)) → IsPartFault before part fault
 fault_of_case before part Fault.EmptyKey is = no_word part (eqb-true (length (key_of part)) 0 is)
 fault_of_case before part Fault.KeyTwice is = (key_of part, (behind_word part, begins_with part (some_of (length (key_of part)) is.0)), is.1)
 fault_of_case before part Fault.BadValue is = (
@@ -104,7 +104,7 @@ fault_of_case before part Fault.NoMemory is = absurd is
 -- a part that is read as a fault has it
 pub part_fault : (before : List Pair) (part : List ℕ) (fault : MetadataFault) → part_reading before part ≡ Err fault → IsPartFault before part fault
 part_fault before part fault is =
-    fault_of_case before part fault (outcome_fault (length (key_of part) == 0) (has_key (key_of part) before) (key_of part) (decode_of standard (value_of part)) fault is)
+    fault_of_case before part fault (outcome_fault (length (key_of part) == 0) (has_key (key_of part) before) (key_of part) (decode_of standard (value_text part)) fault is)
 
 -- each part is bytes
 abbrev pub AllBytes : List (List ℕ) → Type 0
@@ -220,19 +220,19 @@ reading_fault (b ∷ bs) fault bytes is =
     )
 
 -- an error that is answered is a refusal
-pub refused : (text : List ℕ) (fault : MetadataFault) → IsBytes text → Answers {T = List Pair} (Err fault) (reading text) → IsRefusal text fault
+pub refused : (text : List ℕ) (fault : MetadataFault) → IsBytes text → IsReadOrNoMemory {T = List Pair} (Err fault) (reading text) → IsRefusal text fault
 refused text Fault.EmptyKey bytes is = reading_fault text Fault.EmptyKey bytes is
 refused text Fault.KeyTwice bytes is = reading_fault text Fault.KeyTwice bytes is
 refused text Fault.BadValue bytes is = reading_fault text Fault.BadValue bytes is
 refused text Fault.NoMemory bytes is = tt
 
 -- pairs that are answered
-pub answer_ok : (text : List ℕ) (r : Result (List Pair) MetadataFault) → IsBytes text → Answers r (reading text) → IfOk r (λ pairs. ReadsPairs text pairs)
+pub answer_ok : (text : List ℕ) (r : Result (List Pair) MetadataFault) → IsBytes text → IsReadOrNoMemory r (reading text) → IfOk r (λ pairs. ReadsPairs text pairs)
 answer_ok text (Ok pairs) bytes is = reading_reads text pairs bytes is
 answer_ok text (Err fault) bytes is = tt
 
 -- errors that are answered
-pub answer_err : (text : List ℕ) (r : Result (List Pair) MetadataFault) → IsBytes text → Answers r (reading text) → IfErr r (IsRefusal text)
+pub answer_err : (text : List ℕ) (r : Result (List Pair) MetadataFault) → IsBytes text → IsReadOrNoMemory r (reading text) → IfErr r (IsRefusal text)
 answer_err text (Ok pairs) bytes is = tt
 answer_err text (Err fault) bytes is = refused text fault bytes is
 

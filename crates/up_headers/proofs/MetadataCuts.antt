@@ -3,7 +3,7 @@ use Rattle.std.proofs.Common.{◌≡◌, ℕ, ◌==◌, Bool, true, false, List,
 use Rattle.std.specs.List.{list_all}
 use Rattle.std.proofs.lemmas.List.{reverse-append, reverse-reverse}
 use Rattle.std.proofs.lemmas.Bool.{eq-eqb}
-use Rattle.up_headers.specs.Reading.{key_of, value_of}
+use Rattle.up_headers.specs.Reading.{key_of, value_text}
 use Rattle.up_headers.specs.Words.{is_space, is_no_space, AreSpaces, EndsWord, skip_spaces, from_space, trim_end_spaces}
 use Rattle.up_headers.proofs.MetadataTexts.{split_at, drop_first}
 use Rattle.up_headers.proofs.WordLemmas.{first_space, taken}
@@ -19,9 +19,9 @@ pub record Parted (part : List ℕ) : Type 0 where
   pub spaces : AreSpaces left × AreSpaces gap × AreSpaces right
   pub keyed : list_all is_no_space key ≡ true
   pub is_key : key_of part ≡ key
-  pub is_rest : rest ≡ gap ++ (value_of part ++ right)
+  pub is_rest : rest ≡ gap ++ (value_text part ++ right)
   pub spelled : part ≡ left ++ (key ++ rest)
-  pub apart : length gap ≡ 0 → value_of part ≡ []
+  pub apart : length gap ≡ 0 → value_text part ≡ []
 
 -- without a gap nothing stands behind it
 no_value : (rest behind gap : List ℕ) → EndsWord rest → rest ≡ gap ++ behind → behind ≡ skip_spaces rest → length gap ≡ 0 → behind ≡ []

@@ -9,7 +9,7 @@ use Rattle.up_message.specs.Fields.{split_commas}
 use Rattle.up_headers.specs.declared.metadata_fault.MetadataFault.{MetadataFault}
 use Rattle.up_headers.specs.declared.metadata_fault.MetadataFault.TheVariants as Fault
 use Rattle.up_headers.specs.Metadata.{Pair, HasKey, has_key, ArePairs, HaveNoCommas, with_commas, IsPart, IsPartFault, HasFault, FaultsOnce}
-use Rattle.up_headers.specs.Reading.{key_of, value_of, part_reading, and_then, parts_reading}
+use Rattle.up_headers.specs.Reading.{key_of, value_text, part_reading, and_then, parts_reading}
 use Rattle.up_headers.specs.Words.{until_space}
 use Rattle.up_headers.proofs.MetadataTexts.{split_joined}
 use Rattle.up_headers.proofs.WordLemmas.{all_spaces, word_found}
@@ -25,7 +25,7 @@ key_some : (part key : List ℕ) → HasKey part key → (length (key_of part) =
 key_some part key has = ne_eqb (length (key_of part)) 0 (omega (arith, ap length (key_found part key has), has.1.is_word.0))
 
 -- a new key is read with its value, which does not decode where the part is no pair
-value_read : (before : List Pair) (part : List ℕ) (d : Result (List ℕ) DecodeError) → IsBytes part → decode_of standard (value_of part) ≡ d
+value_read : (before : List Pair) (part : List ℕ) (d : Result (List ℕ) DecodeError) → IsBytes part → decode_of standard (value_text part) ≡ d
     → (length (key_of part) == 0) ≡ false → has_key (key_of part) before ≡ false → ((pair : Pair) → ¬ (IsPart part pair)) → part_reading before part ≡ Err Fault.BadValue
 value_read before part (Err e) bytes is some new none = rw (some, new, is) refl
 value_read before part (Ok value) bytes is some new none =
@@ -41,7 +41,7 @@ fault_read before part Fault.KeyTwice bytes is =
     let known : has_key (key_of part) before ≡ true = ap (λ k. has_key k before) (key_found part is.0 is.1) ∙ is.2 in
     rw (key_some part is.0 is.1, known) refl
 fault_read before part Fault.BadValue bytes is =
-    value_read before part (decode_of standard (value_of part)) bytes refl (key_some part is.0 is.1)
+    value_read before part (decode_of standard (value_text part)) bytes refl (key_some part is.0 is.1)
     (ap (λ k. has_key k before) (key_found part is.0 is.1) ∙ is.2) is.3
 fault_read before part Fault.NoMemory bytes is = absurd is
 

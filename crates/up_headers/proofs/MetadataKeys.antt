@@ -7,7 +7,7 @@ use Rattle.base64.specs.declared.decode.DecodeError.{DecodeError}
 use Rattle.up_headers.specs.declared.metadata_fault.MetadataFault.TheVariants as Fault
 use Rattle.up_headers.specs.Metadata.{Pair, has_key}
 use Rattle.up_headers.specs.Words.{skip_spaces, trim_end_spaces, first_word, behind_word}
-use Rattle.up_headers.specs.Reading.{key_of, value_of, with_value, part_reading}
+use Rattle.up_headers.specs.Reading.{key_of, value_text, with_value, part_reading}
 
 last_test : (b : Bool) → (b || false) ≡ cond b true false
 last_test true = refl
@@ -39,7 +39,7 @@ with_key key (Err fault) pair is = absurd (cc)
 pub part_read : (before : List Pair) (part key behind : List ℕ) (pair : Pair) → key ≡ first_word part → behind ≡ behind_word part → 0 < length (first_word part)
     → has_key key before ≡ false → with_value key (decode_of standard (trim_end_spaces (skip_spaces behind))) ≡ Ok pair → part_reading before part ≡ Ok pair
 part_read before part key behind pair is_key is_behind some new read =
-    let value = with_value (key_of part) (decode_of standard (value_of part)) in
+    let value = with_value (key_of part) (decode_of standard (value_text part)) in
     let there : (length (key_of part) == 0) ≡ false = ne_eqb (length (key_of part)) 0 (λ none. omega (arith, none, some)) in
     ap (λ t. cond t (Err Fault.EmptyKey) (cond (has_key (key_of part) before) (Err Fault.KeyTwice) value)) there
     ∙ ap (λ t. cond t (Err Fault.KeyTwice) value) (ap (λ k. has_key k before) (sym is_key) ∙ new)

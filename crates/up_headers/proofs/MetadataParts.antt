@@ -11,7 +11,7 @@ use Rattle.base64.specs.declared.decode.DecodeError.{DecodeError}
 use Rattle.base64.proofs.EngineFacts.{decode_of-encode_of}
 use Rattle.up_headers.specs.declared.metadata_fault.MetadataFault.TheVariants as Fault
 use Rattle.up_headers.specs.Metadata.{Pair, IsPart, has_key}
-use Rattle.up_headers.specs.Reading.{key_of, value_of, with_value, part_reading}
+use Rattle.up_headers.specs.Reading.{key_of, value_text, with_value, part_reading}
 use Rattle.up_headers.specs.Words.{is_space, is_no_space, AreSpaces, skip_spaces, from_space, trim_end_spaces, until_space}
 use Rattle.up_headers.proofs.WordLemmas.{word_stays, all_spaces, word_taken}
 use Rattle.up_headers.proofs.MetadataTexts.{all_first, all_rest, all_append, drop_through, drop_none, not_true}
@@ -94,7 +94,7 @@ trimmed (b ∷ bs) right all spaces =
     ap trim_end_spaces (drop_none is_space b (bs ++ right) (not_true (b == 32) (all_first is_no_space b bs all))) ∙ end_trimmed (b ∷ bs) right all spaces
 
 -- of a part that is a pair these are the key and the encoding
-pub part_facts : (part : List ℕ) (pair : Pair) → IsPart part pair → (key_of part ≡ pair.0) × (value_of part ≡ encode_of standard pair.1)
+pub part_facts : (part : List ℕ) (pair : Pair) → IsPart part pair → (key_of part ≡ pair.0) × (value_text part ≡ encode_of standard pair.1)
 part_facts part pair is =
     let encoded = encode_of standard pair.1 in
     let text : List ℕ = is.gap ++ (encoded ++ is.right) in
@@ -123,6 +123,6 @@ outcome_ok n known key d pair some new same value = let e : (n == 0) ≡ false =
 pub part_read : (before : List Pair) (part : List ℕ) (pair : Pair) → IsPart part pair → has_key pair.0 before ≡ false → part_reading before part ≡ Ok pair
 part_read before part pair is new =
     let facts = part_facts part pair is in
-    outcome_ok (length (key_of part)) (has_key (key_of part) before) (key_of part) (decode_of standard (value_of part)) pair
+    outcome_ok (length (key_of part)) (has_key (key_of part) before) (key_of part) (decode_of standard (value_text part)) pair
     (omega (arith, ap length facts.0, is.is_key.0)) (ap (λ k. has_key k before) facts.0 ∙ new) facts.0
     (ap (decode_of standard) facts.1 ∙ decode_of-encode_of standard pair.1 refl is.is_value)

@@ -7,7 +7,7 @@ use Rattle.up_headers.specs.declared.verb.Verb.{Verb}
 use Rattle.up_headers.specs.declared.verb.Verb.TheVariants as method
 use Rattle.up_headers.specs.Rows.{first_that_holds, Then}
 use Rattle.up_headers.specs.Verbs.{chosen_verb}
-use Rattle.up_headers.specs.Table.{IsRouted, Routes, IsAnswer, early_rows}
+use Rattle.up_headers.specs.Table.{IsRouted, Routes, IsRequestOf, early_rows}
 
 -- behind checks of which none fails
 pub passed : {X : Type 0} (first : Option HeaderFault) (result : Result X HeaderFault) (more : Type 0) → first ≡ None → more → Then first result more
@@ -27,6 +27,6 @@ routed method.Other m max_size result other is = is
 -- and no check of which has failed before that
 pub chosen : (m : Message) (max_size : ℕ) (verb : Verb) (result : Result Request HeaderFault)
     → first_that_holds (early_rows m.method m.fields) ≡ None → verb ≡ chosen_verb m.method m.fields → verb ≢ method.Options
-    → IsRouted verb m max_size result → IsAnswer m max_size result
+    → IsRouted verb m max_size result → IsRequestOf m max_size result
 chosen m max_size verb result none is other holds =
     passed _ result _ none (subst (λ v. Routes v m max_size result) is (routed verb m max_size result other holds))

@@ -55,5 +55,5 @@ ConcatReadsOnce =
     → ReadsConcat text kind parts → ReadsConcat text other others → (kind ≡ other) × (parts ≡ others)
 
 -- whether the text is that of a final upload, whatever its list
-abbrev pub is_final : List ℕ → Bool
-is_final text = starts_with nat_eq text (codes "final;")
+abbrev pub is_final_text : List ℕ → Bool
+is_final_text text = starts_with nat_eq text (codes "final;")

@@ -14,11 +14,11 @@ use Rattle.up_headers.specs.Metadata.{Pair}
 use Rattle.up_headers.specs.Reading.{reading}
 use Rattle.up_headers.specs.Rows.{Row, first_that_holds, Then}
 use Rattle.up_headers.specs.Fields.{value_in, text_in}
-use Rattle.up_headers.specs.Concat.{Concat, IsConcat, is_final}
+use Rattle.up_headers.specs.Concat.{Concat, IsConcat, is_final_text}
 
 -- the text of the length
-abbrev pub length_text : List Field → Option (List ℕ)
-length_text fields = value_in (codes "upload-length") fields
+abbrev pub length_value : List Field → Option (List ℕ)
+length_value fields = value_in (codes "upload-length") fields
 
 -- the text that says that the length will be declared later
 abbrev pub deferred_text : List Field → Option (List ℕ)
@@ -31,8 +31,8 @@ has_length None (Some deferred) = bytes_eq deferred (codes "1")
 has_length length deferred = false
 
 -- the length, a number of any size; none if it will be declared later
-abbrev pub length_in : Option (List ℕ) → Option ℕ
-length_in length = option_map (digits_value 10) length
+abbrev pub sent_length : Option (List ℕ) → Option ℕ
+sent_length length = option_map (digits_value 10) length
 
 -- whether the length is known and exceeds this
 abbrev pub is_above : ℕ → Option ℕ → Bool
@@ -40,9 +40,9 @@ is_above most None = false
 is_above most (Some length) = nat_lt most length
 
 -- a length that is known is at most this
-abbrev pub IsWithin : ℕ → Option ℕ → Type 0
-IsWithin most None = Unit {0}
-IsWithin most (Some length) = length ≤ most
+abbrev pub IsAtMost : ℕ → Option ℕ → Type 0
+IsAtMost most None = Unit {0}
+IsAtMost most (Some length) = length ≤ most
 
 -- the text of the metadata
 abbrev pub metadata_in : List Field → List ℕ
@@ -55,8 +55,8 @@ concat_in fields = text_in (codes "upload-concat") fields
 -- the checks of the length, in order; a final upload has the length of its parts, and needs none
 abbrev pub length_rows : List ℕ → Option (List ℕ) → Option (List ℕ) → ℕ → List (Row HeaderFault)
 length_rows concat length deferred max_size =
-    if is_final concat then []
-    else (not (has_length length deferred), BadLength) ∷ (is_above max_size (length_in length), TooLong) ∷ []
+    if is_final_text concat then []
+    else (not (has_length length deferred), BadLength) ∷ (is_above max_size (sent_length length), TooLong) ∷ []
 
 -- the checks after them, in order; `said` is what the text of the concatenation means
 abbrev pub said_rows : List Field → Option Concat → List (Row HeaderFault)
@@ -74,13 +74,13 @@ pairs_or_none (Err fault) = []
 
 -- the length that was sent, if there was one; 0 for a final upload
 abbrev pub new_length : List ℕ → Option (List ℕ) → Option ℕ
-new_length concat length = if is_final concat then Some 0 else length_in length
+new_length concat length = if is_final_text concat then Some 0 else sent_length length
 
 -- the upload, if no check fails
 abbrev pub new_upload_of : List Field → Concat → NewUpload
 new_upload_of fields said = record {
   kind = said.0;
-  length = new_length (concat_in fields) (length_text fields);
+  length = new_length (concat_in fields) (length_value fields);
   parts = said.1;
   pairs = pairs_or_none (reading (metadata_in fields));
   metadata = some_text (metadata_in fields);
@@ -101,5 +101,5 @@ CreatesSaid fields result =
 -- the result of the checks of a creation, in order
 abbrev pub Creates : List Field → ℕ → Result Request HeaderFault → Type 0
 Creates fields max_size result =
-    Then (first_that_holds (length_rows (concat_in fields) (length_text fields) (deferred_text fields) max_size)) result
+    Then (first_that_holds (length_rows (concat_in fields) (length_value fields) (deferred_text fields) max_size)) result
     (CreatesSaid fields result)

@@ -15,8 +15,8 @@ abbrev pub key_of : List ℕ → List ℕ
 key_of part = first_word part
 
 -- the text of a part's value
-abbrev pub value_of : List ℕ → List ℕ
-value_of part = trim_end_spaces (skip_spaces (behind_word part))
+abbrev pub value_text : List ℕ → List ℕ
+value_text part = trim_end_spaces (skip_spaces (behind_word part))
 
 -- the pair of a key and its decoded value
 abbrev pub with_value : List ℕ → Result (List ℕ) DecodeError → Result Pair MetadataFault
@@ -27,7 +27,7 @@ with_value key (Err e) = Err Fault.BadValue
 abbrev pub part_reading : List Pair → List ℕ → Result Pair MetadataFault
 part_reading before part =
     if length (key_of part) == 0 then Err Fault.EmptyKey
-    else (if has_key (key_of part) before then Err Fault.KeyTwice else with_value (key_of part) (decode_of standard (value_of part)))
+    else (if has_key (key_of part) before then Err Fault.KeyTwice else with_value (key_of part) (decode_of standard (value_text part)))
 
 -- more is read after a pair, and nothing after a fault
 abbrev pub and_then : Result Pair MetadataFault → (Pair → Result (List Pair) MetadataFault) → Result (List Pair) MetadataFault
@@ -50,10 +50,10 @@ reading [] = Ok []
 reading (b ∷ bs) = parts_reading [] (split_commas (b ∷ bs))
 
 -- the result is what was read, or that memory ran out
-abbrev pub Answers : {T : Type 0} → Result T MetadataFault → Result T MetadataFault → Type 0
-Answers (Ok x) right = right ≡ Ok x
-Answers (Err Fault.NoMemory) right = Unit {0}
-Answers (Err fault) right = right ≡ Err fault
+abbrev pub IsReadOrNoMemory : {T : Type 0} → Result T MetadataFault → Result T MetadataFault → Type 0
+IsReadOrNoMemory (Ok x) right = right ≡ Ok x
+IsReadOrNoMemory (Err Fault.NoMemory) right = Unit {0}
+IsReadOrNoMemory (Err fault) right = right ≡ Err fault
 
 -- `reading` returns only pairs that a text of bytes is read as, and only a fault that it has
 abbrev pub ReadingTells : Type 0

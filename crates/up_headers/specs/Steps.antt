@@ -10,7 +10,7 @@ use Rattle.up_headers.specs.declared.place.Place.{Place}
 use Rattle.up_headers.specs.Rows.{first_that_holds}
 use Rattle.up_headers.specs.Verbs.{chosen_verb}
 use Rattle.up_headers.specs.Fields.{is_repeated, value_in}
-use Rattle.up_headers.specs.Creations.{length_rows, new_length, IsWithin}
+use Rattle.up_headers.specs.Creations.{length_rows, new_length, IsAtMost}
 use Rattle.up_headers.specs.Table.{early_rows, IsAnswerAt}
 
 -- the value of the only field with this name, if there is one; the fault if there are several
@@ -19,9 +19,9 @@ IsOnce name fields (Ok value) = (is_repeated name fields ≡ false) × (option_c
 IsOnce name fields (Err found) = (is_repeated name fields ≡ true) × (found ≡ fault.Repeated)
 
 -- a check that fails returns this fault, and one that succeeds has none
-abbrev pub Passes : Result ⊤ HeaderFault → Option HeaderFault → Type 0
-Passes (Ok done) first = first ≡ None
-Passes (Err found) first = first ≡ Some found
+abbrev pub IsFirstFault : Result ⊤ HeaderFault → Option HeaderFault → Type 0
+IsFirstFault (Ok done) first = first ≡ None
+IsFirstFault (Err found) first = first ≡ Some found
 
 -- the method that counts, if no check before the target fails
 abbrev pub IsChosen : List ℕ → List Field → Result Verb HeaderFault → Type 0
@@ -31,7 +31,7 @@ IsChosen name fields (Err found) = first_that_holds (early_rows name fields) ≡
 -- the length of a new upload, if none of its checks fails
 abbrev pub IsLength : List ℕ → Option (List ℕ) → Option (List ℕ) → ℕ → Result (Option ℕ) HeaderFault → Type 0
 IsLength concat length deferred max_size (Ok known) =
-    (first_that_holds (length_rows concat length deferred max_size) ≡ None) × (known ≡ new_length concat length) × IsWithin max_size known
+    (first_that_holds (length_rows concat length deferred max_size) ≡ None) × (known ≡ new_length concat length) × IsAtMost max_size known
 IsLength concat length deferred max_size (Err found) = first_that_holds (length_rows concat length deferred max_size) ≡ Some found
 
 -- the result of the checks at a place; or memory ran out

@@ -15,7 +15,7 @@ use Rattle.up_headers.specs.Rows.{Row, first_that_holds, Then}
 use Rattle.up_headers.specs.Verbs.{chosen_verb}
 use Rattle.up_headers.specs.Places.{IsAt, is_creation, is_upload, is_nowhere}
 use Rattle.up_headers.specs.Fields.{is_repeated, value_in}
-use Rattle.up_headers.specs.Creations.{IsWithin, Creates}
+use Rattle.up_headers.specs.Creations.{IsAtMost, Creates}
 use Rattle.up_headers.specs.Patches.{patch_of}
 
 -- whether another version was sent than 1.0.0, or none although it must be
@@ -97,14 +97,14 @@ Routes method.Options m max_size result = result ≡ Ok request.Options
 Routes verb m max_size result = IsRouted verb m max_size result
 
 -- the result of the checks of a message
-abbrev pub IsAnswer : Message → ℕ → Result Request HeaderFault → Type 0
-IsAnswer m max_size result =
+abbrev pub IsRequestOf : Message → ℕ → Result Request HeaderFault → Type 0
+IsRequestOf m max_size result =
     Then (first_that_holds (early_rows m.method m.fields)) result (Routes (chosen_verb m.method m.fields) m max_size result)
 
 -- an upload to be created is at most this long, if its length is known
 abbrev pub FitsWithin : ℕ → Request → Type 0
 FitsWithin max_size request.Options = Unit {0}
-FitsWithin max_size (request.Create new) = IsWithin max_size new.length
+FitsWithin max_size (request.Create new) = IsAtMost max_size new.length
 FitsWithin max_size (request.Head id) = Unit {0}
 FitsWithin max_size (request.Patch patch) = Unit {0}
 FitsWithin max_size (request.Delete id) = Unit {0}

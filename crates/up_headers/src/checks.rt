@@ -1,8 +1,8 @@
 //! The checks that turn a message into a request.
 ghost use Rattle.std.specs.Prelude.{◌≡◌, ℕ, List, IfOk};
 ghost use Rattle.up_headers.specs.Rows.{first_that_holds};
-ghost use Rattle.up_headers.specs.Table.{FitsWithin, IsAnswer, IsRouted, method_rows, version_rows};
-ghost use Rattle.up_headers.specs.Steps.{IsChosen, IsStep, Passes};
+ghost use Rattle.up_headers.specs.Table.{FitsWithin, IsRequestOf, IsRouted, method_rows, version_rows};
+ghost use Rattle.up_headers.specs.Steps.{IsChosen, IsStep, IsFirstFault};
 
 use crate::creation::create_request;
 use crate::fields::once;
@@ -31,7 +31,7 @@ use up_message::{Field, Message};
 ///
 /// Checks 1 and 2 need no memory. From check 3 on, the result is `NoMemory` if memory runs out.
 pub fn request_of(alloc: Global, message: Message, max_size: u64) -> Result<Request, HeaderFault>
-    ensures answer { IsAnswer message max_size result }
+    ensures answer { IsRequestOf message max_size result }
     ensures bounded { IfOk result (FitsWithin max_size) }
 {
     let verb = choose(&message)?;
@@ -56,7 +56,7 @@ fn choose(message: &Message) -> Result<Verb, HeaderFault>
 
 /// The checks of the version of the protocol (tus 1.0.0, Tus-Resumable), by the method.
 fn check_version(verb: Verb, fields: &[Field]) -> Result<(), HeaderFault>
-    ensures { Passes result (first_that_holds (method_rows verb fields.now)) }
+    ensures { IsFirstFault result (first_that_holds (method_rows verb fields.now)) }
 {
     match verb {
         Verb::Post | Verb::Patch | Verb::Delete => check_sent_version(true, fields),
@@ -67,7 +67,7 @@ fn check_version(verb: Verb, fields: &[Field]) -> Result<(), HeaderFault>
 
 /// The checks of the version, which must be there if `must`.
 fn check_sent_version(must: bool, fields: &[Field]) -> Result<(), HeaderFault>
-    ensures { Passes result (first_that_holds (version_rows must fields.now)) }
+    ensures { IsFirstFault result (first_that_holds (version_rows must fields.now)) }
 {
     match once(fields, b"tus-resumable")? {
         Some(version) if version == b"1.0.0".as_slice() => Ok(()),

@@ -1,6 +1,6 @@
 //! The meaning of `Upload-Concat`.
 ghost use Rattle.std.specs.Prelude.{◌≡◌, IfOk};
-ghost use Rattle.up_headers.specs.Concat.{IsConcat, IsPartList, is_final};
+ghost use Rattle.up_headers.specs.Concat.{IsConcat, IsPartList, is_final_text};
 
 use crate::place::{Place, place_of};
 use crate::words::first_word;
@@ -10,7 +10,7 @@ use up_message::Sequence;
 
 /// Whether the text is that of a final upload (tus 1.0.0, Upload-Concat).
 pub(crate) fn is_final(text: &[u8]) -> bool
-    ensures { result ≡ is_final text.now }
+    ensures { result ≡ is_final_text text.now }
 {
     text.starts_with(b"final;")
 }

@@ -51,11 +51,11 @@ impl From<AllocError> for HeaderFault {
 }
 
 impl HeaderFault {
-    ghost use Rattle.up_headers.specs.HeaderFaults.{status_of, line_of};
+    ghost use Rattle.up_headers.specs.HeaderFaults.{header_fault_status, header_fault_line};
 
     /// The status code of the response (RFC 9110, section 15; for `Version` tus 1.0.0, Tus-Version).
     pub fn status(&self) -> u16
-        ensures { result ≡ status_of self.now }
+        ensures { result ≡ header_fault_status self.now }
     {
         match self {
             HeaderFault::Version => 412,
@@ -72,7 +72,7 @@ impl HeaderFault {
 
     /// The body of the response: a line with the number of the fault and its name.
     pub fn text(&self) -> &'static str
-        ensures { result.now ≡ line_of self.now }
+        ensures { result.now ≡ header_fault_line self.now }
     {
         match self {
             HeaderFault::Version => "10 Version\n",

@@ -5,7 +5,7 @@ ghost use Rattle.up_message.specs.Fields.{split_commas};
 ghost use Rattle.base64.specs.Engines.{standard};
 ghost use Rattle.base64.specs.GeneralPurpose.{decode_of};
 ghost use Rattle.up_headers.specs.Metadata.{ReadsPairs, IsRefusal};
-ghost use Rattle.up_headers.specs.Reading.{Answers, reading, parts_of, with_value};
+ghost use Rattle.up_headers.specs.Reading.{IsReadOrNoMemory, reading, parts_of, with_value};
 ghost use Rattle.up_headers.specs.Words.{skip_spaces, trim_end_spaces};
 
 use crate::metadata_fault::MetadataFault;
@@ -23,7 +23,8 @@ fn read_pair(
     key: &[u8],
     behind: &[u8],
 ) -> Result<(Sequence<u8>, Sequence<u8>), MetadataFault>
-    ensures { Answers result (with_value key.now (decode_of standard (trim_end_spaces (skip_spaces behind.now)))) }
+    ensures { IsReadOrNoMemory result
+        (with_value key.now (decode_of standard (trim_end_spaces (skip_spaces behind.now)))) }
 {
     match STANDARD.decode(alloc, trim_end_spaces(skip_spaces(behind))) {
         Ok(value) => Ok((Sequence::from_slice(alloc, key)?, Sequence::from_vec(value))),
@@ -44,7 +45,7 @@ fn cut_part(text: &[u8]) -> (&[u8], Option<&[u8]>)
 
 /// Like `pairs_of`, but with a contract that gives the result as a function of the text.
 pub(crate) fn read_pairs(alloc: Global, text: &[u8]) -> Result<Pairs, MetadataFault>
-    ensures { Answers result (reading text.now) }
+    ensures { IsReadOrNoMemory result (reading text.now) }
 {
     let mut pairs = Vec::new(alloc);
     let mut keys = BTreeSet::new(alloc);

@@ -3,7 +3,7 @@ use Rattle.std.proofs.Common.{◌≡◌, ℕ, zero, suc, ◌+◌, ◌≤◌, Lis
 use Rattle.std.proofs.lemmas.List.{length-take-le, map-append}
 use Rattle.std.proofs.lemmas.Option.{slice_get_within}
 use mathlib.Core.List.{IsPrefix}
-use Rattle.up_history.specs.Histories.{Place, first_of, HasFirst}
+use Rattle.up_history.specs.Histories.{Place, first_entries, HasFirst}
 use Rattle.up_history.proofs.Beginnings.{prefix-get, prefix-take}
 
 take_suc-get : {E : Type 0} (xs : List E) (n : ℕ) (x : E) → slice_get xs n ≡ Some x → take (suc n) xs ≡ take n xs ++ x ∷ []
@@ -34,6 +34,6 @@ row_goes_on {E} receipts i r front reached there so_far =
     ap entries (take-get receipts i r there) ∙ map-append (λ (p : Place E). p.entry) (take i receipts) (r ∷ []) in
     ap (λ l. l ++ r.entry ∷ []) so_far ∙ append_assoc front (entries (take i receipts)) (r.entry ∷ []) ∙ ap (λ l. front ++ l) (sym more)
 
-pub first-length : {E : Type 0} (own : Option (List E)) (count : ℕ) → HasFirst own count → length (first_of own count) ≡ count
+pub first-length : {E : Type 0} (own : Option (List E)) (count : ℕ) → HasFirst own count → length (first_entries own count) ≡ count
 first-length None count none = sym none
 first-length (Some front) count has = length-take-le count front has

@@ -18,9 +18,9 @@ IsOutOfOrder {E} places first =
     (k : ℕ) × (place : Place E) × (slice_get places k ≡ Some place) × (place.number ≢ first + k)
 
 -- the first `count` entries of a front; none if there is no front
-abbrev pub first_of : {E : Type 0} → Option (List E) → ℕ → List E
-first_of None count = []
-first_of (Some front) count = take count front
+abbrev pub first_entries : {E : Type 0} → Option (List E) → ℕ → List E
+first_entries None count = []
+first_entries (Some front) count = take count front
 
 -- the front has at least `count` entries
 abbrev pub HasFirst : {E : Type 0} → Option (List E) → ℕ → Type 0

@@ -1,6 +1,6 @@
 //! How far something follows a history.
 ghost use Rattle.std.specs.Prelude.{◌≡◌, ◌≤◌, ◌++◌, ◌∷◌, [], length, take, IsTrue, ◌↔◌};
-ghost use Rattle.up_history.specs.Histories.{HasFirst, first_of};
+ghost use Rattle.up_history.specs.Histories.{HasFirst, first_entries};
 
 use crate::chronicle::Chronicle;
 use crate::front::Front;
@@ -17,11 +17,11 @@ pub struct Trail<E, J: Chronicle> {
 
 impl<E, J: Chronicle> Model for Trail<E, J> {
     ghost use Rattle.std.specs.Prelude.{List};
-    ghost use Rattle.up_history.specs.Histories.{HasFirst, first_of};
+    ghost use Rattle.up_history.specs.Histories.{HasFirst, first_entries};
 
     ghost Value = { List E };
 
-    ghost view = { λ t. first_of t.front t.count };
+    ghost view = { λ t. first_entries t.front t.count };
 
     ghost invariant = { λ t. HasFirst t.front t.count };
 }
@@ -30,7 +30,7 @@ impl<E, J: Chronicle> Model for Trail<E, J> {
 fn agree<E, J: Chronicle>(own: &Option<Front<E, J>>, count: u64, front: &Front<E, J>)
     requires own { HasFirst own.now count }
     requires long { count ≤ length front.now }
-    ensures { first_of own.now count ≡ take count front.now }
+    ensures { first_entries own.now count ≡ take count front.now }
 {
     if let Some(own) = own {
         own.meets(front);

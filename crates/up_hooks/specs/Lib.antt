@@ -1,4 +1,4 @@
 -- The definitions that the contracts cite.
 pub mod Verdicts
-pub mod Gives
-pub mod Told
+pub mod MayAnswer
+pub mod Recorded

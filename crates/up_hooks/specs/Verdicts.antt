@@ -11,9 +11,9 @@ is_refusal_status status =
     status == 400 || status == 403 || status == 409 || status == 413 || status == 422 || status == 429
 
 -- it allows, or refuses with one of these statuses
-abbrev pub is_lawful : Verdict → Bool
-is_lawful Allow = true
-is_lawful (Refuse status reason) = is_refusal_status status
+abbrev pub is_allowed_verdict : Verdict → Bool
+is_allowed_verdict Allow = true
+is_allowed_verdict (Refuse status reason) = is_refusal_status status
 
 -- no closure refuses with another status
 abbrev pub has_lawful_status : Asked → Bool

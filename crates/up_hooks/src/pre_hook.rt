@@ -1,6 +1,6 @@
 //! A closure that is asked before a change.
 ghost use Rattle.std.specs.Prelude.{◌≡◌, ◌↔◌, true, IsTrue};
-ghost use Rattle.up_hooks.specs.Verdicts.{is_lawful};
+ghost use Rattle.up_hooks.specs.Verdicts.{is_allowed_verdict};
 
 use up_machine::{Ask, Point, Verdict};
 
@@ -19,7 +19,7 @@ pub struct PreHook {
     point: Point,
     judge: Judge,
     ghost callable: { Judge.IsAlwaysCallable judge },
-    ghost lawful: { (ask : _) (verdict : _) → Judge.post judge ask verdict → IsTrue (is_lawful verdict) },
+    ghost lawful: { (ask : _) (verdict : _) → Judge.post judge ask verdict → IsTrue (is_allowed_verdict verdict) },
 }
 
 /// Calls the closure.
@@ -31,14 +31,14 @@ fn call(judge: &Judge, ask: &Ask) -> Verdict
 }
 
 impl PreHook {
-    ghost use Rattle.up_hooks.specs.Gives.{Answers, judge_of, point_of};
+    ghost use Rattle.up_hooks.specs.MayAnswer.{MayReturn, judge_of, point_of};
 
     /// A closure that is asked at this point and at no other. It must meet the requirements of `Judge`, which a clause
-    /// at the closure shows: `ensures { IsTrue (is_lawful result) }`. Takes no memory.
+    /// at the closure shows: `ensures { IsTrue (is_allowed_verdict result) }`. Takes no memory.
     pub fn new(point: Point, judge: Judge) -> Self
         requires callable { Judge.IsAlwaysCallable judge }
         requires lawful { (ask : _) (verdict : _) → Judge.post judge ask verdict
-            → IsTrue (is_lawful verdict) }
+            → IsTrue (is_allowed_verdict verdict) }
         ensures point { point_of result ≡ point }
         ensures judge { judge_of result ≡ (judge.vtable, judge.value) }
     {
@@ -54,8 +54,8 @@ impl PreHook {
 
     /// Calls the closure, and returns its verdict.
     pub(crate) fn judge(&self, ask: &Ask) -> Verdict
-        ensures lawful { IsTrue (is_lawful result) }
-        ensures answer { Answers self.now ask.now result }
+        ensures lawful { IsTrue (is_allowed_verdict result) }
+        ensures answer { MayReturn self.now ask.now result }
     {
         call(&self.judge, ask)
     }

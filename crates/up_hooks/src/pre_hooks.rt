@@ -1,6 +1,6 @@
 //! The closures that are asked before a change.
 ghost use Rattle.std.specs.Prelude.{IsTrue};
-ghost use Rattle.up_hooks.specs.Gives.{HooksGive};
+ghost use Rattle.up_hooks.specs.MayAnswer.{HooksMayAnswer};
 ghost use Rattle.up_hooks.specs.Verdicts.{has_lawful_status};
 
 use crate::pre_hook::PreHook;
@@ -14,7 +14,7 @@ pub struct PreHooks {
 
 /// Asks the closures, in order.
 fn ask_each(hooks: &[PreHook], ask: &Ask) -> Asked
-    ensures closures { HooksGive hooks.now ask.now result }
+    ensures closures { HooksMayAnswer hooks.now ask.now result }
     ensures status { IsTrue (has_lawful_status result) }
 {
     for hook in hooks {
@@ -32,7 +32,7 @@ fn ask_each(hooks: &[PreHook], ask: &Ask) -> Asked
 
 impl PreHooks {
     ghost use Rattle.std.specs.Prelude.{◌≡◌};
-    ghost use Rattle.up_hooks.specs.Gives.{ClosuresGive, listed};
+    ghost use Rattle.up_hooks.specs.MayAnswer.{ClosuresMayAnswer, listed};
 
     /// These closures. Takes no memory.
     pub fn new(hooks: Vec<PreHook>) -> Self
@@ -45,7 +45,7 @@ impl PreHooks {
     /// and those after it are not called. `Allowed` if none refuses, also if there is none; at `Point::Finish` this is
     /// `AllowedFinish`. Takes no memory.
     pub fn ask(&self, ask: &Ask) -> Asked
-        ensures closures { ClosuresGive self.now ask.now result }
+        ensures closures { ClosuresMayAnswer self.now ask.now result }
         ensures status { IsTrue (has_lawful_status result) }
     {
         ask_each(&self.hooks, ask)

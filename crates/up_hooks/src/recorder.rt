@@ -16,12 +16,12 @@ pub struct Recorder<F> {
 impl<F: Fn(&Event) -> Outcome + Send> PostHook for Recorder<F> {
     ghost use Rattle.std.specs.Fn.{FnReturnsAt};
     ghost use Rattle.std.specs.Prelude.{nat_lt, vec_len, vec_capacity};
-    ghost use Rattle.up_hooks.specs.Told.{AreAnswers, GivesCodes, closure_of, events_told, told_by};
+    ghost use Rattle.up_hooks.specs.Recorded.{AreAnswers, AnswersWithCodes, closure_of, recorded_events, recorded_by};
 
-    ghost is_sound = { λ r. F.IsAlwaysCallable r.answer × GivesCodes F.Fn r.answer
+    ghost is_sound = { λ r. F.IsAlwaysCallable r.answer × AnswersWithCodes F.Fn r.answer
         × AreAnswers F.Fn r.answer r.pairs.items };
 
-    ghost handed = { λ r. events_told r.pairs.items };
+    ghost handed = { λ r. recorded_events r.pairs.items };
 
     ghost has_room = { λ r. nat_lt (vec_len r.pairs) (vec_capacity r.pairs) };
 
@@ -29,7 +29,7 @@ impl<F: Fn(&Event) -> Outcome + Send> PostHook for Recorder<F> {
 
     fn ready(&mut self) -> Result<(), NoMemory>
         ensures closure { closure_of self.new ≡ closure_of self.old }
-        ensures same { told_by self.new ≡ told_by self.old }
+        ensures same { recorded_by self.new ≡ recorded_by self.old }
         ensures room { OnOk result (⟦<Recorder<F> as PostHook>⟧.has_room self.new ≡ true) }
     {
         Ok(make_room(&mut self.pairs, 1)?)
@@ -40,7 +40,7 @@ impl<F: Fn(&Event) -> Outcome + Send> PostHook for Recorder<F> {
         requires room { ⟦<Recorder<F> as PostHook>⟧.has_room self.old ≡ true }
         ensures closure { closure_of self.new ≡ closure_of self.old }
         ensures answer { FnReturnsAt F.Fn (closure_of self.old) event.now result }
-        ensures added { told_by self.new ≡ told_by self.old ++ (event.now, result) ∷ [] }
+        ensures added { recorded_by self.new ≡ recorded_by self.old ++ (event.now, result) ∷ [] }
     {
         let outcome = (self.answer)(event);
         self.pairs.push_reserved((*event, outcome));
@@ -49,7 +49,7 @@ impl<F: Fn(&Event) -> Outcome + Send> PostHook for Recorder<F> {
 }
 
 impl<F: Fn(&Event) -> Outcome + Send> Recorder<F> {
-    ghost use Rattle.up_hooks.specs.Told.{GivesCodes, closure_of};
+    ghost use Rattle.up_hooks.specs.Recorded.{AnswersWithCodes, closure_of};
 
     /// A recorder that was handed nothing. Takes no memory.
     ///
@@ -59,7 +59,7 @@ impl<F: Fn(&Event) -> Outcome + Send> Recorder<F> {
     /// shares with the closures of other lanes may be used by several threads at once.
     pub fn new(alloc: Global, answer: F) -> Self
         requires callable { F.IsAlwaysCallable answer }
-        requires codes { GivesCodes F.Fn answer }
+        requires codes { AnswersWithCodes F.Fn answer }
         ensures answer { closure_of result ≡ answer }
         ensures sound { ⟦<Recorder<F> as PostHook>⟧.is_sound result }
         ensures handed { ⟦<Recorder<F> as PostHook>⟧.handed result ≡ [] }
@@ -72,11 +72,11 @@ impl<F: Fn(&Event) -> Outcome + Send> Recorder<F> {
 }
 
 impl<F> Recorder<F> {
-    ghost use Rattle.up_hooks.specs.Told.{told_by};
+    ghost use Rattle.up_hooks.specs.Recorded.{recorded_by};
 
     /// The events that it was handed, in order, each with the outcome from the closure. Takes no memory.
     pub fn list(&self) -> &[(Event, Outcome)]
-        ensures { result.now ≡ told_by self.now }
+        ensures { result.now ≡ recorded_by self.now }
     {
         self.pairs.as_slice()
     }

@@ -1,6 +1,6 @@
 //! The post-hooks of a server's lanes.
 ghost use Rattle.std.specs.Prelude.{◌≡◌, [], All, IfOk, length};
-ghost use Rattle.up_hooks.specs.Told.{GivesCodes};
+ghost use Rattle.up_hooks.specs.Recorded.{AnswersWithCodes};
 
 use crate::post_hook::{Outcome, PostHook};
 use crate::recorder::Recorder;
@@ -15,7 +15,7 @@ pub fn new_recorders<F: Fn(&Event) -> Outcome + Send + Copy>(
     answer: F,
 ) -> Result<Vec<Recorder<F>>, NoMemory>
     requires callable { F.IsAlwaysCallable answer }
-    requires codes { GivesCodes F.Fn answer }
+    requires codes { AnswersWithCodes F.Fn answer }
     ensures one_for_each { IfOk result (λ made. length made.items ≡ lanes) }
     ensures new { IfOk result (λ made. All
         (λ recorder. ⟦<Recorder<F> as PostHook>⟧.is_sound recorder

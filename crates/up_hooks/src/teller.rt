@@ -9,19 +9,19 @@ use up_events::{Event, NoMemory, Trace};
 #[derive(Drop)]
 pub struct Teller<F> {
     answer: F,
-    told: Trace<Event>,
+    handed: Trace<Event>,
     /// The number of events that it was handed, up to 2^64 - 1.
     count: u64,
-    ghost counted: { count ≡ min (length told.items) (2 ^ 64 - 1) },
+    ghost counted: { count ≡ min (length handed.items) (2 ^ 64 - 1) },
 }
 
 impl<F: Fn(&Event) -> Outcome + Send> PostHook for Teller<F> {
     ghost use Rattle.std.specs.Fn.{FnReturnsAt};
-    ghost use Rattle.up_hooks.specs.Told.{GivesCodes};
+    ghost use Rattle.up_hooks.specs.Recorded.{AnswersWithCodes};
 
-    ghost is_sound = { λ t. F.IsAlwaysCallable t.answer × GivesCodes F.Fn t.answer };
+    ghost is_sound = { λ t. F.IsAlwaysCallable t.answer × AnswersWithCodes F.Fn t.answer };
 
-    ghost handed = { λ t. t.told.items };
+    ghost handed = { λ t. t.handed.items };
 
     ghost has_room = { λ _. true };
 
@@ -33,25 +33,25 @@ impl<F: Fn(&Event) -> Outcome + Send> PostHook for Teller<F> {
 
     fn hand(&mut self, event: &Event) -> Outcome {
         let outcome = (self.answer)(event);
-        self.told.push(event);
+        self.handed.push(event);
         self.count = self.count.saturating_add(1);
         outcome
     }
 }
 
 impl<F: Fn(&Event) -> Outcome + Send> Teller<F> {
-    ghost use Rattle.up_hooks.specs.Told.{GivesCodes};
+    ghost use Rattle.up_hooks.specs.Recorded.{AnswersWithCodes};
 
     /// A teller that was handed nothing. The closure must meet the requirements of `Recorder::new`.
     pub fn new(answer: F) -> Self
         requires callable { F.IsAlwaysCallable answer }
-        requires codes { GivesCodes F.Fn answer }
+        requires codes { AnswersWithCodes F.Fn answer }
         ensures sound { ⟦<Teller<F> as PostHook>⟧.is_sound result }
         ensures handed { ⟦<Teller<F> as PostHook>⟧.handed result ≡ [] }
     {
         Teller {
             answer,
-            told: Trace::new(),
+            handed: Trace::new(),
             count: 0,
         }
     }
@@ -60,7 +60,7 @@ impl<F: Fn(&Event) -> Outcome + Send> Teller<F> {
 impl<F> Teller<F> {
     /// The number of events that it was handed, up to 2^64 - 1.
     pub fn count(&self) -> u64
-        ensures { result ≡ min (length self.now.told.items) (2 ^ 64 - 1) }
+        ensures { result ≡ min (length self.now.handed.items) (2 ^ 64 - 1) }
     {
         self.count
     }

@@ -1,6 +1,6 @@
 //! The post-hooks of the lanes of a server that runs without end.
 ghost use Rattle.std.specs.Prelude.{◌≡◌, [], All, IfOk, length};
-ghost use Rattle.up_hooks.specs.Told.{GivesCodes};
+ghost use Rattle.up_hooks.specs.Recorded.{AnswersWithCodes};
 
 use crate::post_hook::{Outcome, PostHook};
 use crate::teller::Teller;
@@ -15,7 +15,7 @@ pub fn new_tellers<F: Fn(&Event) -> Outcome + Send + Copy>(
     answer: F,
 ) -> Result<Vec<Teller<F>>, NoMemory>
     requires callable { F.IsAlwaysCallable answer }
-    requires codes { GivesCodes F.Fn answer }
+    requires codes { AnswersWithCodes F.Fn answer }
     ensures one_for_each { IfOk result (λ made. length made.items ≡ lanes) }
     ensures new { IfOk result (λ made. All
         (λ teller. ⟦<Teller<F> as PostHook>⟧.is_sound teller

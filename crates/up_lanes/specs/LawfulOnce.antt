@@ -7,26 +7,26 @@ use Rattle.up_events.specs.declared.event.Hook.TheVariants.{Create, Receive, Fin
 use Rattle.up_events.specs.Log.{is_of, CountsFrom, IsLawfulRun, IsLawful}
 
 -- the number of a hook, and the hook of a number
-abbrev number_of : Hook → ℕ
-number_of Create = 0
-number_of Receive = 1
-number_of Finish = 2
-number_of Terminate = 3
+abbrev number_of_hook : Hook → ℕ
+number_of_hook Create = 0
+number_of_hook Receive = 1
+number_of_hook Finish = 2
+number_of_hook Terminate = 3
 
-abbrev hook_of : ℕ → Hook
-hook_of zero = Create
-hook_of (suc zero) = Receive
-hook_of (suc (suc zero)) = Finish
-hook_of (suc (suc (suc n))) = Terminate
+abbrev hook_with_number : ℕ → Hook
+hook_with_number zero = Create
+hook_with_number (suc zero) = Receive
+hook_with_number (suc (suc zero)) = Finish
+hook_with_number (suc (suc (suc n))) = Terminate
 
-hook_of-number_of : (hook : Hook) → hook_of (number_of hook) ≡ hook
+hook_of-number_of : (hook : Hook) → hook_with_number (number_of_hook hook) ≡ hook
 hook_of-number_of Create = refl
 hook_of-number_of Receive = refl
 hook_of-number_of Finish = refl
 hook_of-number_of Terminate = refl
 
 abbrev hook_code : Coded Hook
-hook_code = code_by ℕ coded_ℕ number_of hook_of hook_of-number_of
+hook_code = code_by ℕ coded_ℕ number_of_hook hook_with_number hook_of-number_of
 
 -- an event is stored as the pairs of its fields
 abbrev event_code : Coded Event

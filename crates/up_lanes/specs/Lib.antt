@@ -1,4 +1,4 @@
 pub mod HowOf
-pub mod LaneSides
+pub mod LaneViews
 pub mod LawfulOnce
 pub mod StepsTo

@@ -3,7 +3,7 @@ ghost use Rattle.std.specs.Prelude.{◌≡◌, [], false};
 ghost use Rattle.up_events.specs.Delivery.{IsPrefix};
 ghost use Rattle.up_events.specs.Log.{IsLawful};
 ghost use Rattle.up_lanes.specs.HowOf.{is_drained};
-ghost use Rattle.up_lanes.specs.LaneSides.{lane_side, StaysAlike};
+ghost use Rattle.up_lanes.specs.LaneViews.{lane_view, StaysAlike};
 ghost use Rattle.up_lanes.specs.StepsTo.{StepsTo};
 
 use crate::lane_end::{How, LaneEnd};
@@ -17,7 +17,7 @@ use up_queue::{Item, TakeEnd};
 
 /// How many times a lane with an empty queue naps before it sleeps until it is woken. While it naps nobody has to wake
 /// it, and the items that arrive are handed over together.
-const MOST_NAPS: u32 = 10;
+const MAX_NAPS: u32 = 10;
 
 /// The length of a nap, in microseconds.
 const NAP: u64 = 1_000;
@@ -48,16 +48,16 @@ pub struct Lane<H: PostHook> {
 }
 
 impl<H: PostHook> Model for Lane<H> {
-    ghost use Rattle.up_lanes.specs.LaneSides.{LaneSide};
+    ghost use Rattle.up_lanes.specs.LaneViews.{LaneView};
 
-    ghost Value = { LaneSide H };
+    ghost Value = { LaneView H };
 
     ghost use Rattle.std.specs.Prelude.{◌≡◌, ◌%◌, ◌^◌, length};
     ghost use Rattle.up_events.specs.Log.{IsLawful};
     ghost use Rattle.up_queue.specs.Line.{items_if};
-    ghost use Rattle.up_lanes.specs.LaneSides.{lane_side};
+    ghost use Rattle.up_lanes.specs.LaneViews.{lane_view};
 
-    ghost view = { λ l. lane_side l.lane l.take_end.queue (H.handed l.hook) l.ended l.hook };
+    ghost view = { λ l. lane_view l.lane l.take_end.queue (H.handed l.hook) l.ended l.hook };
 
     ghost invariant = { λ l. record {
       sound : H.is_sound l.hook;
@@ -73,7 +73,7 @@ impl<H: PostHook> Lane<H> {
         requires sound { H.is_sound hook }
         requires taken { take_end.taken ≡ [] }
         requires handed { H.handed hook ≡ [] }
-        ensures { result ≡ lane_side lane take_end.queue [] false hook }
+        ensures { result ≡ lane_view lane take_end.queue [] false hook }
     {
         Lane {
             lane,
@@ -88,7 +88,7 @@ impl<H: PostHook> Lane<H> {
     /// drained lane takes nothing more. Takes no memory.
     pub fn resume(end: LaneEnd<H>) -> Lane<H>
         requires sound { H.is_sound end.hook }
-        ensures { result ≡ lane_side end.lane end.take_end.queue (H.handed end.hook)
+        ensures { result ≡ lane_view end.lane end.take_end.queue (H.handed end.hook)
             (is_drained end.how) end.hook }
     {
         let LaneEnd {
@@ -155,7 +155,7 @@ impl<H: PostHook> Lane<H> {
                     refill.refill(rt, self.lane);
                     found_empty = 1;
                 }
-                StepEnd::Nothing if found_empty <= MOST_NAPS => {
+                StepEnd::Nothing if found_empty <= MAX_NAPS => {
                     alarm.park_timeout(rt, Duration::from_micros(NAP));
                     found_empty += 1;
                 }

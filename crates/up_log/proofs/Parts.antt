@@ -5,16 +5,16 @@ use Rattle.up_log.specs.declared.entry.Entry.{Entry}
 use Rattle.up_log.specs.declared.setup.Setup.{Setup}
 use Rattle.up_log.specs.Spelling.{word, batch}
 use Rattle.up_log.specs.Blocks.{block, blocks, beginning, written, IsLog}
-use Rattle.up_log.specs.Logs.{IsPart}
+use Rattle.up_log.specs.Logs.{IsFileReadUpTo}
 use Rattle.up_log.proofs.Batches.{length_word, split}
 use Rattle.up_log.proofs.Crash.{written_push}
 
-pub tail_is : (setup : Setup) (file : List ℕ) (gate len : ℕ) (read left : List (List Entry)) (part : IsPart setup file gate len read left) → drop gate file ≡ blocks left ++ part.back
+pub tail_is : (setup : Setup) (file : List ℕ) (gate len : ℕ) (read left : List (List Entry)) (part : IsFileReadUpTo setup file gate len read left) → drop gate file ≡ blocks left ++ part.back
 tail_is setup file gate len read left part =
     ap (λ (l : List ℕ). drop gate l) part.whole ∙ drop_at (written setup read) (blocks left ++ part.back) gate (sym part.place)
 
 -- a log of the batches that were read, if none is left
-pub all_read : (setup : Setup) (file : List ℕ) (gate len : ℕ) (read left : List (List Entry)) → IsPart setup file gate len read left → left ≡ [] → IsLog setup file read
+pub all_read : (setup : Setup) (file : List ℕ) (gate len : ℕ) (read left : List (List Entry)) → IsFileReadUpTo setup file gate len read left → left ≡ [] → IsLog setup file read
 all_read setup file gate len read left part none =
     record { back = part.back; whole = part.whole ∙ ap (λ (l : List (List Entry)). written setup read ++ (blocks l ++ part.back)) none; closed = part.closed }
 
@@ -27,8 +27,8 @@ one_more setup read others first back =
     ∙ sym (append_assoc (written setup read) (block first) (blocks others ++ back))
     ∙ ap (λ (l : List ℕ). l ++ (blocks others ++ back)) (written_push setup read first)
 
-pub goes_on : (setup : Setup) (file : List ℕ) (gate len place : ℕ) (read left others : List (List Entry)) (first : List Entry) → IsPart setup file gate len read left → left ≡ first ∷ others → place ≡ gate + 9 + length (batch first)
-    → IsPart setup file place len (read ++ first ∷ []) others
+pub goes_on : (setup : Setup) (file : List ℕ) (gate len place : ℕ) (read left others : List (List Entry)) (first : List Entry) → IsFileReadUpTo setup file gate len read left → left ≡ first ∷ others → place ≡ gate + 9 + length (batch first)
+    → IsFileReadUpTo setup file place len (read ++ first ∷ []) others
 goes_on setup file gate len place read left others first part are is = record {
   back = part.back;
   whole = part.whole ∙ ap (λ (l : List (List Entry)). written setup read ++ (blocks l ++ part.back)) are ∙ one_more setup read others first part.back;
@@ -38,7 +38,7 @@ goes_on setup file gate len place read left others first part are is = record {
 }
 
 -- a log of all batches
-pub log_is : (setup : Setup) (file : List ℕ) (gate len : ℕ) (read left : List (List Entry)) → IsPart setup file gate len read left → IsLog setup file (read ++ left)
+pub log_is : (setup : Setup) (file : List ℕ) (gate len : ℕ) (read left : List (List Entry)) → IsFileReadUpTo setup file gate len read left → IsLog setup file (read ++ left)
 log_is setup file gate len read [] part =
     record { back = part.back; whole = part.whole ∙ ap (λ (l : List (List Entry)). written setup l ++ part.back) (sym (append-nil read)); closed = part.closed }
 log_is setup file gate len read (first ∷ others) part =
@@ -46,7 +46,7 @@ log_is setup file gate len read (first ∷ others) part =
     subst (IsLog setup file) (append_assoc read (first ∷ []) others) (log_is setup file (gate + 9 + length (batch first)) len (read ++ first ∷ []) others next)
 
 -- the first part of a log that is opened
-pub starts : (setup : Setup) (file : List ℕ) (len : ℕ) (batches : List (List Entry)) → IsLog setup file batches → len ≡ length file → 33 ≡ length (beginning setup) → IsPart setup file 33 len [] batches
+pub starts : (setup : Setup) (file : List ℕ) (len : ℕ) (batches : List (List Entry)) → IsLog setup file batches → len ≡ length file → 33 ≡ length (beginning setup) → IsFileReadUpTo setup file 33 len [] batches
 starts setup file len batches log is long = record {
   back = log.back;
   whole = log.whole ∙ append_assoc (beginning setup) (blocks batches) log.back ∙ ap (λ (l : List ℕ). l ++ (blocks batches ++ log.back)) (sym (append-nil (beginning setup)));

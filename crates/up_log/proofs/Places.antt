@@ -4,7 +4,7 @@ use Rattle.std.proofs.lemmas.List.Concat.{flat_map-append, flat_map-cons}
 use Rattle.up_log.specs.declared.entry.Entry.{Entry}
 use Rattle.up_log.specs.declared.setup.Setup.{Setup}
 use Rattle.up_log.specs.Blocks.{block, blocks, beginning, written, IsAtRest}
-use Rattle.up_log.specs.Logs.{IsPart}
+use Rattle.up_log.specs.Logs.{IsFileReadUpTo}
 use Rattle.up_log.proofs.Crash.{closed_by}
 
 written_append : (setup : Setup) (read left : List (List Entry)) → written setup (read ++ left) ≡ written setup read ++ blocks left
@@ -12,7 +12,7 @@ written_append setup read left =
     ap (λ (l : List ℕ). beginning setup ++ l) (flat_map-append block read left) ∙ sym (append_assoc (beginning setup) (blocks read) (blocks left))
 
 -- a log at rest, read so far
-pub part_of : (setup : Setup) (file : List ℕ) (place len : ℕ) (read left : List (List Entry)) → IsAtRest setup file (read ++ left) → place ≡ length (written setup read) → len ≡ length file → IsPart setup file place len read left
+pub part_of : (setup : Setup) (file : List ℕ) (place len : ℕ) (read left : List (List Entry)) → IsAtRest setup file (read ++ left) → place ≡ length (written setup read) → len ≡ length file → IsFileReadUpTo setup file place len read left
 part_of setup file place len read left rest is all = record {
   back = rest.gate ∷ rest.behind;
   whole =

@@ -20,7 +20,7 @@ pub record IsSettled {D : Type 0} (g : Ghosts D) (log : Log D) (setup : Setup) (
   pub usable : IsTrue (g.is_usable log.device)
 
 -- a file with the batches that were read and those that are left, with its length and the place of the next block
-pub record IsPart (setup : Setup) (file : List ℕ) (gate len : ℕ) (read left : List (List Entry)) : Type 0 where
+pub record IsFileReadUpTo (setup : Setup) (file : List ℕ) (gate len : ℕ) (read left : List (List Entry)) : Type 0 where
   pub back : List ℕ
   pub whole : file ≡ written setup read ++ (blocks left ++ back)
   pub closed : IsClosed back
@@ -28,18 +28,18 @@ pub record IsPart (setup : Setup) (file : List ℕ) (gate len : ℕ) (read left 
   pub len_is : len ≡ length file
 
 -- these batches were read, these are left, and all of the file is on the disk
-abbrev pub IsReading : {D : Type 0} → Ghosts D → LogReader D → Setup → List (List Entry) → List (List Entry) → Type 0
-IsReading g reader setup read left =
-    IsPart setup (g.seen reader.device) reader.gate reader.len read left × Only (g.seen reader.device) (g.may_leave reader.device)
+abbrev pub IsReaderAt : {D : Type 0} → Ghosts D → LogReader D → Setup → List (List Entry) → List (List Entry) → Type 0
+IsReaderAt g reader setup read left =
+    IsFileReadUpTo setup (g.seen reader.device) reader.gate reader.len read left × Only (g.seen reader.device) (g.may_leave reader.device)
 
 -- the file is not the log of a server with this setup, or is damaged
-abbrev pub IsRefusal : LogFault → Type 0
-IsRefusal fault.Foreign = Unit {0}
-IsRefusal (fault.Version version) = Unit {0}
-IsRefusal (fault.Lanes made asked) = Unit {0}
-IsRefusal (fault.MaxSize made asked) = Unit {0}
-IsRefusal fault.Damaged = Unit {0}
-IsRefusal other = ⊥
+abbrev pub IsUnusableLog : LogFault → Type 0
+IsUnusableLog fault.Foreign = Unit {0}
+IsUnusableLog (fault.Version version) = Unit {0}
+IsUnusableLog (fault.Lanes made asked) = Unit {0}
+IsUnusableLog (fault.MaxSize made asked) = Unit {0}
+IsUnusableLog fault.Damaged = Unit {0}
+IsUnusableLog other = ⊥
 
 -- the number of bytes of the file that were not read
 abbrev pub unread : {D : Type 0} → LogReader D → ℕ
@@ -60,9 +60,9 @@ HasSize first (Ok size) = size ≡ length (batch first)
 HasSize first (Err e) = IsDamaged e → ⊥
 
 -- this batch, or an error that is not damage
-abbrev pub IsBatch : List Entry → Result (List Entry) LogFault → Type 0
-IsBatch first (Ok entries) = entries ≡ first
-IsBatch first (Err e) = IsDamaged e → ⊥
+abbrev pub IsBatchRead : List Entry → Result (List Entry) LogFault → Type 0
+IsBatchRead first (Ok entries) = entries ≡ first
+IsBatchRead first (Err e) = IsDamaged e → ⊥
 
 -- the first of the batches that are left, with the place after its block; none if none is left; or an error that is not
 -- damage
@@ -87,10 +87,10 @@ module _ {D : Type 0} (g : Ghosts D) where
 
   -- the first of the batches that are left; none if none is left; or an error that is not damage
   abbrev pub ReadsNext : LogReader D → Setup → List (List Entry) → List (List Entry) → Result (Option (List Entry)) LogFault → Type 0
-  ReadsNext new setup read left (Ok None) = (left ≡ []) × IsReading g new setup read left
+  ReadsNext new setup read left (Ok None) = (left ≡ []) × IsReaderAt g new setup read left
   ReadsNext new setup read left (Ok (Some entries)) =
-      (others : List (List Entry)) × (left ≡ entries ∷ others) × IsReading g new setup (read ++ entries ∷ []) others
-  ReadsNext new setup read left (Err e) = (IsDamaged e → ⊥) × IsReading g new setup read left
+      (others : List (List Entry)) × (left ≡ entries ∷ others) × IsReaderAt g new setup (read ++ entries ∷ []) others
+  ReadsNext new setup read left (Err e) = (IsDamaged e → ⊥) × IsReaderAt g new setup read left
 
   -- what a crash may leave of the file, if the disk read it correctly
   abbrev pub reader_leaves : Result (LogReader D) (Refused D) → List ℕ → Type 0

@@ -27,9 +27,9 @@ abbrev pub Fails : {Y : Type 0} → Unread → Option Y → Type 0
 Fails unread.Memory read = Unit {0}
 Fails unread.Damaged read = read ≡ None
 
-abbrev pub Gives : {X Y : Type 0} → (X → Y) → Result X Unread → Option Y → Type 0
-Gives view (Ok x) read = read ≡ Some (view x)
-Gives view (Err e) read = Fails e read
+abbrev pub ReadsAs : {X Y : Type 0} → (X → Y) → Result X Unread → Option Y → Type 0
+ReadsAs view (Ok x) read = read ≡ Some (view x)
+ReadsAs view (Err e) read = Fails e read
 
 unfoldable pub word_at : List ℕ → Read ℕ
 word_at (a ∷ b ∷ c ∷ d ∷ e ∷ f ∷ g ∷ h ∷ rest) =

@@ -62,10 +62,10 @@ consent Allowed = 1 ∷ []
 consent AllowedFinish = 2 ∷ []
 
 -- a length that is declared, if one was sent
-abbrev pub declared : Option (Result ℕ NotDigits) → List ℕ
-declared None = 0 ∷ []
-declared (Some (Ok n)) = 1 ∷ word n
-declared (Some (Err fault)) = 2 ∷ []
+abbrev pub declared_length : Option (Result ℕ NotDigits) → List ℕ
+declared_length None = 0 ∷ []
+declared_length (Some (Ok n)) = 1 ∷ word n
+declared_length (Some (Err fault)) = 2 ∷ []
 
 -- a key and its value
 abbrev pub pair : List ℕ × List ℕ → List ℕ
@@ -76,7 +76,7 @@ new_upload new =
     kind new.kind ++ maybe word new.length ++ many id new.parts ++ many pair new.pairs ++ maybe text new.metadata ++ maybe text new.concat
 
 abbrev pub patch : Patch → List ℕ
-patch p = id p.id ++ flag p.media ++ maybe word p.offset ++ declared p.length ++ text p.bytes
+patch p = id p.id ++ flag p.media ++ maybe word p.offset ++ declared_length p.length ++ text p.bytes
 
 abbrev pub asked_for : Request → List ℕ
 asked_for request.Options = 0 ∷ []

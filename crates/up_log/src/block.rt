@@ -1,7 +1,7 @@
 //! Reading a block of a log at its place.
 ghost use Rattle.std.specs.Prelude.{◌≡◌, ◌+◌, ◌<◌, ◌≤◌, ◌++◌, ◌∷◌, List, ℕ, length, take, drop, IfOk, IfErr, IsTrue};
 ghost use Rattle.up_log.specs.Blocks.{blocks, IsClosed};
-ghost use Rattle.up_log.specs.Logs.{NextIs, HasSize, IsBatch, BlockIs, IsDamaged};
+ghost use Rattle.up_log.specs.Logs.{NextIs, HasSize, IsBatchRead, BlockIs, IsDamaged};
 ghost use Rattle.up_log.specs.Spelling.{batch};
 ghost use Rattle.up_log.specs.declared.fault.Unread.TheVariants.{Damaged};
 ghost use Rattle.up_log.specs.declared.entry.Entry.{Entry as Logged};
@@ -81,7 +81,7 @@ fn batch_from<D: Disk>(
     size: usize,
 ) -> Result<Sequence<Entry>, LogFault>
     ensures entries { (first : List Logged) → take size (drop at (D.seen disk.old)) ≡ batch first
-        → IsTrue (D.is_clean disk.new) → IsBatch first result }
+        → IsTrue (D.is_clean disk.new) → IsBatchRead first result }
     ensures seen { D.seen disk.new ≡ D.seen disk.old }
     ensures usable { IsTrue (D.is_usable disk.old) → IsTrue (D.is_usable disk.new) }
     ensures clean { IsTrue (D.is_clean disk.new) → IsTrue (D.is_clean disk.old) }

@@ -1,7 +1,7 @@
 //! Reading and writing a part of a file.
 ghost use Rattle.std.specs.Prelude.{◌≡◌, ◌≢◌, ◌<◌, List, ℕ, length, take, drop, IfOk, IfErr, OnOk, IsTrue};
 ghost use Rattle.sqlite_disk.specs.Disk.{Holds, Torn, Only};
-ghost use Rattle.up_log.specs.Logs.{IsDamaged, IsRefusal};
+ghost use Rattle.up_log.specs.Logs.{IsDamaged, IsUnusableLog};
 
 use crate::fault::LogFault;
 use sqlite_disk::Disk;
@@ -65,7 +65,7 @@ pub(crate) fn len_of<D: Disk>(disk: &mut D) -> Result<usize, LogFault>
 pub(crate) fn settle<D: Disk>(disk: &mut D) -> Result<(), LogFault>
     ensures synced { OnOk result (Only (D.seen disk.new) (D.may_leave disk.new)
         × IsTrue (D.is_usable disk.new)) }
-    ensures fault { IfErr result (λ fault. IsRefusal fault → ⊥) }
+    ensures fault { IfErr result (λ fault. IsUnusableLog fault → ⊥) }
     ensures memory { IfErr result (λ fault. fault ≢ LogFault.Memory) }
     ensures seen { D.seen disk.new ≡ D.seen disk.old }
     ensures calm { D.is_clean disk.new ≡ D.is_clean disk.old }
@@ -85,7 +85,7 @@ pub(crate) fn write_synced<D: Disk>(disk: &mut D, at: usize, bytes: &[u8]) -> Re
     ensures others { Torn at (length bytes.now) (D.seen disk.old) (D.seen disk.new) }
     ensures synced { OnOk result (Only (D.seen disk.new) (D.may_leave disk.new)) }
     ensures usable { OnOk result (IsTrue (D.is_usable disk.new)) }
-    ensures fault { IfErr result (λ fault. IsRefusal fault → ⊥) }
+    ensures fault { IfErr result (λ fault. IsUnusableLog fault → ⊥) }
     ensures memory { IfErr result (λ fault. fault ≢ LogFault.Memory) }
     ensures calm { D.is_clean disk.new ≡ D.is_clean disk.old }
     ensures crash { (c : List ℕ) → D.may_leave disk.new c

@@ -3,7 +3,7 @@ ghost use Rattle.std.specs.Prelude.{◌≡◌, ◌≤◌, ◌++◌, ◌∷◌, [
 ghost use Rattle.std.specs.Prelude.{List, ℕ, length, take, slice_index_or, vec_len, IfOk, OnOk, IfErr, IsTrue};
 ghost use Rattle.sqlite_disk.specs.Disk.{Only};
 ghost use Rattle.up_log.specs.Blocks.{heading, beginning, IsFileOf, IsLog, IsOurs, IsShut, IsUnfinished};
-ghost use Rattle.up_log.specs.Logs.{IsRefusal};
+ghost use Rattle.up_log.specs.Logs.{IsUnusableLog};
 ghost use Rattle.up_log.specs.declared.entry.Entry.{Entry as Logged};
 ghost use Rattle.up_log.specs.declared.setup.Setup.{Setup as Numbers};
 
@@ -81,7 +81,7 @@ fn first_of(bytes: &[u8]) -> u8
 
 /// Why a file with this start is not the log of a server with this setup.
 fn refusal(front: &[u8], setup: Setup) -> LogFault
-    ensures { IsRefusal result }
+    ensures { IsUnusableLog result }
 {
     let [1, 117, 112, 32, 108, 111, 103, 13, 10, rest @ ..] = front else {
         return LogFault::Foreign;
@@ -99,7 +99,7 @@ fn refusal(front: &[u8], setup: Setup) -> LogFault
 }
 
 fn difference(version: u64, lanes: u64, max_size: u64, setup: Setup) -> LogFault
-    ensures { IsRefusal result }
+    ensures { IsUnusableLog result }
 {
     if version != 1 {
         LogFault::Version(version)
@@ -126,7 +126,7 @@ fn shut<D: Disk>(disk: &mut D, first: u8) -> Result<(), LogFault>
         → first ≡ slice_index_or (D.seen disk.old) 0 1
         → Only (D.seen disk.old) (D.may_leave disk.old)
         → (c : List ℕ) → D.may_leave disk.new c → IsFileOf setup [] c }
-    ensures fault { IfErr result (λ fault. IsRefusal fault → ⊥) }
+    ensures fault { IfErr result (λ fault. IsUnusableLog fault → ⊥) }
     ensures calm { D.is_clean disk.new ≡ D.is_clean disk.old }
 {
     if first == 0 {
@@ -146,7 +146,7 @@ fn write_heading<D: Disk>(disk: &mut D, closed: &[u8]) -> Result<(), LogFault>
         → IsShut (D.seen disk.old)
         → Only (D.seen disk.old) (D.may_leave disk.old)
         → (c : List ℕ) → D.may_leave disk.new c → IsFileOf setup [] c }
-    ensures fault { IfErr result (λ fault. IsRefusal fault → ⊥) }
+    ensures fault { IfErr result (λ fault. IsUnusableLog fault → ⊥) }
     ensures calm { D.is_clean disk.new ≡ D.is_clean disk.old }
 {
     if closed.is_empty() {
@@ -185,7 +185,7 @@ fn begin_anew<D: Disk>(disk: &mut D, first: u8, closed: &[u8]) -> Result<(), Log
         → IsUnfinished setup (D.seen disk.old) → first ≡ slice_index_or (D.seen disk.old) 0 1
         → Only (D.seen disk.old) (D.may_leave disk.old)
         → (c : List ℕ) → D.may_leave disk.new c → IsFileOf setup [] c }
-    ensures fault { IfErr result (λ fault. IsRefusal fault → ⊥) }
+    ensures fault { IfErr result (λ fault. IsUnusableLog fault → ⊥) }
     ensures calm { D.is_clean disk.new ≡ D.is_clean disk.old }
 {
     shut(disk, first)?;
@@ -197,7 +197,8 @@ fn begin_anew<D: Disk>(disk: &mut D, first: u8, closed: &[u8]) -> Result<(), Log
 /// Returns the length of the file.
 pub(crate) fn begin<D: Disk>(alloc: Global, disk: &mut D, setup: Setup) -> Result<usize, LogFault>
     ensures ours { OnOk result (IsTrue (D.is_clean disk.new) → IsOurs setup (D.seen disk.old)) }
-    ensures unchanged { IfErr result (λ fault. IsRefusal fault → (D.seen disk.new ≡ D.seen disk.old)
+    ensures unchanged { IfErr result
+        (λ fault. IsUnusableLog fault → (D.seen disk.new ≡ D.seen disk.old)
         × ((c : List ℕ) → D.may_leave disk.new c → D.may_leave disk.old c)) }
     ensures reads { (batches : List (List Logged)) → IsFileOf setup batches (D.seen disk.old)
         → Only (D.seen disk.old) (D.may_leave disk.old)

@@ -2,7 +2,7 @@
 ghost use Rattle.std.specs.Prelude.{◌≡◌, ◌<◌, ◌++◌, [], List, ℕ, length, IfOk, IfSome, IfErr, OnOk, IsTrue};
 ghost use Rattle.sqlite_disk.specs.Disk.{Only};
 ghost use Rattle.up_log.specs.Blocks.{written, IsAtRest, IsFileOf, IsLog, IsOurs};
-ghost use Rattle.up_log.specs.Logs.{IsCleanLog, IsCleanReader, IsReading, IsRefusal, IsPart};
+ghost use Rattle.up_log.specs.Logs.{IsCleanLog, IsCleanReader, IsReaderAt, IsUnusableLog, IsFileReadUpTo};
 ghost use Rattle.up_log.specs.Logs.{IsSettled, ReadsNext, reader_leaves, log_leaves, unread};
 ghost use Rattle.up_log.specs.declared.entry.Entry.{Entry as Logged};
 ghost use Rattle.up_log.specs.declared.setup.Setup.{Setup as Numbers};
@@ -65,13 +65,13 @@ pub(crate) fn mend<D: Disk>(disk: &mut D, len: usize, gate: usize) -> Result<(),
 /// Checks that all blocks were read, and repairs the end after them.
 fn end<D: Disk>(disk: &mut D, len: usize, gate: usize) -> Result<(), LogFault>
     ensures settled { (setup : Numbers) (read left : List (List Logged))
-        → IsPart setup (D.seen disk.old) gate len read left
+        → IsFileReadUpTo setup (D.seen disk.old) gate len read left
         → Only (D.seen disk.old) (D.may_leave disk.old)
         → OnOk result (IsTrue (D.is_clean disk.new) → (left ≡ [])
         × IsAtRest setup (D.seen disk.new) read
         × Only (D.seen disk.new) (D.may_leave disk.new)) }
     ensures crash { (setup : Numbers) (read left : List (List Logged))
-        → IsPart setup (D.seen disk.old) gate len read left
+        → IsFileReadUpTo setup (D.seen disk.old) gate len read left
         → Only (D.seen disk.old) (D.may_leave disk.old)
         → IsTrue (D.is_clean disk.new) → (c : List ℕ) → D.may_leave disk.new c
         → IsLog setup c (read ++ left) }
@@ -94,13 +94,13 @@ impl<D: Disk> LogReader<D> {
         ensures ours { IfOk result (λ reader. IsCleanReader D.Disk reader
             → IsOurs setup (D.seen device)) }
         // and stays unchanged.
-        ensures unchanged { IfErr result (λ refused. IsRefusal refused.fault
+        ensures unchanged { IfErr result (λ refused. IsUnusableLog refused.fault
             → (D.seen refused.device ≡ D.seen device)
             × ((c : List ℕ) → D.may_leave refused.device c → D.may_leave device c)) }
         ensures reads { (batches : List (List Logged)) → IsFileOf setup batches (D.seen device)
             → Only (D.seen device) (D.may_leave device)
             → IfOk result (λ reader. IsCleanReader D.Disk reader
-            → IsReading D.Disk reader setup [] batches) }
+            → IsReaderAt D.Disk reader setup [] batches) }
         ensures crash { (batches : List (List Logged)) → IsFileOf setup batches (D.seen device)
             → Only (D.seen device) (D.may_leave device)
             → (c : List ℕ) → reader_leaves D.Disk result c → IsFileOf setup batches c }
@@ -119,7 +119,7 @@ impl<D: Disk> LogReader<D> {
     /// The next batch, `None` at the end.
     pub fn next_batch(&mut self, alloc: Global) -> Result<Option<Sequence<Entry>>, LogFault>
         ensures reads { (setup : Numbers) (read left : List (List Logged))
-            → IsReading D.Disk self.old setup read left
+            → IsReaderAt D.Disk self.old setup read left
             → IsCleanReader D.Disk self.new → ReadsNext D.Disk self.new setup read left result }
         ensures further { IfOk result (λ found. IfSome found (λ _.
             unread self.new < unread self.old)) }
@@ -139,12 +139,12 @@ impl<D: Disk> LogReader<D> {
     /// The log, if all of its batches were read. `NotRead` if some were not.
     pub fn finish(self) -> Result<Log<D>, Refused<D>>
         ensures settled { (setup : Numbers) (read left : List (List Logged))
-            → IsReading D.Disk self setup read left
+            → IsReaderAt D.Disk self setup read left
             → IfOk result (λ log. IsCleanLog D.Disk log → (left ≡ [])
             × IsSettled D.Disk log setup read) }
         ensures clean { IfOk result (λ log. IsCleanLog D.Disk log → IsCleanReader D.Disk self) }
         ensures crash { (setup : Numbers) (read left : List (List Logged))
-            → IsReading D.Disk self setup read left
+            → IsReaderAt D.Disk self setup read left
             → (c : List ℕ) → log_leaves D.Disk result c → IsLog setup c (read ++ left) }
     {
         let LogReader { device, len, gate } = self;

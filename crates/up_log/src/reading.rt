@@ -1,7 +1,7 @@
 //! Decoding entries.
 ghost use Rattle.std.specs.Prelude.{◌≡◌, ◌<◌, List, length, Some, IfOk};
 ghost use Rattle.up_log.specs.Spelling.{batch};
-ghost use Rattle.up_log.specs.Reading.{Gives, word_at, id_at, text_at, maybe_at, many_at, so_many_at};
+ghost use Rattle.up_log.specs.Reading.{ReadsAs, word_at, id_at, text_at, maybe_at, many_at, so_many_at};
 ghost use Rattle.up_log.specs.Reading.{flag_at, kind_at, consent_at, declared_at, pair_at, new_upload_at};
 ghost use Rattle.up_log.specs.Reading.{patch_at, asked_for_at, entry_at, batch_at, whole_at};
 ghost use Rattle.up_log.specs.declared.entry.Entry.{Entry as Logged};
@@ -15,7 +15,7 @@ use up_message::{Piece, Sequence};
 
 #[tactic(auto, unfolding(crate::specs::Reading::word_at))]
 pub(crate) fn word_of(bytes: &[u8]) -> Result<(u64, &[u8]), Unread>
-    ensures exact { Gives (λ x. (x.0, x.1.now)) result (word_at bytes.now) }
+    ensures exact { ReadsAs (λ x. (x.0, x.1.now)) result (word_at bytes.now) }
     ensures shorter { IfOk result (λ x. length x.1.now < length bytes.now) }
 {
     match bytes {
@@ -33,7 +33,7 @@ pub(crate) fn word_of(bytes: &[u8]) -> Result<(u64, &[u8]), Unread>
 
 #[tactic(auto, unfolding(crate::specs::Reading::id_at))]
 fn number_of(bytes: &[u8]) -> Result<(u128, &[u8]), Unread>
-    ensures { Gives (λ x. (x.0, x.1.now)) result (id_at bytes.now) }
+    ensures { ReadsAs (λ x. (x.0, x.1.now)) result (id_at bytes.now) }
 {
     let (low, rest) = word_of(bytes)?;
     let (high, rest) = word_of(rest)?;
@@ -43,7 +43,7 @@ fn number_of(bytes: &[u8]) -> Result<(u128, &[u8]), Unread>
 
 #[tactic(auto, unfolding(crate::specs::Reading::text_at))]
 fn text_of(alloc: Global, bytes: &[u8]) -> Result<(Sequence<u8>, &[u8]), Unread>
-    ensures { Gives (λ x. (x.0, x.1.now)) result (text_at bytes.now) }
+    ensures { ReadsAs (λ x. (x.0, x.1.now)) result (text_at bytes.now) }
 {
     let (count, rest) = word_of(bytes)?;
     let count = count as usize;
@@ -55,7 +55,7 @@ fn text_of(alloc: Global, bytes: &[u8]) -> Result<(Sequence<u8>, &[u8]), Unread>
 }
 
 fn piece_of(alloc: Global, bytes: &[u8]) -> Result<(Piece, &[u8]), Unread>
-    ensures { Gives (λ x. (x.0, x.1.now)) result (text_at bytes.now) }
+    ensures { ReadsAs (λ x. (x.0, x.1.now)) result (text_at bytes.now) }
 {
     let (text, rest) = span_of(bytes)?;
     Ok((Piece::copied(alloc, text)?, rest))
@@ -63,7 +63,7 @@ fn piece_of(alloc: Global, bytes: &[u8]) -> Result<(Piece, &[u8]), Unread>
 
 #[tactic(auto, unfolding(crate::specs::Reading::maybe_at))]
 fn length_of(bytes: &[u8]) -> Result<(Option<u64>, &[u8]), Unread>
-    ensures { Gives (λ x. (x.0, x.1.now)) result (maybe_at word_at bytes.now) }
+    ensures { ReadsAs (λ x. (x.0, x.1.now)) result (maybe_at word_at bytes.now) }
 {
     match bytes {
         [0, rest @ ..] => Ok((None, rest)),
@@ -77,7 +77,7 @@ fn length_of(bytes: &[u8]) -> Result<(Option<u64>, &[u8]), Unread>
 
 #[tactic(auto, unfolding(crate::specs::Reading::maybe_at))]
 fn some_text_of(alloc: Global, bytes: &[u8]) -> Result<(Option<Sequence<u8>>, &[u8]), Unread>
-    ensures { Gives (λ x. (x.0, x.1.now)) result (maybe_at text_at bytes.now) }
+    ensures { ReadsAs (λ x. (x.0, x.1.now)) result (maybe_at text_at bytes.now) }
 {
     match bytes {
         [0, rest @ ..] => Ok((None, rest)),
@@ -91,7 +91,7 @@ fn some_text_of(alloc: Global, bytes: &[u8]) -> Result<(Option<Sequence<u8>>, &[
 
 #[tactic(auto, unfolding(crate::specs::Reading::flag_at))]
 fn flag_of(bytes: &[u8]) -> Result<(bool, &[u8]), Unread>
-    ensures { Gives (λ x. (x.0, x.1.now)) result (flag_at bytes.now) }
+    ensures { ReadsAs (λ x. (x.0, x.1.now)) result (flag_at bytes.now) }
 {
     match bytes {
         [0, rest @ ..] => Ok((false, rest)),
@@ -102,7 +102,7 @@ fn flag_of(bytes: &[u8]) -> Result<(bool, &[u8]), Unread>
 
 #[tactic(auto, unfolding(crate::specs::Reading::kind_at))]
 fn kind_of(bytes: &[u8]) -> Result<(Kind, &[u8]), Unread>
-    ensures { Gives (λ x. (x.0, x.1.now)) result (kind_at bytes.now) }
+    ensures { ReadsAs (λ x. (x.0, x.1.now)) result (kind_at bytes.now) }
 {
     match bytes {
         [0, rest @ ..] => Ok((Kind::Plain, rest)),
@@ -114,7 +114,7 @@ fn kind_of(bytes: &[u8]) -> Result<(Kind, &[u8]), Unread>
 
 #[tactic(auto, unfolding(crate::specs::Reading::consent_at))]
 fn consent_of(bytes: &[u8]) -> Result<(Consent, &[u8]), Unread>
-    ensures { Gives (λ x. (x.0, x.1.now)) result (consent_at bytes.now) }
+    ensures { ReadsAs (λ x. (x.0, x.1.now)) result (consent_at bytes.now) }
 {
     match bytes {
         [0, rest @ ..] => Ok((Consent::Skipped, rest)),
@@ -126,7 +126,7 @@ fn consent_of(bytes: &[u8]) -> Result<(Consent, &[u8]), Unread>
 
 #[tactic(auto, unfolding(crate::specs::Reading::declared_at))]
 fn declared_of(bytes: &[u8]) -> Result<(Option<Result<u64, NotDigits>>, &[u8]), Unread>
-    ensures { Gives (λ x. (x.0, x.1.now)) result (declared_at bytes.now) }
+    ensures { ReadsAs (λ x. (x.0, x.1.now)) result (declared_at bytes.now) }
 {
     match bytes {
         [0, rest @ ..] => Ok((None, rest)),
@@ -141,7 +141,7 @@ fn declared_of(bytes: &[u8]) -> Result<(Option<Result<u64, NotDigits>>, &[u8]), 
 
 #[tactic(auto, unfolding(crate::specs::Reading::pair_at))]
 fn pair_of(alloc: Global, bytes: &[u8]) -> Result<((Sequence<u8>, Sequence<u8>), &[u8]), Unread>
-    ensures { Gives (λ x. (x.0, x.1.now)) result (pair_at bytes.now) }
+    ensures { ReadsAs (λ x. (x.0, x.1.now)) result (pair_at bytes.now) }
 {
     let (key, rest) = text_of(alloc, bytes)?;
     let (value, rest) = text_of(alloc, rest)?;
@@ -149,7 +149,7 @@ fn pair_of(alloc: Global, bytes: &[u8]) -> Result<((Sequence<u8>, Sequence<u8>),
 }
 
 fn so_many_ids(alloc: Global, count: u64, bytes: &[u8]) -> Result<(Sequence<Id>, &[u8]), Unread>
-    ensures { Gives (λ x. (x.0, x.1.now)) result (so_many_at id_at count bytes.now) }
+    ensures { ReadsAs (λ x. (x.0, x.1.now)) result (so_many_at id_at count bytes.now) }
 {
     let mut ids = Sequence::new(alloc);
     let mut rest = bytes;
@@ -162,7 +162,7 @@ fn so_many_ids(alloc: Global, count: u64, bytes: &[u8]) -> Result<(Sequence<Id>,
 }
 
 fn so_many_pairs(alloc: Global, count: u64, bytes: &[u8]) -> Result<(Pairs, &[u8]), Unread>
-    ensures { Gives (λ x. (x.0, x.1.now)) result (so_many_at pair_at count bytes.now) }
+    ensures { ReadsAs (λ x. (x.0, x.1.now)) result (so_many_at pair_at count bytes.now) }
 {
     let mut pairs = Sequence::new(alloc);
     let mut rest = bytes;
@@ -176,7 +176,7 @@ fn so_many_pairs(alloc: Global, count: u64, bytes: &[u8]) -> Result<(Pairs, &[u8
 
 #[tactic(auto, unfolding(crate::specs::Reading::many_at))]
 fn ids_of(alloc: Global, bytes: &[u8]) -> Result<(Sequence<Id>, &[u8]), Unread>
-    ensures { Gives (λ x. (x.0, x.1.now)) result (many_at id_at bytes.now) }
+    ensures { ReadsAs (λ x. (x.0, x.1.now)) result (many_at id_at bytes.now) }
 {
     let (count, rest) = word_of(bytes)?;
     so_many_ids(alloc, count, rest)
@@ -184,7 +184,7 @@ fn ids_of(alloc: Global, bytes: &[u8]) -> Result<(Sequence<Id>, &[u8]), Unread>
 
 #[tactic(auto, unfolding(crate::specs::Reading::many_at))]
 fn pairs_of(alloc: Global, bytes: &[u8]) -> Result<(Pairs, &[u8]), Unread>
-    ensures { Gives (λ x. (x.0, x.1.now)) result (many_at pair_at bytes.now) }
+    ensures { ReadsAs (λ x. (x.0, x.1.now)) result (many_at pair_at bytes.now) }
 {
     let (count, rest) = word_of(bytes)?;
     so_many_pairs(alloc, count, rest)
@@ -192,7 +192,7 @@ fn pairs_of(alloc: Global, bytes: &[u8]) -> Result<(Pairs, &[u8]), Unread>
 
 #[tactic(auto, unfolding(crate::specs::Reading::new_upload_at))]
 fn new_upload_of(alloc: Global, bytes: &[u8]) -> Result<(NewUpload, &[u8]), Unread>
-    ensures { Gives (λ x. (x.0, x.1.now)) result (new_upload_at bytes.now) }
+    ensures { ReadsAs (λ x. (x.0, x.1.now)) result (new_upload_at bytes.now) }
 {
     let (kind, rest) = kind_of(bytes)?;
     let (length, rest) = length_of(rest)?;
@@ -213,7 +213,7 @@ fn new_upload_of(alloc: Global, bytes: &[u8]) -> Result<(NewUpload, &[u8]), Unre
 
 #[tactic(auto, unfolding(crate::specs::Reading::patch_at))]
 fn patch_of(alloc: Global, bytes: &[u8]) -> Result<(Patch, &[u8]), Unread>
-    ensures { Gives (λ x. (x.0, x.1.now)) result (patch_at bytes.now) }
+    ensures { ReadsAs (λ x. (x.0, x.1.now)) result (patch_at bytes.now) }
 {
     let (number, rest) = number_of(bytes)?;
     let (media, rest) = flag_of(rest)?;
@@ -232,7 +232,7 @@ fn patch_of(alloc: Global, bytes: &[u8]) -> Result<(Patch, &[u8]), Unread>
 
 #[tactic(auto, unfolding(crate::specs::Reading::asked_for_at))]
 fn request_of(alloc: Global, bytes: &[u8]) -> Result<(Request, &[u8]), Unread>
-    ensures { Gives (λ x. (x.0, x.1.now)) result (asked_for_at bytes.now) }
+    ensures { ReadsAs (λ x. (x.0, x.1.now)) result (asked_for_at bytes.now) }
 {
     match bytes {
         [0, rest @ ..] => Ok((Request::Options, rest)),
@@ -262,7 +262,7 @@ fn request_of(alloc: Global, bytes: &[u8]) -> Result<(Request, &[u8]), Unread>
 
 #[tactic(auto, unfolding(crate::specs::Reading::entry_at))]
 fn entry_of(alloc: Global, bytes: &[u8]) -> Result<(Entry, &[u8]), Unread>
-    ensures { Gives (λ x. (x.0, x.1.now)) result (entry_at bytes.now) }
+    ensures { ReadsAs (λ x. (x.0, x.1.now)) result (entry_at bytes.now) }
 {
     let (number, rest) = number_of(bytes)?;
     let (consent, rest) = consent_of(rest)?;
@@ -280,7 +280,7 @@ fn so_many_entries(
     count: u64,
     bytes: &[u8],
 ) -> Result<(Sequence<Entry>, &[u8]), Unread>
-    ensures { Gives (λ x. (x.0, x.1.now)) result (so_many_at entry_at count bytes.now) }
+    ensures { ReadsAs (λ x. (x.0, x.1.now)) result (so_many_at entry_at count bytes.now) }
 {
     let mut entries = Sequence::new(alloc);
     let mut rest = bytes;
@@ -295,7 +295,7 @@ fn so_many_entries(
 /// A number of bytes with their count before them. They are not copied.
 #[tactic(auto, unfolding(crate::specs::Reading::text_at))]
 fn span_of(bytes: &[u8]) -> Result<(&[u8], &[u8]), Unread>
-    ensures exact { Gives (λ x. (x.0.now, x.1.now)) result (text_at bytes.now) }
+    ensures exact { ReadsAs (λ x. (x.0.now, x.1.now)) result (text_at bytes.now) }
     ensures shorter { IfOk result (λ x. length x.1.now < length bytes.now) }
 {
     let (count, rest) = word_of(bytes)?;
@@ -309,7 +309,7 @@ fn span_of(bytes: &[u8]) -> Result<(&[u8], &[u8]), Unread>
 /// The batch that these bytes encode.
 #[tactic(auto, unfolding(crate::specs::Reading::whole_at))]
 pub(crate) fn whole_batch(alloc: Global, bytes: &[u8]) -> Result<Sequence<Entry>, Unread>
-    ensures { Gives (λ x. x) result (whole_at bytes.now) }
+    ensures { ReadsAs (λ x. x) result (whole_at bytes.now) }
 {
     let (entries, rest) = read_batch(alloc, bytes)?;
     if !rest.is_empty() {
@@ -322,7 +322,7 @@ pub(crate) fn whole_batch(alloc: Global, bytes: &[u8]) -> Result<Sequence<Entry>
 #[tactic(auto, unfolding(crate::specs::Reading::batch_at, crate::specs::Reading::many_at))]
 fn read_batch(alloc: Global, bytes: &[u8]) -> Result<(Sequence<Entry>, &[u8]), Unread>
     // Exactly what the definition decodes.
-    ensures exact { Gives (λ x. (x.0, x.1.now)) result (batch_at bytes.now) }
+    ensures exact { ReadsAs (λ x. (x.0, x.1.now)) result (batch_at bytes.now) }
 {
     let (count, rest) = word_of(bytes)?;
     so_many_entries(alloc, count, rest)

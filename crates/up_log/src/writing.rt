@@ -2,7 +2,7 @@
 ghost use Rattle.std.specs.Prelude.{◌≡◌, ◌≤◌, ◌++◌, ◌∷◌, [], length, drop, IfOk, OnOk};
 ghost use Rattle.std.specs.Option.{option_map};
 ghost use Rattle.up_log.specs.Blocks.{body};
-ghost use Rattle.up_log.specs.Spelling.{word, id, text, maybe, many, flag, kind, consent, declared, pair, new_upload, patch, asked_for, entry, batch};
+ghost use Rattle.up_log.specs.Spelling.{word, id, text, maybe, many, flag, kind, consent, declared_length, pair, new_upload, patch, asked_for, entry, batch};
 
 use crate::entry::{Consent, Entry};
 use crate::spelled::Spelled;
@@ -128,7 +128,7 @@ fn put_consent(out: &mut Vec<u8>, given: Consent) -> Result<(), AllocError>
 }
 
 fn put_declared(out: &mut Vec<u8>, length: Option<Result<u64, NotDigits>>) -> Result<(), AllocError>
-    ensures { OnOk result (out.new.items ≡ out.old.items ++ declared length) }
+    ensures { OnOk result (out.new.items ≡ out.old.items ++ declared_length length) }
 {
     match length {
         None => Ok(out.push(0)?),

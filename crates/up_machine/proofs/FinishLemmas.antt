@@ -6,7 +6,7 @@ use Rattle.std.specs.Ordering.{nat_cmp, eq_by_cmp}
 use Rattle.std.specs.Cmp.{nat_cmp_total}
 use Rattle.std.proofs.lemmas.Bool.{false≢true}
 use Rattle.up_events.proofs.Sound.{sound as sound_upload, length_of-created, offset_of-created}
-use Rattle.up_events.specs.History.{Step, id_of, is_known, is_whole, length_of, offset_of, finish_at, steps_at}
+use Rattle.up_events.specs.History.{EventBody, id_of, is_known, is_whole, length_of, offset_of, finish_at, steps_at}
 use Rattle.up_events.specs.declared.event.Accepted.{Accepted}
 use Rattle.up_events.specs.declared.event.Accepted.TheVariants.{Created, Appended, Declared}
 use Rattle.up_events.specs.declared.event.Hook.TheVariants.{Receive, Finish}
@@ -16,7 +16,7 @@ use Rattle.up_headers.specs.declared.request.Patch.{Patch}
 use Rattle.up_headers.specs.declared.request.Request.{Request}
 use Rattle.up_headers.specs.declared.request.Request.TheVariants as request
 use Rattle.up_machine.specs.Content.{Content, declared, size_after, with_more}
-use Rattle.up_machine.specs.Decision.{asked_rows, change_by, change_of, completes, new_content, patch_change, patch_completes, planned_rows, response_to, rows_of, step_of, unless}
+use Rattle.up_machine.specs.Decision.{asked_rows, change_by, change_of, completes, new_content, patch_change, patch_completes, planned_rows, response_to, rows_of, patch_outcome, unless}
 use Rattle.up_machine.specs.Finishing.{CompletingTellsFinish, FinishIsAllowed, has_finish, tells_finish}
 use Rattle.up_machine.specs.Fits.{Fits, IsSoundBook}
 use Rattle.up_machine.specs.State.{Contents, State}
@@ -31,11 +31,11 @@ use Rattle.up_machine.proofs.FitsLemmas.{patch_moves}
 -- ---- the events of a change
 
 has_finish-finish_at : (offset : ℕ) (size : Option ℕ) → has_finish (finish_at offset size) ≡ is_whole offset size
-has_finish-finish_at offset size = elim (is_whole offset size) as (λ b. has_finish (cond b (let s : Step = (Finish, offset, size) in s ∷ []) []) ≡ b) [ true ↦ refl | false ↦ refl ]
+has_finish-finish_at offset size = elim (is_whole offset size) as (λ b. has_finish (cond b (let s : EventBody = (Finish, offset, size) in s ∷ []) []) ≡ b) [ true ↦ refl | false ↦ refl ]
 
 has_finish-declared : (u n count offset : ℕ) (size : Option ℕ) → has_finish (steps_at (Declared u n count) offset size) ≡ is_whole offset size
 has_finish-declared u n count offset size =
-    elim (eqb count 0) as (λ b. has_finish (cond b [] (let s : Step = (Receive, offset, size) in s ∷ []) ++ finish_at offset size) ≡ is_whole offset size) [
+    elim (eqb count 0) as (λ b. has_finish (cond b [] (let s : EventBody = (Receive, offset, size) in s ∷ []) ++ finish_at offset size) ≡ is_whole offset size) [
       | true ↦ has_finish-finish_at offset size
       | false ↦ has_finish-finish_at offset size
     ]
@@ -75,7 +75,7 @@ moved_tells content changes max_size p x (Some c) fits g small may e =
 
 patch_tells : (s : State) (p : Patch) (asked : Asked) → IsSoundBook s → first_that_holds (rows_of s (request.Patch p) 0 asked) ≡ None → tells_finish s.journal.accepted (patch_change p (map.get s.content p.id)) ≡ completes s (request.Patch p)
 patch_tells s p asked sound none =
-    let step = step_of p (map.get s.content p.id) in
+    let step = patch_outcome p (map.get s.content p.id) in
     let passed = patch_passed s p asked step step (sym (ap (λ o. unless o step) none)) in
     let x = passed.0 in
     subst (λ found. tells_finish s.journal.accepted (patch_change p found) ≡ patch_completes p found) (sym passed.1)

@@ -5,7 +5,7 @@ use Rattle.std.specs.FinMap.{get-empty, get-insert, get-remove}
 use Rattle.std.specs.Ordering.{nat_cmp, eq_by_cmp}
 use Rattle.std.specs.Cmp.{nat_cmp_total}
 use Rattle.std.proofs.lemmas.Bool.{eqb-true, false≢true, ltb-false}
-use Rattle.up_events.specs.History.{id_of, length_of, kind_of, is_final, is_final_kind, offset_of, is_known, is_terminated, is_alive, is_whole, most_of, CanFollow, IsLegal}
+use Rattle.up_events.specs.History.{id_of, length_of, kind_of, is_final, is_final_kind, offset_of, is_known, is_terminated, is_alive, is_whole, max_length_of, CanFollow, IsLegal}
 use Rattle.up_events.specs.Lists.{EachFollows, first_given}
 use Rattle.up_events.specs.declared.event.Accepted.{Accepted}
 use Rattle.up_events.specs.declared.event.Accepted.TheVariants.{Created, Appended, Declared, Terminated}
@@ -13,9 +13,9 @@ use Rattle.up_events.proofs.TrackLemmas.{same_id}
 use Rattle.up_events.proofs.HistoryLemmas.{or_none, EachFollows-snoc, kind_of-other, length_of-other, offset_of-other, is_terminated-other}
 use Rattle.up_events.proofs.Sound.{sound, kind_of-created, length_of-created, kind_of-appended, length_of-appended, kind_of-declared, length_of-declared, is_terminated-created, is_terminated-appended, is_terminated-declared, is_terminated-terminated, offset_of-created, offset_of-appended, offset_of-declared}
 use Rattle.up_machine.specs.Content.{Content, CanTake, declared, size_after, with_more}
-use Rattle.up_machine.specs.Decision.{change_by, rows_of, step_of, unless}
+use Rattle.up_machine.specs.Decision.{change_by, rows_of, patch_outcome, unless}
 use Rattle.up_machine.proofs.DecisionLemmas.{MayTake, patch_passed}
-use Rattle.up_machine.specs.declared.checks.Step.{Step}
+use Rattle.up_machine.specs.declared.checks.PatchOutcome.{PatchOutcome}
 use Rattle.up_machine.specs.declared.plan.Asked.{Asked}
 use Rattle.up_headers.specs.declared.request.Request.TheVariants as request
 use Rattle.up_headers.specs.Rows.{first_that_holds}
@@ -112,11 +112,11 @@ declared_some (Some (Err fault)) known n e = absurd (cc)
 declared_some (Some (Ok size)) None n e = refl
 declared_some (Some (Ok size)) (Some m) n e = absurd (cc)
 
-below_apart : (o count : ℕ) (n : Option ℕ) → o + count ≤ most_of n → 1 ≤ count → is_whole o n ≡ false
+below_apart : (o count : ℕ) (n : Option ℕ) → o + count ≤ max_length_of n → 1 ≤ count → is_whole o n ≡ false
 below_apart o count None room some = refl
 below_apart o count (Some m) room some = elim (eqb o m) as (λ b. eqb o m ≡ b → b ≡ false) [ true ↦ λ e. let same = eqb-true o m e in absurd (omega arith) | false ↦ λ e. refl ] refl
 
-most_within : (k : ℕ) (n : Option ℕ) (max_size : ℕ) → max_size ≤ 2 ^ 30 → k ≤ unwrap_or n max_size → k ≤ most_of n
+most_within : (k : ℕ) (n : Option ℕ) (max_size : ℕ) → max_size ≤ 2 ^ 30 → k ≤ unwrap_or n max_size → k ≤ max_length_of n
 most_within k None max_size small room = omega arith
 most_within k (Some m) max_size small room = room
 
@@ -130,7 +130,7 @@ pub record Moves (content : Contents) (changes : List Accepted) (p : Patch) (x :
   pub take : CanTake size (length p.bytes) x
   pub fits : Fits (map.insert content p.id (with_more x size p.bytes)) (changes ++ change ∷ [])
 
-moves_appended : (content : Contents) (changes : List Accepted) (p : Patch) (x : Content) → Fits content changes → map.get content p.id ≡ Some x → is_final_kind x.kind ≡ false → 1 ≤ length p.bytes → length x.bytes + length p.bytes ≤ most_of x.length → Moves content changes p x x.length (Appended p.id (length p.bytes))
+moves_appended : (content : Contents) (changes : List Accepted) (p : Patch) (x : Content) → Fits content changes → map.get content p.id ≡ Some x → is_final_kind x.kind ≡ false → 1 ≤ length p.bytes → length x.bytes + length p.bytes ≤ max_length_of x.length → Moves content changes p x x.length (Appended p.id (length p.bytes))
 moves_appended content changes p x fits g plain some room =
     let t = fits.each p.id x g in
     record {
@@ -148,7 +148,7 @@ moves_declared content changes p n x fits g plain unsaid small room =
       fits = fits_declared content changes p.id n x p.bytes fits g plain unsaid;
     }
 
-appended_moves : (content : Contents) (changes : List Accepted) (p : Patch) (x : Content) (change : Accepted) (size : Option ℕ) → Fits content changes → map.get content p.id ≡ Some x → is_final_kind x.kind ≡ false → size ≡ x.length → length x.bytes + length p.bytes ≤ most_of x.length → cond (eqb (length p.bytes) 0) None (Some (Appended p.id (length p.bytes))) ≡ Some change → Moves content changes p x size change
+appended_moves : (content : Contents) (changes : List Accepted) (p : Patch) (x : Content) (change : Accepted) (size : Option ℕ) → Fits content changes → map.get content p.id ≡ Some x → is_final_kind x.kind ≡ false → size ≡ x.length → length x.bytes + length p.bytes ≤ max_length_of x.length → cond (eqb (length p.bytes) 0) None (Some (Appended p.id (length p.bytes))) ≡ Some change → Moves content changes p x size change
 appended_moves content changes p x change size fits g plain is room made =
     elim (eqb (length p.bytes) 0) as (λ b. eqb (length p.bytes) 0 ≡ b → cond b None (Some (Appended p.id (length p.bytes))) ≡ Some change → Moves content changes p x size change) [
       | true ↦ λ e made. absurd (cc)
@@ -175,25 +175,25 @@ patch_moves content changes max_size p x change fits g small may made =
     moves_by (declared p.length x.length) content changes max_size p x change refl fits g may.plain small may.short may.room made
 
 -- what a PATCH that nothing refuses does to its upload, where it comes to this step and makes this change
-pub record Takes (content : Contents) (changes : List Accepted) (p : Patch) (step : Step) (change : Accepted) : Type 0 where
+pub record Takes (content : Contents) (changes : List Accepted) (p : Patch) (step : PatchOutcome) (change : Accepted) : Type 0 where
   pub room : IsSomeAnd (map.get content p.id) (CanTake step.size (length p.bytes))
   pub can : CanFollow changes change
   pub next : (put : Contents) → IfSome (map.get content p.id) (λ x. put ≡ map.insert content p.id (with_more x step.size p.bytes)) → put ≡ extended content p (map.get content p.id)
   pub fits : Fits (extended content p (map.get content p.id)) (changes ++ change ∷ [])
 
-pub patch_takes : (s : State) (p : Patch) (asked : Asked) (step : Step) (change : Accepted) → IsSoundBook s → Ok step ≡ unless (first_that_holds (rows_of s (request.Patch p) 0 asked)) (step_of p (map.get s.content p.id)) → change_by p.id step.declared (length p.bytes) ≡ Some change → Takes s.content s.journal.accepted p step change
+pub patch_takes : (s : State) (p : Patch) (asked : Asked) (step : PatchOutcome) (change : Accepted) → IsSoundBook s → Ok step ≡ unless (first_that_holds (rows_of s (request.Patch p) 0 asked)) (patch_outcome p (map.get s.content p.id)) → change_by p.id step.declared (length p.bytes) ≡ Some change → Takes s.content s.journal.accepted p step change
 patch_takes s p asked step change sound e made =
-    let passed = patch_passed s p asked step (step_of p (map.get s.content p.id)) e in
+    let passed = patch_passed s p asked step (patch_outcome p (map.get s.content p.id)) e in
     let x = passed.0 in
-    let is : step ≡ step_of p (Some x) = passed.3 ∙ ap (step_of p) passed.1 in
-    let by : change_by p.id (declared p.length x.length) (length p.bytes) ≡ Some change = subst (λ (n : Step). change_by p.id n.declared (length p.bytes) ≡ Some change) is made in
+    let is : step ≡ patch_outcome p (Some x) = passed.3 ∙ ap (patch_outcome p) passed.1 in
+    let by : change_by p.id (declared p.length x.length) (length p.bytes) ≡ Some change = subst (λ (n : PatchOutcome). change_by p.id n.declared (length p.bytes) ≡ Some change) is made in
     let moves = patch_moves s.content s.journal.accepted s.max_size p x change sound.fits passed.1 sound.small passed.2 by in
     record {
-      room = subst (λ o. IsSomeAnd o (CanTake step.size (length p.bytes))) (sym passed.1) (subst (λ (n : Step). CanTake n.size (length p.bytes) x) (sym is) moves.take);
+      room = subst (λ o. IsSomeAnd o (CanTake step.size (length p.bytes))) (sym passed.1) (subst (λ (n : PatchOutcome). CanTake n.size (length p.bytes) x) (sym is) moves.take);
       can = moves.can;
       next = λ put done.
           let to : put ≡ map.insert s.content p.id (with_more x step.size p.bytes) = subst (λ o. IfSome o (λ x. put ≡ map.insert s.content p.id (with_more x step.size p.bytes))) passed.1 done in
-          to ∙ ap (λ (n : Step). map.insert s.content p.id (with_more x n.size p.bytes)) is ∙ ap (extended s.content p) (sym passed.1);
+          to ∙ ap (λ (n : PatchOutcome). map.insert s.content p.id (with_more x n.size p.bytes)) is ∙ ap (extended s.content p) (sym passed.1);
       fits = subst (λ o. Fits (extended s.content p o) (s.journal.accepted ++ change ∷ [])) (sym passed.1) moves.fits;
     }
 

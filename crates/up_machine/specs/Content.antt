@@ -4,7 +4,7 @@ use Rattle.std.specs.Option.{option_or}
 use Rattle.std.specs.Coded.{Coded, code_by, coded×, coded_ℕ, coded_list, coded_option, coded_bool}
 use Rattle.up_events.specs.declared.event.Kind.{Kind}
 use Rattle.up_events.specs.declared.event.Kind.TheVariants.{Plain, Partial, Final}
-use Rattle.up_events.specs.History.{is_final_kind, is_whole, most_of}
+use Rattle.up_events.specs.History.{is_final_kind, is_whole, max_length_of}
 use Rattle.up_headers.specs.declared.request.NewUpload.{NewUpload}
 use Rattle.up_headers.specs.declared.request.NotDigits.{NotDigits}
 use Rattle.up_headers.specs.declared.request.Patch.{Patch}
@@ -33,11 +33,11 @@ with_more x size more = record x { length = size; bytes = x.bytes ++ more }
 
 -- no more bytes than the length allows
 abbrev pub IsWithinLength : Content → Type 0
-IsWithinLength x = length x.bytes ≤ most_of x.length
+IsWithinLength x = length x.bytes ≤ max_length_of x.length
 
 -- the upload is not complete, and with `count` more bytes it is within this length
 abbrev pub CanTake : Option ℕ → ℕ → Content → Type 0
-CanTake size count x = (is_complete x ≡ false) × (length x.bytes + count ≤ most_of size)
+CanTake size count x = (is_complete x ≡ false) × (length x.bytes + count ≤ max_length_of size)
 
 -- ---- PATCH
 

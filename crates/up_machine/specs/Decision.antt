@@ -17,10 +17,10 @@ use Rattle.up_headers.specs.declared.request.Request.{Request}
 use Rattle.up_headers.specs.declared.request.Request.TheVariants as request
 use Rattle.up_machine.specs.Asks.{ask_of}
 use Rattle.up_machine.specs.Content.{Content, declared, is_complete, made_of, patched, size_after}
-use Rattle.up_machine.specs.Responses.{can_do, created, downloaded, reached_offset, removed, standing}
-use Rattle.up_machine.specs.State.{Contents, State, bytes_of, first_bytes, joined}
+use Rattle.up_machine.specs.Responses.{can_do, created, downloaded, reached_offset, removed, head_response}
+use Rattle.up_machine.specs.State.{Contents, State, bytes_of, first_bytes, joined_parts}
 use Rattle.up_machine.specs.declared.ask.Point.TheVariants as point
-use Rattle.up_machine.specs.declared.checks.Step.{Step}
+use Rattle.up_machine.specs.declared.checks.PatchOutcome.{PatchOutcome}
 use Rattle.up_machine.specs.declared.plan.Asked.{Asked}
 use Rattle.up_machine.specs.declared.plan.Asked.TheVariants.{Skipped, Allowed, AllowedFinish, Refused}
 use Rattle.up_machine.specs.declared.plan.Done.{Done}
@@ -67,8 +67,8 @@ patch_rows max_size p x =
     ∷ []
 
 -- the rows of bytes for the upload that was found
-abbrev pub take_rows : Bool → ℕ → Patch → Option Content → List (Row Refusal)
-take_rows closed max_size p found = (closed, refusal.Closed) ∷ rows_at found (patch_rows max_size p)
+abbrev pub commit_rows : Bool → ℕ → Patch → Option Content → List (Row Refusal)
+commit_rows closed max_size p found = (closed, refusal.Closed) ∷ rows_at found (patch_rows max_size p)
 
 -- the row of an upload whose bytes are requested
 abbrev pub get_rows : Content → List (Row Refusal)
@@ -91,7 +91,7 @@ part_rows content max_size parts =
     (list_any (λ part. is_none (map.get content part)) parts, refusal.PartUnknown)
     ∷ (list_any (λ part. not (passes (λ x. is_partial x.kind) (map.get content part))) parts, refusal.PartNotPartial)
     ∷ (list_any (λ part. not (passes is_complete (map.get content part))) parts, refusal.PartUnfinished)
-    ∷ (nat_lt max_size (length (joined content parts)), refusal.SumTooLong)
+    ∷ (nat_lt max_size (length (joined_parts content parts)), refusal.SumTooLong)
     ∷ []
 
 -- the upload that a creation results in
@@ -107,7 +107,7 @@ abbrev pub planned_rows : State → Request → List (Row Refusal)
 planned_rows s request.Options = []
 planned_rows s (request.Create new) = (s.closed, refusal.Closed) ∷ create_rows s.content s.max_size new
 planned_rows s (request.Head u) = rows_at (map.get s.content u) (λ x. [])
-planned_rows s (request.Patch p) = take_rows s.closed s.max_size p (map.get s.content p.id)
+planned_rows s (request.Patch p) = commit_rows s.closed s.max_size p (map.get s.content p.id)
 planned_rows s (request.Delete u) = (s.closed, refusal.Closed) ∷ rows_at (map.get s.content u) (λ x. [])
 planned_rows s (request.Get u) = rows_at (map.get s.content u) get_rows
 
@@ -139,8 +139,8 @@ abbrev pub patch_completes : Patch → Option Content → Bool
 patch_completes p found = is_some (patch_change p found) && is_whole (patch_offset p found) (patch_size p found)
 
 -- the result of a PATCH
-abbrev pub step_of : Patch → Option Content → Step
-step_of p found =
+abbrev pub patch_outcome : Patch → Option Content → PatchOutcome
+patch_outcome p found =
     record { offset = patch_offset p found; size = patch_size p found; declared = patch_declared p found; completes = patch_completes p found }
 
 -- whether a request that is not refused makes an upload complete
@@ -191,7 +191,7 @@ rows_of s request id asked = planned_rows s request
 abbrev pub response_to : State → Request → ℕ → Response
 response_to s request.Options id = can_do s.max_size
 response_to s (request.Create new) id = created id
-response_to s (request.Head u) id = standing (map.get s.content u)
+response_to s (request.Head u) id = head_response (map.get s.content u)
 response_to s (request.Patch p) id = reached_offset (patch_offset p (map.get s.content p.id))
 response_to s (request.Delete u) id = removed
 response_to s (request.Get u) id = downloaded (bytes_of (map.get s.content u))
@@ -255,5 +255,5 @@ abbrev pub decide_plan : State → Request → Result Plan Refusal
 decide_plan s request = checked (planned_rows s request) (plan_of s request)
 
 -- the result is the expected one, or memory ran out and the expected one is no refusal
-abbrev pub Answers : {T : Type 0} → Result T Refusal → Result T Refusal → Type 0
-Answers result expected = (result ≡ expected) ⊎ ((result ≡ Err refusal.NoMemory) × IsOk expected)
+abbrev pub IsExpectedOrNoMemory : {T : Type 0} → Result T Refusal → Result T Refusal → Type 0
+IsExpectedOrNoMemory result expected = (result ≡ expected) ⊎ ((result ≡ Err refusal.NoMemory) × IsOk expected)

@@ -1,7 +1,7 @@
 -- A request makes an upload complete exactly if its change results in a post-finish.
 use Rattle.std.specs.Prelude.{◌≡◌, ℕ, Bool, true, false, List, Option, Some, None, Ok}
 use Rattle.std.specs.List.{list_any}
-use Rattle.up_events.specs.History.{Step, steps_of}
+use Rattle.up_events.specs.History.{EventBody, steps_of}
 use Rattle.up_events.specs.Log.{is_finish}
 use Rattle.up_events.specs.declared.event.Accepted.{Accepted}
 use Rattle.up_headers.specs.declared.request.Request.{Request}
@@ -13,7 +13,7 @@ use Rattle.up_machine.specs.declared.plan.Asked.TheVariants.{AllowedFinish}
 use Rattle.up_machine.specs.declared.plan.Done.{Done}
 
 -- whether one of these events is a post-finish
-abbrev pub has_finish : List Step → Bool
+abbrev pub has_finish : List EventBody → Bool
 has_finish steps = list_any (λ step. is_finish step.0) steps
 
 -- whether a change that follows these results in a post-finish

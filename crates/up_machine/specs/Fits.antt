@@ -3,7 +3,7 @@ use Rattle.std.specs.Prelude.{◌≡◌, ◌≤◌, ℕ, List, Some, is_some, le
 use Rattle.std.specs.FinMap as map
 use Rattle.up_events.specs.History.{is_alive, kind_of, length_of, offset_of, IsLegal}
 use Rattle.up_events.specs.declared.event.Accepted.{Accepted}
-use Rattle.up_events.specs.declared.limits.TheConstants.{MOST_BYTES}
+use Rattle.up_events.specs.declared.limits.TheConstants.{MAX_UPLOAD_BYTES}
 use Rattle.up_machine.specs.Content.{Content}
 use Rattle.up_machine.specs.State.{Contents, State}
 
@@ -16,4 +16,4 @@ pub record Fits (content : Contents) (accepted : List Accepted) : Type 0 where
 pub record IsSoundBook (s : State) : Type 0 where
   pub legal : IsLegal s.journal.accepted
   pub fits : Fits s.content s.journal.accepted
-  pub small : s.max_size ≤ MOST_BYTES
+  pub small : s.max_size ≤ MAX_UPLOAD_BYTES

@@ -8,8 +8,8 @@ abbrev pub tail_room : ℕ
 tail_room = 65536
 
 -- the pieces in front, and the tail after them
-abbrev pub kept : Inside → List ℕ
-kept a = pieced_then a.front.items a.tail.items
+abbrev pub kept_bytes : Inside → List ℕ
+kept_bytes a = pieced_then a.front.items a.tail.items
 
 -- the bytes of the front are counted, and the tail has at most that room
 pub record IsKept (a : Inside) : Type 0 where

@@ -24,20 +24,20 @@ field_of name None = []
 field_of name (Some text) = (name, text) ∷ []
 
 -- the length, or that it will be declared later
-abbrev pub size_field : Option ℕ → Field
-size_field None = (codes "Upload-Defer-Length", codes "1")
-size_field (Some n) = (codes "Upload-Length", decimal n)
+abbrev pub length_field : Option ℕ → Field
+length_field None = (codes "Upload-Defer-Length", codes "1")
+length_field (Some n) = (codes "Upload-Length", decimal n)
 
 -- the fields with the state of an upload; none if there is no upload
-abbrev pub standing_fields : Option Content → List Field
-standing_fields None = []
-standing_fields (Some x) =
-    ((codes "Upload-Offset", decimal (length x.bytes)) ∷ size_field x.length ∷ [])
+abbrev pub head_fields : Option Content → List Field
+head_fields None = []
+head_fields (Some x) =
+    ((codes "Upload-Offset", decimal (length x.bytes)) ∷ length_field x.length ∷ [])
     ++ field_of (codes "Upload-Metadata") x.metadata ++ field_of (codes "Upload-Concat") x.concat
 
 -- the state of an upload
-abbrev pub standing : Option Content → Response
-standing found = answered 200 (standing_fields found) []
+abbrev pub head_response : Option Content → Response
+head_response found = answered 200 (head_fields found) []
 
 -- the bytes of an upload
 abbrev pub downloaded : List ℕ → Response

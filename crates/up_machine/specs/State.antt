@@ -42,12 +42,12 @@ bytes_of None = []
 bytes_of (Some x) = x.bytes
 
 -- the bytes of these uploads, in order
-abbrev pub joined : Contents → List ℕ → List ℕ
-joined content parts = flat_map (λ part. bytes_of (map.get content part)) parts
+abbrev pub joined_parts : Contents → List ℕ → List ℕ
+joined_parts content parts = flat_map (λ part. bytes_of (map.get content part)) parts
 
 -- the first bytes of a new upload: those of its parts for a final one
 abbrev pub first_bytes : Contents → NewUpload → List ℕ
-first_bytes content new = if is_final_kind new.kind then joined content new.parts else []
+first_bytes content new = if is_final_kind new.kind then joined_parts content new.parts else []
 
 -- the content after a PATCH of this upload
 abbrev pub extended : Contents → Patch → Option Content → Contents

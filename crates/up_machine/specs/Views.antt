@@ -17,8 +17,8 @@ pub record IsViewOf (x : Content) (v : View) : Type 0 where
   pub bytes : pieced v.runs.now ++ pieced_then v.pieces.now v.tail.now ≡ x.bytes
 
 -- there is a view exactly if there is an upload, and it is of that upload
-abbrev pub Shows : Option Content → Option View → Type 0
-Shows None None = Unit {0}
-Shows None (Some v) = ⊥
-Shows (Some x) None = ⊥
-Shows (Some x) (Some v) = IsViewOf x v
+abbrev pub IsViewIfAny : Option Content → Option View → Type 0
+IsViewIfAny None None = Unit {0}
+IsViewIfAny None (Some v) = ⊥
+IsViewIfAny (Some x) None = ⊥
+IsViewIfAny (Some x) (Some v) = IsViewOf x v

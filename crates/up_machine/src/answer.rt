@@ -1,8 +1,8 @@
 //! The responses. Each is made before anything is changed.
 ghost use Rattle.std.specs.Prelude.{◌≡◌, ◌++◌, ◌∷◌, [], codes, decimal, Some, IfOk};
 ghost use Rattle.std.specs.Option.{option_copied};
-ghost use Rattle.up_machine.specs.Responses.{created, reached_offset, removed, standing};
-ghost use Rattle.up_machine.specs.Responses.{downloaded, can_do, field_of, size_field};
+ghost use Rattle.up_machine.specs.Responses.{created, reached_offset, removed, head_response};
+ghost use Rattle.up_machine.specs.Responses.{downloaded, can_do, field_of, length_field};
 ghost use Rattle.up_message.specs.Refused.{refused_with};
 
 use crate::reason::Reason;
@@ -63,9 +63,9 @@ pub fn to_create(alloc: Global, id: Id) -> Result<Response, NoMemory>
 }
 
 /// Adds the length, or that it will be declared later.
-fn with_size(response: Response, alloc: Global, size: Option<u64>) -> Result<Response, NoMemory>
+fn with_length(response: Response, alloc: Global, size: Option<u64>) -> Result<Response, NoMemory>
     ensures { IfOk result (λ made. made
-        ≡ record response { fields = response.fields ++ size_field size ∷ [] }) }
+        ≡ record response { fields = response.fields ++ length_field size ∷ [] }) }
 {
     match size {
         Some(n) => with_number(response, alloc, b"Upload-Length", n),
@@ -75,11 +75,11 @@ fn with_size(response: Response, alloc: Global, size: Option<u64>) -> Result<Res
 
 /// The response to a HEAD of an upload: its state (tus 1.0.0, HEAD). `NoMemory` if memory runs out.
 pub fn to_head(alloc: Global, upload: &Upload) -> Result<Response, NoMemory>
-    ensures { IfOk result (λ made. made ≡ standing (Some upload.now)) }
+    ensures { IfOk result (λ made. made ≡ head_response (Some upload.now)) }
 {
     let response = Response::new(alloc, 200);
     let response = with_number(response, alloc, b"Upload-Offset", upload.offset())?;
-    let response = with_size(response, alloc, upload.length())?;
+    let response = with_length(response, alloc, upload.length())?;
     let response = with_text(response, alloc, b"Upload-Metadata", upload.metadata())?;
     with_text(response, alloc, b"Upload-Concat", upload.concat())
 }

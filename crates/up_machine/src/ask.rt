@@ -4,7 +4,7 @@ ghost use Rattle.std.specs.Option.{option_copied};
 ghost use Rattle.up_events.specs.History.{is_final_kind};
 ghost use Rattle.up_machine.specs.Asks.{ask_of, value_of};
 
-use crate::checks::Step;
+use crate::checks::PatchOutcome;
 use crate::reason::Reason;
 use crate::upload::Upload;
 use std::alloc::Global;
@@ -84,7 +84,7 @@ pub(crate) fn first_size(new: &NewUpload, offset: u64) -> Option<u64>
 
 impl Ask {
     ghost use Rattle.up_machine.specs.Content.{patched};
-    ghost use Rattle.up_machine.specs.Decision.{step_of};
+    ghost use Rattle.up_machine.specs.Decision.{patch_outcome};
     ghost use Rattle.up_machine.specs.declared.ask.Point.TheVariants.{Terminate, Finish};
 
     /// The question at this point before an upload is created, whose first bytes are `offset` in number.
@@ -118,9 +118,9 @@ impl Ask {
         alloc: Global,
         patch: &Patch,
         upload: &Upload,
-        step: Step,
+        step: PatchOutcome,
     ) -> Result<Ask, NoMemory>
-        requires { step ≡ step_of patch.now (Some upload.now) }
+        requires { step ≡ patch_outcome patch.now (Some upload.now) }
         ensures { IfOk result (λ ask. ask
             ≡ ask_of Finish (Some patch.now.id) (patched patch.now upload.now)) }
     {

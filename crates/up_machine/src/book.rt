@@ -3,7 +3,7 @@ ghost use Rattle.std.specs.Prelude.{◌≡◌, ◌≤◌, ◌<◌, true, false, 
 ghost use Rattle.std.specs.FinMap as map;
 
 use crate::ask::{Ask, Point, first_size};
-use crate::checks::{change_by, check_asked, check_bytes, check_take};
+use crate::checks::{change_by, check_asked, check_commit, check_patch};
 use crate::plan::{Asked, Done, Plan};
 use crate::refusal::Refusal;
 use crate::remains::Remains;
@@ -13,7 +13,7 @@ use crate::view::View;
 use crate::{answer, parts};
 use std::alloc::Global;
 use std::marker::Model;
-use up_events::{Accepted, Changes, Id, Journal, MOST_BYTES, MOST_LANES, NoMemory};
+use up_events::{Accepted, Changes, Id, Journal, MAX_LANES, MAX_UPLOAD_BYTES, NoMemory};
 use up_headers::{NewUpload, Patch, Request};
 use up_message::Response;
 
@@ -55,23 +55,23 @@ impl Model for Book {
 
 impl Book {
     ghost use Rattle.up_headers.specs.Rows.{first_that_holds};
-    ghost use Rattle.up_headers.specs.Creations.{IsWithin};
+    ghost use Rattle.up_headers.specs.Creations.{IsAtMost};
     ghost use Rattle.up_headers.specs.Table.{FitsWithin};
     ghost use Rattle.up_headers.specs.declared.request.Request.TheVariants as request;
     ghost use Rattle.up_events.specs.Records.{first_of, forgot, lane_log};
     ghost use Rattle.up_machine.specs.State.{empty_state, counting_state, after, first_bytes};
-    ghost use Rattle.up_machine.specs.Decision.{Answers, answer_to, decide, decide_plan, is_asked};
+    ghost use Rattle.up_machine.specs.Decision.{IsExpectedOrNoMemory, answer_to, decide, decide_plan, is_asked};
     ghost use Rattle.up_machine.specs.Decision.{is_refusal, planned_rows, rows_of, checked};
     ghost use Rattle.up_machine.specs.Fits.{IsSoundBook};
-    ghost use Rattle.up_machine.specs.Views.{Shows};
+    ghost use Rattle.up_machine.specs.Views.{IsViewIfAny};
     ghost use Rattle.up_machine.specs.declared.plan.Plan.TheVariants.{Ready as is_ready};
 
     /// A book without uploads, with a log for each lane. `max_size` is the maximum size of an upload, in bytes.
     /// `NoMemory` if memory runs out.
     pub fn new(alloc: Global, lanes: u64, max_size: u64) -> Result<Book, NoMemory>
         requires some_lane { 0 < lanes }
-        requires few_lanes { lanes ≤ MOST_LANES }
-        requires small { max_size ≤ MOST_BYTES }
+        requires few_lanes { lanes ≤ MAX_LANES }
+        requires small { max_size ≤ MAX_UPLOAD_BYTES }
         ensures { IfOk result (λ book. book ≡ empty_state lanes max_size) }
     {
         Ok(Book {
@@ -85,8 +85,8 @@ impl Book {
     /// The same, with a journal that counts the changes and does not keep them. `NoMemory` if memory runs out.
     pub fn forgetting(alloc: Global, lanes: u64, max_size: u64) -> Result<Book, NoMemory>
         requires some_lane { 0 < lanes }
-        requires few_lanes { lanes ≤ MOST_LANES }
-        requires small { max_size ≤ MOST_BYTES }
+        requires few_lanes { lanes ≤ MAX_LANES }
+        requires small { max_size ≤ MAX_UPLOAD_BYTES }
         ensures { IfOk result (λ book. book ≡ counting_state lanes max_size) }
     {
         Ok(Book {
@@ -139,7 +139,7 @@ impl Book {
 
     /// The upload with this id, if there is one.
     pub fn upload(&self, id: Id) -> Option<View>
-        ensures { Shows (map.get self.now.content id) result }
+        ensures { IsViewIfAny (map.get self.now.content id) result }
     {
         match self.uploads.get(id) {
             Some(upload) => Some(upload.view()),
@@ -149,14 +149,14 @@ impl Book {
 
     /// What the server supports (tus 1.0.0, OPTIONS).
     fn options(&self, alloc: Global) -> Result<Response, Refusal>
-        ensures { Answers result (answer_to self.now request.Options) }
+        ensures { IsExpectedOrNoMemory result (answer_to self.now request.Options) }
     {
         Ok(answer::to_options(alloc, self.max_size)?)
     }
 
     /// The state of an upload (tus 1.0.0, HEAD).
     fn head(&self, alloc: Global, id: Id) -> Result<Response, Refusal>
-        ensures { Answers result (answer_to self.now (request.Head id)) }
+        ensures { IsExpectedOrNoMemory result (answer_to self.now (request.Head id)) }
     {
         let Some(upload) = self.uploads.get(id) else {
             return Err(Refusal::NotFound);
@@ -166,7 +166,7 @@ impl Book {
 
     /// The bytes of a complete upload.
     fn get(&self, alloc: Global, id: Id) -> Result<Response, Refusal>
-        ensures { Answers result (answer_to self.now (request.Get id)) }
+        ensures { IsExpectedOrNoMemory result (answer_to self.now (request.Get id)) }
     {
         let Some(upload) = self.uploads.get(id) else {
             return Err(Refusal::NotFound);
@@ -209,8 +209,9 @@ impl Book {
         id: Id,
         asked: &Asked,
     ) -> Result<Done, Refusal>
-        requires bounded { IsWithin MOST_BYTES new.length }
-        ensures answer { Answers result (decide self.old (request.Create new) id asked.now) }
+        requires bounded { IsAtMost MAX_UPLOAD_BYTES new.length }
+        ensures answer { IsExpectedOrNoMemory result
+            (decide self.old (request.Create new) id asked.now) }
         ensures ok { IfOk result (λ done.
             self.new ≡ after self.old (request.Create new) id done.change) }
         ensures err { OnErr result (self.new ≡ self.old) }
@@ -229,20 +230,20 @@ impl Book {
 
     /// Appends bytes to an upload (tus 1.0.0, PATCH).
     fn append(&mut self, alloc: Global, patch: &Patch, asked: &Asked) -> Result<Done, Refusal>
-        ensures answer { Answers result
+        ensures answer { IsExpectedOrNoMemory result
             (decide self.old (request.Patch patch.now) 0 asked.now) }
         ensures ok { IfOk result (λ done.
             self.new ≡ after self.old (request.Patch patch.now) 0 done.change) }
         ensures err { OnErr result (self.new ≡ self.old) }
     {
-        let step = check_take(&self.uploads, self.closed, self.max_size, patch, asked)?;
+        let step = check_commit(&self.uploads, self.closed, self.max_size, patch, asked)?;
         let response = answer::to_patch(alloc, step.offset)?;
         let id = patch.id;
         let count = patch.bytes.len() as u64;
         let Some(change) = change_by(id, step.declared, count) else {
             return Ok(Done::unchanged(response));
         };
-        self.uploads.take(
+        self.uploads.append(
             alloc,
             &mut self.journal,
             change,
@@ -262,7 +263,8 @@ impl Book {
         asked: &Asked,
         remains: &mut Remains,
     ) -> Result<Done, Refusal>
-        ensures answer { Answers result (decide self.old (request.Patch patch) 0 asked.now) }
+        ensures answer { IsExpectedOrNoMemory result
+            (decide self.old (request.Patch patch) 0 asked.now) }
         ensures ok { IfOk result (λ done.
             self.new ≡ after self.old (request.Patch patch) 0 done.change) }
         ensures err { OnErr result (self.new ≡ self.old) }
@@ -287,7 +289,7 @@ impl Book {
 
     /// What closures are asked before an upload is created.
     fn plan_create(&self, alloc: Global, new: &NewUpload) -> Result<Plan, Refusal>
-        ensures { Answers result (decide_plan self.now (request.Create new.now)) }
+        ensures { IsExpectedOrNoMemory result (decide_plan self.now (request.Create new.now)) }
     {
         let offset = self.check_creation(new)?;
         let made = Ask::to_create(alloc, Point::Create, new, offset)?;
@@ -300,7 +302,8 @@ impl Book {
 
     /// What closures are asked before bytes are appended.
     fn plan_patch(&self, alloc: Global, patch: &Patch) -> Result<Plan, Refusal>
-        ensures answer { Answers result (decide_plan self.now (request.Patch patch.now)) }
+        ensures answer { IsExpectedOrNoMemory result
+            (decide_plan self.now (request.Patch patch.now)) }
         ensures ready { decide_plan self.now (request.Patch patch.now) ≡ Ok is_ready
             → result ≡ Ok is_ready }
     {
@@ -310,7 +313,7 @@ impl Book {
         let Some(upload) = self.uploads.get(patch.id) else {
             return Err(Refusal::NotFound);
         };
-        let step = check_bytes(upload, self.max_size, patch)?;
+        let step = check_patch(upload, self.max_size, patch)?;
         if !step.completes {
             return Ok(Plan::Ready);
         }
@@ -319,7 +322,7 @@ impl Book {
 
     /// What closures are asked before an upload is removed.
     fn plan_delete(&self, alloc: Global, id: Id) -> Result<Plan, Refusal>
-        ensures { Answers result (decide_plan self.now (request.Delete id)) }
+        ensures { IsExpectedOrNoMemory result (decide_plan self.now (request.Delete id)) }
     {
         let upload = self.check_delete(id)?;
         Ok(Plan::Ask(Ask::to_remove(alloc, id, upload)?))
@@ -333,7 +336,8 @@ impl Book {
         asked: &Asked,
         remains: &mut Remains,
     ) -> Result<Done, Refusal>
-        ensures answer { Answers result (decide self.old (request.Delete id) 0 asked.now) }
+        ensures answer { IsExpectedOrNoMemory result
+            (decide self.old (request.Delete id) 0 asked.now) }
         ensures ok { IfOk result (λ done.
             self.new ≡ after self.old (request.Delete id) 0 done.change) }
         ensures err { OnErr result (self.new ≡ self.old) }
@@ -351,7 +355,7 @@ impl Book {
     /// request that creates, completes or removes an upload, that other bytes can be committed, or the refusal.
     /// `NoMemory` is returned only if nothing else refuses the request, and never for other bytes.
     pub fn plan(&self, alloc: Global, request: &Request) -> Result<Plan, Refusal>
-        ensures answer { Answers result (decide_plan self.now request.now) }
+        ensures answer { IsExpectedOrNoMemory result (decide_plan self.now request.now) }
         ensures ready { decide_plan self.now request.now ≡ Ok is_ready
             → result ≡ Ok is_ready }
     {
@@ -378,8 +382,8 @@ impl Book {
         asked: &Asked,
         remains: &mut Remains,
     ) -> Result<Done, Refusal>
-        requires bounded { FitsWithin MOST_BYTES request }
-        ensures answer { Answers result (decide self.old request id asked.now) }
+        requires bounded { FitsWithin MAX_UPLOAD_BYTES request }
+        ensures answer { IsExpectedOrNoMemory result (decide self.old request id asked.now) }
         ensures ok { IfOk result (λ done. self.new ≡ after self.old request id done.change) }
         ensures err { OnErr result (self.new ≡ self.old) }
         ensures open { IfOk result (λ done. IsSome done.change → self.old.closed ≡ false) }

@@ -3,7 +3,7 @@ ghost use Rattle.std.specs.Prelude.{◌≡◌, ◌++◌, ◌∷◌, [], Some};
 ghost use Rattle.std.specs.FinMap as map;
 ghost use Rattle.up_machine.specs.Content.{declared};
 ghost use Rattle.up_machine.specs.Decision.{asked_rows, change_by, checked, is_bad_size};
-ghost use Rattle.up_machine.specs.Decision.{patch_completes, patch_rows, step_of, take_rows};
+ghost use Rattle.up_machine.specs.Decision.{patch_completes, patch_rows, patch_outcome, commit_rows};
 ghost use Rattle.up_machine.specs.declared.refusal.Refusal.TheVariants as refusal;
 
 use crate::plan::Asked;
@@ -15,7 +15,7 @@ use up_headers::{NotDigits, Patch};
 
 /// The result of a PATCH.
 #[derive(Clone, Copy, Debug)]
-pub struct Step {
+pub struct PatchOutcome {
     /// The number of bytes of the upload after it.
     pub offset: u64,
     /// The length of the upload after it, in bytes, if it is then known.
@@ -27,18 +27,18 @@ pub struct Step {
 }
 
 /// The refusal of a PATCH, given what the closures said, or else its result.
-pub fn check_take(
+pub fn check_commit(
     uploads: &Uploads,
     closed: bool,
     max_size: u64,
     patch: &Patch,
     asked: &Asked,
-) -> Result<Step, Refusal>
+) -> Result<PatchOutcome, Refusal>
     ensures { let found = map.get uploads.now patch.now.id in
         result ≡ checked
-        (take_rows closed max_size patch.now found
+        (commit_rows closed max_size patch.now found
         ++ asked_rows (patch_completes patch.now found) asked.now)
-        (step_of patch.now found) }
+        (patch_outcome patch.now found) }
 {
     if closed {
         return Err(Refusal::Closed);
@@ -46,26 +46,31 @@ pub fn check_take(
     let Some(upload) = uploads.get(patch.id) else {
         return Err(Refusal::NotFound);
     };
-    check_said(upload, max_size, patch, asked)
+    check_found(upload, max_size, patch, asked)
 }
 
 /// The same, for an upload that exists.
-fn check_said(upload: &Upload, max_size: u64, patch: &Patch, asked: &Asked) -> Result<Step, Refusal>
+fn check_found(
+    upload: &Upload,
+    max_size: u64,
+    patch: &Patch,
+    asked: &Asked,
+) -> Result<PatchOutcome, Refusal>
     ensures { let found = Some upload.now in
         result ≡ checked
         (patch_rows max_size patch.now upload.now
         ++ asked_rows (patch_completes patch.now found) asked.now)
-        (step_of patch.now found) }
+        (patch_outcome patch.now found) }
 {
-    let step = check_bytes(upload, max_size, patch)?;
+    let step = check_patch(upload, max_size, patch)?;
     check_asked(step.completes, asked)?;
     Ok(step)
 }
 
 /// The refusal of a PATCH of this upload at planning, or else its result.
-pub fn check_bytes(upload: &Upload, max_size: u64, patch: &Patch) -> Result<Step, Refusal>
+pub fn check_patch(upload: &Upload, max_size: u64, patch: &Patch) -> Result<PatchOutcome, Refusal>
     ensures { result ≡ checked (patch_rows max_size patch.now upload.now)
-        (step_of patch.now (Some upload.now)) }
+        (patch_outcome patch.now (Some upload.now)) }
 {
     if upload.kind() == Kind::Final {
         return Err(Refusal::FinalUpload);
@@ -92,7 +97,7 @@ pub fn check_bytes(upload: &Upload, max_size: u64, patch: &Patch) -> Result<Step
     }
     let offset = reached + count;
     let changes = change_by(patch.id, declared, count).is_some();
-    Ok(Step {
+    Ok(PatchOutcome {
         offset,
         size,
         declared,

@@ -3,7 +3,7 @@ ghost use Rattle.std.specs.Prelude.{◌≡◌, ◌+◌, ◌<◌, ◌^◌, ◌++�
 ghost use Rattle.std.specs.Prelude.{not, None, Some, if◌then◌else◌, IfOk, OnOk};
 ghost use Rattle.std.specs.FinMap as map;
 ghost use Rattle.std.specs.List.{list_any};
-ghost use Rattle.up_machine.specs.State.{bytes_of, first_bytes, joined};
+ghost use Rattle.up_machine.specs.State.{bytes_of, first_bytes, joined_parts};
 ghost use Rattle.up_machine.specs.Decision.{create_rows, is_partial, part_rows, passes, checked};
 ghost use Rattle.up_machine.specs.Content.{is_complete};
 
@@ -70,8 +70,8 @@ fn count_of(uploads: &Uploads, id: Id) -> u64
 
 /// The number of bytes of the parts together, if it is at most `most`.
 fn sum_within(uploads: &Uploads, parts: &[Id], most: u64) -> Option<u64>
-    ensures { result ≡ (if nat_lt most (length (joined uploads.now parts.now)) then None
-        else Some (length (joined uploads.now parts.now))) }
+    ensures { result ≡ (if nat_lt most (length (joined_parts uploads.now parts.now)) then None
+        else Some (length (joined_parts uploads.now parts.now))) }
 {
     let mut sum = 0;
     for part in parts {
@@ -87,7 +87,7 @@ fn sum_within(uploads: &Uploads, parts: &[Id], most: u64) -> Option<u64>
 /// The refusal of these parts, or else the number of their bytes together.
 fn check_parts(uploads: &Uploads, max_size: u64, parts: &[Id]) -> Result<u64, Refusal>
     ensures { result ≡ checked (part_rows uploads.now max_size parts.now)
-        (length (joined uploads.now parts.now)) }
+        (length (joined_parts uploads.now parts.now)) }
 {
     if any_missing(uploads, parts) {
         return Err(Refusal::PartUnknown);
@@ -130,8 +130,8 @@ fn join_one(alloc: Global, bytes: &mut Segments, uploads: &Uploads, id: Id) -> R
 /// The bytes of the parts, in order. They are shared and not copied. A part is usually one run, so room for that many
 /// runs is made at once.
 fn join(alloc: Global, uploads: &Uploads, parts: &[Id]) -> Result<Segments, NoMemory>
-    requires { length (joined uploads.now parts.now) < 2 ^ 64 }
-    ensures { IfOk result (λ bytes. bytes ≡ joined uploads.now parts.now) }
+    requires { length (joined_parts uploads.now parts.now) < 2 ^ 64 }
+    ensures { IfOk result (λ bytes. bytes ≡ joined_parts uploads.now parts.now) }
 {
     let mut bytes = Segments::with_room(alloc, parts.len())?;
     for part in parts {

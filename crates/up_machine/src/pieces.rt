@@ -35,9 +35,9 @@ impl Model for Pieces {
 
     ghost coded = { coded_list coded_ℕ };
 
-    ghost use Rattle.up_machine.specs.Kept.{kept, IsKept};
+    ghost use Rattle.up_machine.specs.Kept.{kept_bytes, IsKept};
 
-    ghost view = { kept };
+    ghost view = { kept_bytes };
 
     ghost invariant = { IsKept };
 }
@@ -251,8 +251,8 @@ impl Pieces {
     }
 
     /// The same bytes, shared from now on. Returns them unchanged if memory runs out.
-    pub fn settled(self, alloc: Global) -> Result<Segments, Pieces>
-        ensures ok { IfOk result (λ settled. settled ≡ self) }
+    pub fn frozen(self, alloc: Global) -> Result<Segments, Pieces>
+        ensures ok { IfOk result (λ frozen. frozen ≡ self) }
         ensures err { IfErr result (λ pieces. pieces ≡ self) }
     {
         let Pieces {

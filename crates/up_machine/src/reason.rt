@@ -6,13 +6,13 @@ ghost use Rattle.up_machine.specs.Reasons.{is_printable, is_reason, reason_of};
 use std::marker::Model;
 
 /// The maximum number of bytes of a reason.
-const MOST_BYTES: usize = 80;
+const MAX_REASON_BYTES: usize = 80;
 
 /// A closure's reason for refusing a request: 1 to 80 bytes, each of them a space or a visible character of ASCII (0x20
 /// to 0x7E). It is the body of the response, followed by a line feed.
 #[derive(Clone, Copy, Debug, PartialEq, Eq)]
 pub struct Reason {
-    bytes: [u8; MOST_BYTES],
+    bytes: [u8; MAX_REASON_BYTES],
     count: usize,
 }
 
@@ -50,15 +50,15 @@ fn are_printable(text: &[u8]) -> bool
 fn is_reason(text: &[u8]) -> bool
     ensures { result ≡ is_reason text.now }
 {
-    !text.is_empty() && text.len() <= MOST_BYTES && are_printable(text)
+    !text.is_empty() && text.len() <= MAX_REASON_BYTES && are_printable(text)
 }
 
 /// The text, followed by zeros.
-fn padded(text: &[u8]) -> [u8; MOST_BYTES]
+fn padded(text: &[u8]) -> [u8; MAX_REASON_BYTES]
     requires { length text.now ≤ 80 }
     ensures { result ≡ text.now ++ replicate (80 - length text.now) 0 }
 {
-    let mut bytes = [0; MOST_BYTES];
+    let mut bytes = [0; MAX_REASON_BYTES];
     bytes[..text.len()].copy_from_slice(text);
     bytes
 }

@@ -57,7 +57,7 @@ impl Store {
     }
 
     /// Makes the bytes shared if there are as many as this length says. If memory runs out, they stay as they are.
-    pub fn settled(self, alloc: Global, size: Option<u64>) -> Store
+    pub fn frozen(self, alloc: Global, size: Option<u64>) -> Store
         requires { IsStored self size }
         ensures same { stored result ≡ stored self }
         ensures stored { IsStored result size }
@@ -69,7 +69,7 @@ impl Store {
         if size != Some(pieces.len()) {
             return Store::Open(pieces);
         }
-        match pieces.settled(alloc) {
+        match pieces.frozen(alloc) {
             Ok(segments) => Store::Whole(segments),
             Err(pieces) => Store::Open(pieces),
         }

@@ -8,7 +8,7 @@ use crate::view::View;
 use std::alloc::{AllocError, Global};
 use std::marker::Model;
 use std::mem;
-use up_events::{Accepted, Journal, Kind, MOST_BYTES, NoMemory};
+use up_events::{Accepted, Journal, Kind, MAX_UPLOAD_BYTES, NoMemory};
 use up_headers::{NewUpload, Pairs};
 use up_message::{Piece, Segments, Sequence};
 
@@ -77,7 +77,7 @@ impl Upload {
             (Some(first.len()), Store::Whole(first))
         } else {
             let bytes = Store::Open(Pieces::new(alloc));
-            (length, bytes.settled(alloc, length))
+            (length, bytes.frozen(alloc, length))
         };
         Upload {
             kind,
@@ -165,18 +165,18 @@ impl Upload {
 
     /// Makes the responses share the bytes from now on, if all have arrived. If memory runs out, they do not share them
     /// yet.
-    fn settle(&mut self, alloc: Global)
+    fn freeze(&mut self, alloc: Global)
         ensures { self.new ≡ self.old }
     {
         if !self.is_complete() {
             return;
         }
         let store = mem::replace(&mut self.bytes, Store::Open(Pieces::new(alloc)));
-        self.bytes = store.settled(alloc, self.length);
+        self.bytes = store.frozen(alloc, self.length);
     }
 
     /// Notes the change in the journal, appends the bytes, and sets the length. If memory runs out, nothing is changed.
-    pub fn take(
+    pub fn append(
         &mut self,
         alloc: Global,
         journal: &mut Journal,
@@ -194,10 +194,10 @@ impl Upload {
         let Store::Open(pieces) = &mut self.bytes else {
             unreachable!()
         };
-        let most = size.unwrap_or(MOST_BYTES);
+        let most = size.unwrap_or(MAX_UPLOAD_BYTES);
         pieces.append(alloc, journal, change, more, most)?;
         self.length = size;
-        self.settle(alloc);
+        self.freeze(alloc);
         Ok(())
     }
 }

@@ -79,7 +79,7 @@ impl Uploads {
 
     /// Notes the change in the journal, appends the bytes to the upload, and sets its length. If memory runs out,
     /// nothing is changed.
-    pub fn take(
+    pub fn append(
         &mut self,
         alloc: Global,
         journal: &mut Journal,
@@ -99,7 +99,7 @@ impl Uploads {
         let Some(upload) = self.entries.get_mut(&id) else {
             unreachable!()
         };
-        upload.take(alloc, journal, change, size, more)
+        upload.append(alloc, journal, change, size, more)
     }
 
     /// Notes the change in the journal, and inserts a new upload. If memory runs out, nothing is changed.

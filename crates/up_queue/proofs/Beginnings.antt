@@ -6,9 +6,9 @@ use Rattle.up_events.specs.Log.{IsLawful}
 use Rattle.up_events.proofs.FrontLemmas.{fronts_lawful}
 use Rattle.up_queue.specs.declared.item.Item.{Item}
 use Rattle.up_queue.specs.declared.item.Item.TheVariants as item
-use Rattle.up_queue.specs.Line.{events_of, EndsLast, IsOrderly}
+use Rattle.up_queue.specs.Line.{events_among, EndsLast, IsOrderly}
 
-pub events_of-append : (xs ys : List Item) → events_of (xs ++ ys) ≡ events_of xs ++ events_of ys
+pub events_of-append : (xs ys : List Item) → events_among (xs ++ ys) ≡ events_among xs ++ events_among ys
 events_of-append [] ys = refl
 events_of-append (item.Event e ∷ xs) ys = ap (λ l. e ∷ l) (events_of-append xs ys)
 events_of-append (item.End ∷ xs) ys = events_of-append xs ys
@@ -24,7 +24,7 @@ ends_last_before (item.End ∷ xs) ys h = nothing_before xs ys h
 
 pub orderly_before : (xs ys : List Item) → IsOrderly (xs ++ ys) → IsOrderly xs
 orderly_before xs ys o = record {
-  lawful = fronts_lawful (events_of xs) (events_of ys) (subst IsLawful (events_of-append xs ys) o.lawful);
+  lawful = fronts_lawful (events_among xs) (events_among ys) (subst IsLawful (events_of-append xs ys) o.lawful);
   ends_last = ends_last_before xs ys o.ends_last;
 }
 

@@ -7,7 +7,7 @@ use Rattle.crossbeam_queue.proofs.Lists.{at_set, at_snoc}
 use Rattle.up_events.proofs.FrontLemmas.{nothing_lawful}
 use Rattle.up_queue.specs.declared.item.Item.{Item}
 use Rattle.up_queue.specs.declared.rule.EndView.{EndView}
-use Rattle.up_queue.specs.Line.{IsOrderly, IsLine}
+use Rattle.up_queue.specs.Line.{IsOrderly, IsQueueState}
 use Rattle.up_queue.specs.Rule.{end_view, IsRight, IsInOrder}
 use Rattle.up_queue.proofs.Beginnings.{orderly_before}
 
@@ -30,7 +30,7 @@ no_items = record {
   ends_last = tt;
 }
 
-empty_line : IsLine 0 [] [] []
+empty_line : IsQueueState 0 [] [] []
 empty_line = record { whole = refl; room = omega arith; orderly = no_items }
 
 pub begins : IsInOrder [] (end_view true true 0 [] [] ∷ [])
@@ -156,8 +156,8 @@ learns_held pass v a items views h at =
     let parts = length-append h.taken items in
     omega arith
 
-pub learns_both : (pass : ℕ) (v : EndView) → v.puts ≡ true → v.takes ≡ true → Learns IsInOrder pass v (λ items. IsLine v.capacity v.put v.taken items)
+pub learns_both : (pass : ℕ) (v : EndView) → v.puts ≡ true → v.takes ≡ true → Learns IsInOrder pass v (λ items. IsQueueState v.capacity v.put v.taken items)
 learns_both pass v a b items views h at =
     let is = (h.known pass v at).puts a in
     let also = (h.known pass v at).takes b in
-    subst (λ (y : ℕ × List Item × List Item). IsLine y.0 y.1 y.2 items) (λ i. (sym is.1 i, sym is.2 i, sym also.2 i)) h.line
+    subst (λ (y : ℕ × List Item × List Item). IsQueueState y.0 y.1 y.2 items) (λ i. (sym is.1 i, sym is.2 i, sym also.2 i)) h.line

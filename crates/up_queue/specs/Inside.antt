@@ -6,10 +6,10 @@ use Rattle.up_queue.specs.declared.ends.PutEnd.TheInside.{Inside as PutInside}
 use Rattle.up_queue.specs.declared.ends.TakeEnd.TheInside.{Inside as TakeInside}
 use Rattle.up_queue.specs.Line.{IsOrderly}
 use Rattle.up_queue.specs.Rule.{putting, taking}
-use Rattle.up_queue.specs.Sides.{PutSide, TakeSide}
+use Rattle.up_queue.specs.EndViews.{PutEndView, TakeEndView}
 
-abbrev pub put_side : PutInside → PutSide
-put_side e = record { queue = e.pass.table_id; capacity = (view e.pass).capacity; put = (view e.pass).put }
+abbrev pub put_end_view : PutInside → PutEndView
+put_end_view e = record { queue = e.pass.table_id; capacity = (view e.pass).capacity; put = (view e.pass).put }
 
 -- the pass belongs to the line, and puts; what was put is orderly, and is counted
 pub record IsPutEnd (e : PutInside) : Type 0 where
@@ -18,8 +18,8 @@ pub record IsPutEnd (e : PutInside) : Type 0 where
   pub orderly : IsOrderly (view e.pass).put
   pub counted : e.count ≡ length (view e.pass).put % 2 ^ 64
 
-abbrev pub take_side : TakeInside → TakeSide
-take_side e = record { queue = e.pass.table_id; capacity = (view e.pass).capacity; taken = (view e.pass).taken }
+abbrev pub take_end_view : TakeInside → TakeEndView
+take_end_view e = record { queue = e.pass.table_id; capacity = (view e.pass).capacity; taken = (view e.pass).taken }
 
 -- the pass belongs to the line, and takes; what was taken is orderly, and is counted
 pub record IsTakeEnd (e : TakeInside) : Type 0 where

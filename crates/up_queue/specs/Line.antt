@@ -6,10 +6,10 @@ use Rattle.up_queue.specs.declared.item.Item.{Item}
 use Rattle.up_queue.specs.declared.item.Item.TheVariants as item
 
 -- the events among the items, in order
-abbrev pub events_of : List Item → List Event
-events_of [] = []
-events_of (item.Event e ∷ items) = e ∷ events_of items
-events_of (item.End ∷ items) = events_of items
+abbrev pub events_among : List Item → List Event
+events_among [] = []
+events_among (item.Event e ∷ items) = e ∷ events_among items
+events_among (item.End ∷ items) = events_among items
 
 -- the items with these events
 abbrev pub items_of : List Event → List Item
@@ -32,11 +32,11 @@ EndsLast (item.End ∷ items) = items ≡ []
 
 -- what may be put: lawful events, followed by at most one end
 pub record IsOrderly (items : List Item) : Type 0 where
-  pub lawful : IsLawful (events_of items)
+  pub lawful : IsLawful (events_among items)
   pub ends_last : EndsLast items
 
 -- what was put is what was taken, followed by what the queue holds, which is at most the capacity; and it is orderly
-pub record IsLine (capacity : ℕ) (put taken held : List Item) : Type 0 where
+pub record IsQueueState (capacity : ℕ) (put taken held : List Item) : Type 0 where
   pub whole : put ≡ taken ++ held
   pub room : length held ≤ capacity
   pub orderly : IsOrderly put

@@ -4,7 +4,7 @@ use mathlib.Core.Option.{some}
 use lib.ListN.{get_elem?}
 use Rattle.up_queue.specs.declared.item.Item.{Item}
 use Rattle.up_queue.specs.declared.rule.EndView.{EndView}
-use Rattle.up_queue.specs.Line.{IsLine}
+use Rattle.up_queue.specs.Line.{IsQueueState}
 
 abbrev pub end_view : Bool → Bool → ℕ → List Item → List Item → EndView
 end_view puts takes capacity put taken = record { puts = puts; takes = takes; capacity = capacity; put = put; taken = taken }
@@ -30,5 +30,5 @@ pub record IsInOrder (items : List Item) (views : List EndView) : Type 0 where
   pub capacity : ℕ
   pub put : List Item
   pub taken : List Item
-  pub line : IsLine capacity put taken items
+  pub line : IsQueueState capacity put taken items
   pub known : (pass : ℕ) (v : EndView) → get_elem? views pass ≡ some v → IsRight putter taker capacity put taken pass v

@@ -5,11 +5,11 @@ ghost use Rattle.std.specs.Prelude.{Err, IfOk, IfErr, IfSome, OnOk, OnErr, None}
 ghost use Rattle.up_queue.specs.declared.fault.QueueFault.TheVariants.{ZeroCapacity};
 ghost use Rattle.up_queue.specs.declared.fault.PutFault.TheVariants.{Full};
 ghost use Rattle.up_queue.specs.Line.{IsOrderly};
-ghost use Rattle.up_queue.specs.Sides.{AreNewEnds, AreLeft, with_put, with_taken, MayBeFull};
+ghost use Rattle.up_queue.specs.EndViews.{AreNewEnds, AreLeft, with_put, with_taken, MayBeFull};
 
 use crate::fault::{PutFault, QueueFault};
 use crate::item::Item;
-use crate::line::{Line, held, join, open, pop, push};
+use crate::line::{RuledQueue, held, join, open, pop, push};
 use crate::rule::{EndView, Room};
 use crossbeam_queue::Pass;
 use std::alloc::Global;
@@ -20,20 +20,20 @@ use up_events::NoMemory;
 /// The end at which items are put into a queue. It may be in another thread than the `TakeEnd`.
 #[derive(Drop)]
 pub struct PutEnd {
-    line: Arc<Line, Global>,
+    line: Arc<RuledQueue, Global>,
     pass: Pass<Item, EndView>,
     /// The number of items that were put, modulo 2^64.
     count: u64,
 }
 
 impl Model for PutEnd {
-    ghost use Rattle.up_queue.specs.Sides.{PutSide};
+    ghost use Rattle.up_queue.specs.EndViews.{PutEndView};
 
-    ghost Value = { PutSide };
+    ghost Value = { PutEndView };
 
-    ghost use Rattle.up_queue.specs.Inside.{put_side, IsPutEnd};
+    ghost use Rattle.up_queue.specs.Inside.{put_end_view, IsPutEnd};
 
-    ghost view = { put_side };
+    ghost view = { put_end_view };
 
     ghost invariant = { IsPutEnd };
 }
@@ -41,20 +41,20 @@ impl Model for PutEnd {
 /// The end at which items are taken out of a queue. It may be in another thread than the `PutEnd`.
 #[derive(Drop)]
 pub struct TakeEnd {
-    line: Arc<Line, Global>,
+    line: Arc<RuledQueue, Global>,
     pass: Pass<Item, EndView>,
     /// The number of items that were taken, modulo 2^64.
     count: u64,
 }
 
 impl Model for TakeEnd {
-    ghost use Rattle.up_queue.specs.Sides.{TakeSide};
+    ghost use Rattle.up_queue.specs.EndViews.{TakeEndView};
 
-    ghost Value = { TakeSide };
+    ghost Value = { TakeEndView };
 
-    ghost use Rattle.up_queue.specs.Inside.{take_side, IsTakeEnd};
+    ghost use Rattle.up_queue.specs.Inside.{take_end_view, IsTakeEnd};
 
-    ghost view = { take_side };
+    ghost view = { take_end_view };
 
     ghost invariant = { IsTakeEnd };
 }

@@ -2,7 +2,7 @@
 ghost use Rattle.std.specs.Prelude.{◌≡◌, ◌<◌, ◌≤◌, List, true, [], ◌∷◌, ◌++◌, length, IfOk, IfSome, IfErr, OnOk, None};
 ghost use Rattle.crossbeam_queue.specs.Passes.{view, IsPassOf, ruled_capacity};
 ghost use Rattle.up_queue.specs.declared.item.Item.{Item};
-ghost use Rattle.up_queue.specs.Line.{IsLine, IsOrderly};
+ghost use Rattle.up_queue.specs.Line.{IsQueueState, IsOrderly};
 ghost use Rattle.up_queue.specs.Rule.{putting, taking};
 
 use crate::item::Item;
@@ -13,13 +13,13 @@ use std::sync::Wait;
 use up_events::NoMemory;
 
 /// The array under a queue.
-pub type Line = RuledArrayQueue<Item, EndView, InOrder>;
+pub type RuledQueue = RuledArrayQueue<Item, EndView, InOrder>;
 
 /// An empty line, with the pass that puts and the pass that takes. `NoMemory` if memory runs out.
 pub fn open<N: Room>(
     alloc: Global,
     capacity: usize,
-) -> Result<(Line, Pass<Item, EndView>, Pass<Item, EndView>), NoMemory>
+) -> Result<(RuledQueue, Pass<Item, EndView>, Pass<Item, EndView>), NoMemory>
     requires some { 0 < capacity }
     requires room { N.room ≡ capacity }
     ensures capacity { IfOk result (λ made. ruled_capacity made.0 ≡ capacity) }
@@ -27,7 +27,7 @@ pub fn open<N: Room>(
     ensures puts { IfOk result (λ made. view made.1 ≡ putting capacity []) }
     ensures takes { IfOk result (λ made. view made.2 ≡ taking capacity []) }
 {
-    let (line, mut putter) = Line::ruled(alloc, capacity)?;
+    let (line, mut putter) = RuledQueue::ruled(alloc, capacity)?;
     let taker = line.another::<Roles<N>>(&mut putter);
     Ok((line, putter, taker))
 }
@@ -35,7 +35,7 @@ pub fn open<N: Room>(
 /// Puts an item, or returns it if the line may be full.
 pub fn push<R: Wait>(
     rt: &R,
-    line: &Line,
+    line: &RuledQueue,
     pass: &mut Pass<Item, EndView>,
     item: Item,
 ) -> Result<(), Item>
@@ -54,7 +54,7 @@ pub fn push<R: Wait>(
 }
 
 /// Takes the oldest item, if it finds one.
-pub fn pop<R: Wait>(rt: &R, line: &Line, pass: &mut Pass<Item, EndView>) -> Option<Item>
+pub fn pop<R: Wait>(rt: &R, line: &RuledQueue, pass: &mut Pass<Item, EndView>) -> Option<Item>
     requires line { IsPassOf line.now pass.old }
     requires takes { view pass.old ≡ taking (ruled_capacity line.now) (view pass.old).taken }
     ensures line { IsPassOf line.now pass.new }
@@ -68,7 +68,7 @@ pub fn pop<R: Wait>(rt: &R, line: &Line, pass: &mut Pass<Item, EndView>) -> Opti
 }
 
 /// The number of items in the line at some moment of the call.
-pub fn held<R: Wait>(rt: &R, line: &Line, pass: &mut Pass<Item, EndView>) -> u64
+pub fn held<R: Wait>(rt: &R, line: &RuledQueue, pass: &mut Pass<Item, EndView>) -> u64
     requires line { IsPassOf line.now pass.old }
     requires puts { view pass.old ≡ putting (ruled_capacity line.now) (view pass.old).put }
     ensures line { IsPassOf line.now pass.new }
@@ -80,12 +80,12 @@ pub fn held<R: Wait>(rt: &R, line: &Line, pass: &mut Pass<Item, EndView>) -> u64
 }
 
 /// What the two passes of a line together say about it.
-pub fn join(line: &Line, mut putter: Pass<Item, EndView>, taker: Pass<Item, EndView>)
+pub fn join(line: &RuledQueue, mut putter: Pass<Item, EndView>, taker: Pass<Item, EndView>)
     requires passes { IsPassOf line.now putter × IsPassOf line.now taker }
     requires puts { (view putter).puts ≡ true }
     requires takes { (view taker).takes ≡ true }
     ensures { (held : List Item)
-        × IsLine (view putter).capacity (view putter).put (view taker).taken held }
+        × IsQueueState (view putter).capacity (view putter).put (view taker).taken held }
 {
     line.absorb::<Both>(&mut putter, taker);
     line.learn_as::<Both>(&mut putter);

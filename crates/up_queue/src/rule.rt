@@ -63,9 +63,9 @@ impl Join<EndView> for Both {
 }
 
 impl Lesson<Item, EndView> for Both {
-    ghost use Rattle.up_queue.specs.Line.{IsLine};
+    ghost use Rattle.up_queue.specs.Line.{IsQueueState};
 
-    ghost fact = { λ v items. IsLine v.capacity v.put v.taken items };
+    ghost fact = { λ v items. IsQueueState v.capacity v.put v.taken items };
 }
 
 /// A put: one more item was put. If the queue is full, the put end learns that it has put at least as many items as the

@@ -5,7 +5,7 @@ ghost use Rattle.up_replay.specs.Replay.{asked_of, replayed, replayed_one};
 
 use std::alloc::Global;
 use thiserror::Error;
-use up_events::MOST_BYTES;
+use up_events::MAX_UPLOAD_BYTES;
 use up_headers::Request;
 use up_log::{Consent, Entry};
 use up_machine::{Asked, Book, Refusal, Remains};
@@ -35,11 +35,11 @@ pub fn asked_of(consent: Consent) -> Asked
 
 /// Whether a server may receive this request: it does not create an upload that is longer than any upload may be.
 pub fn fits(request: &Request) -> bool
-    ensures { IsTrue result ↔ FitsWithin MOST_BYTES request.now }
+    ensures { IsTrue result ↔ FitsWithin MAX_UPLOAD_BYTES request.now }
 {
     match request {
         Request::Create(new) => match new.length {
-            Some(length) => length <= MOST_BYTES,
+            Some(length) => length <= MAX_UPLOAD_BYTES,
             None => true,
         },
         _ => true,

@@ -1,6 +1,6 @@
 //! Restoring a book from a log on a disk.
 ghost use Rattle.std.specs.Prelude.{◌≡◌, [], List, IfOk};
-ghost use Rattle.up_log.specs.Logs.{IsCleanLog, IsReading, IsSettled};
+ghost use Rattle.up_log.specs.Logs.{IsCleanLog, IsReaderAt, IsSettled};
 ghost use Rattle.up_log.specs.declared.entry.Entry.{Entry as Logged};
 ghost use Rattle.up_log.specs.declared.setup.Setup.{Setup};
 ghost use Rattle.up_replay.specs.Replay.{entries_of, replayed};
@@ -45,7 +45,7 @@ pub fn restore<D: Disk>(
 where
     D: Drop,
     ensures { (setup : Setup) (batches : List (List Logged))
-        → IsReading D.Disk reader setup [] batches
+        → IsReaderAt D.Disk reader setup [] batches
         → IfOk result (λ log. IsCleanLog D.Disk log → IsSettled D.Disk log setup batches
         × (book.new ≡ replayed book.old (entries_of batches))) }
 {

@@ -1,7 +1,7 @@
 //! The verdicts of the rules on a request.
 ghost use Rattle.std.specs.Prelude.{◌≡◌, true, IsTrue};
 ghost use Rattle.up_headers.specs.Creations.{is_above};
-ghost use Rattle.up_hooks.specs.Verdicts.{is_lawful};
+ghost use Rattle.up_hooks.specs.Verdicts.{is_allowed_verdict};
 ghost use Rattle.up_machine.specs.Reasons.{is_reason};
 ghost use Rattle.up_machine.specs.declared.ask.Verdict.TheVariants.{Refuse};
 ghost use Rattle.up_rules.specs.Rules.{at_most, finishes_at_most, keeps, needs_key};
@@ -23,7 +23,7 @@ pub fn refuse(status: u16, text: &[u8]) -> Verdict
 /// may be empty, and a partial upload needs no key.
 pub fn needs_key(ask: &Ask, key: &[u8]) -> Verdict
     ensures answer { result ≡ needs_key ask.now key.now }
-    ensures lawful { IsTrue (is_lawful result) }
+    ensures lawful { IsTrue (is_allowed_verdict result) }
 {
     if ask.kind == Kind::Partial || ask.value(key).is_some() {
         Verdict::Allow
@@ -43,7 +43,7 @@ fn is_longer(ask: &Ask, limit: u64) -> bool
 /// together. An upload whose length is not known yet is allowed.
 pub fn at_most(ask: &Ask, limit: u64) -> Verdict
     ensures answer { result ≡ at_most ask.now limit }
-    ensures lawful { IsTrue (is_lawful result) }
+    ensures lawful { IsTrue (is_allowed_verdict result) }
 {
     if is_longer(ask, limit) {
         refuse(413, b"too long for this server")
@@ -55,7 +55,7 @@ pub fn at_most(ask: &Ask, limit: u64) -> Verdict
 /// Refuses to complete an upload with more bytes than the limit, with 422.
 pub fn finishes_at_most(ask: &Ask, limit: u64) -> Verdict
     ensures answer { result ≡ finishes_at_most ask.now limit }
-    ensures lawful { IsTrue (is_lawful result) }
+    ensures lawful { IsTrue (is_allowed_verdict result) }
 {
     if is_longer(ask, limit) {
         refuse(422, b"too long to finish")
@@ -67,7 +67,7 @@ pub fn finishes_at_most(ask: &Ask, limit: u64) -> Verdict
 /// Refuses every request, with 403.
 pub fn keeps(ask: &Ask) -> Verdict
     ensures answer { result ≡ keeps ask.now }
-    ensures lawful { IsTrue (is_lawful result) }
+    ensures lawful { IsTrue (is_allowed_verdict result) }
 {
     refuse(403, b"uploads are kept")
 }

@@ -1,6 +1,6 @@
 //! The rules as values.
 ghost use Rattle.std.specs.Prelude.{◌≡◌, IfOk, IsTrue};
-ghost use Rattle.up_hooks.specs.Verdicts.{is_lawful};
+ghost use Rattle.up_hooks.specs.Verdicts.{is_allowed_verdict};
 ghost use Rattle.up_rules.specs.Rules.{asked_by, judged, meant_by, point_of};
 
 use crate::answers::{at_most, finishes_at_most, keeps, needs_key};
@@ -36,7 +36,7 @@ impl Rule {
     /// The verdict of the rule. It refuses with 403, 413 or 422.
     pub fn judge(&self, ask: &Ask) -> Verdict
         ensures answer { result ≡ judged self.now ask.now }
-        ensures lawful { IsTrue (is_lawful result) }
+        ensures lawful { IsTrue (is_allowed_verdict result) }
     {
         match self {
             Rule::NeedsKey(key) => needs_key(ask, key.as_bytes()),

@@ -4,7 +4,7 @@ use Rattle.std.specs.List.{concat}
 use Rattle.up_events.specs.IdText.{text_of}
 use Rattle.up_events.specs.Names.{name_of}
 use Rattle.up_events.specs.declared.event.Event.{Event}
-use Rattle.up_hooks.specs.Told.{told_by}
+use Rattle.up_hooks.specs.Recorded.{recorded_by}
 use Rattle.up_hooks.specs.declared.post_hook.Outcome.{Outcome}
 use Rattle.up_hooks.specs.declared.post_hook.Outcome.TheVariants.{Done, Failed}
 use Rattle.up_hooks.specs.declared.recorder.Recorder.{Recorder}
@@ -43,11 +43,11 @@ lane_line number how count = concat (codes "lane " ∷ decimal number ∷ how_of
 
 -- the events that a recorder keeps
 abbrev pub events_text : {F : Type 0} → Recorder F → List ℕ
-events_text hook = flat_map event_line (told_by hook)
+events_text hook = flat_map event_line (recorded_by hook)
 
 -- how many events a recorder keeps
 abbrev pub count_kept : {F : Type 0} → Recorder F → ℕ
-count_kept hook = length (told_by hook)
+count_kept hook = length (recorded_by hook)
 
 -- the line of a lane, and the text about its post-hook
 abbrev pub lane_text : {H : Type 0} → (H → ℕ) → (H → List ℕ) → ℕ → LaneReport H → List ℕ

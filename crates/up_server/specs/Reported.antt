@@ -42,14 +42,14 @@ abbrev pub IsBrokenOff : List ℕ → Device → Device → Type 0
 IsBrokenOff text before after = WritesFront before.bytes after.bytes text × GaveUp after after.interruptions
 
 -- the report was written as this text, and what went wrong: a write failed, or a lane stopped
-abbrev pub IsToldAs : List ℕ → Bool → Device → Device → {X : Type 0} → Result X ServerFault → Type 0
-IsToldAs text stopped before after (Ok done) = IsWritten text before after × (stopped ≡ false)
-IsToldAs text stopped before after (Err Fault.Memory) = ⊥
-IsToldAs text stopped before after (Err Fault.Listen) = ⊥
-IsToldAs text stopped before after (Err Fault.Write) = IsBrokenOff text before after
-IsToldAs text stopped before after (Err Fault.Read) = ⊥
-IsToldAs text stopped before after (Err Fault.Stopped) = IsWritten text before after × (stopped ≡ true)
+abbrev pub IsOutcomeOfText : List ℕ → Bool → Device → Device → {X : Type 0} → Result X ServerFault → Type 0
+IsOutcomeOfText text stopped before after (Ok done) = IsWritten text before after × (stopped ≡ false)
+IsOutcomeOfText text stopped before after (Err Fault.Memory) = ⊥
+IsOutcomeOfText text stopped before after (Err Fault.Listen) = ⊥
+IsOutcomeOfText text stopped before after (Err Fault.Write) = IsBrokenOff text before after
+IsOutcomeOfText text stopped before after (Err Fault.Read) = ⊥
+IsOutcomeOfText text stopped before after (Err Fault.Stopped) = IsWritten text before after × (stopped ≡ true)
 
 -- the report with its events was written, and what went wrong
-abbrev pub IsTold : {F : Type 0} → Report (Recorder F) → Device → Device → {X : Type 0} → Result X ServerFault → Type 0
-IsTold report before after result = IsToldAs (report_text report) (any_stopped report.lanes.items) before after result
+abbrev pub IsRunOutcome : {F : Type 0} → Report (Recorder F) → Device → Device → {X : Type 0} → Result X ServerFault → Type 0
+IsRunOutcome report before after result = IsOutcomeOfText (report_text report) (any_stopped report.lanes.items) before after result

@@ -1,11 +1,11 @@
 -- A run of the server over one input, from its first message to the report.
 use Rattle.std.specs.Prelude.{◌≡◌, ◌⊎◌, ℕ, true, false, List, length, Result, Ok, Err}
-use Rattle.up_dispatch.specs.Keeps.{Gives}
+use Rattle.up_dispatch.specs.Keeps.{ClosureAnswers}
 use Rattle.up_dispatch.specs.declared.conversation.Ended.{Ended}
 use Rattle.up_dispatch.specs.declared.conversation.Ended.TheVariants.{Closed, Cut, ReadFailed, WriteFailed}
 use Rattle.up_events.specs.declared.event.Event.{Event}
 use Rattle.up_hooks.specs.declared.recorder.Recorder.{Recorder}
-use Rattle.up_queue.specs.Sides.{QueueId}
+use Rattle.up_queue.specs.EndViews.{QueueId}
 use Rattle.up_server.specs.Reported.{IsBrokenOff, IsReportOf, IsWritten, any_stopped}
 use Rattle.up_server.specs.ReportText.{report_text}
 use Rattle.up_server.specs.Seats.{IsServedFrom}
@@ -17,7 +17,7 @@ use Rattle.up_words.specs.declared.settings.Settings.{Settings}
 
 -- One conversation was served from the only seat of a new board with these settings and queues, whose closures may
 -- answer this. The report is that of the board, and counts as many changes as were made from the seat.
-pub record IsRun {H : Type 0} (handed : H → List Event) (queue : ℕ → QueueId) (gives : Gives) (settings : Settings) (served : Served H) (source source_after sink sink_after : Device) : Type 0 where
+pub record IsServedRun {H : Type 0} (handed : H → List Event) (queue : ℕ → QueueId) (gives : ClosureAnswers) (settings : Settings) (served : Served H) (source source_after sink sink_after : Device) : Type 0 where
   pub converses : IsServedFrom queue settings.lanes gives settings.max_size 0 (length served.report.accepted.items) source source_after sink sink_after served.ended
   pub report : IsReportOf handed settings.lanes served.report
 

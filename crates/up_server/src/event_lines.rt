@@ -1,12 +1,12 @@
 //! Events as lines, written while the server runs.
 ghost use Rattle.std.specs.Prelude.{◌≡◌, ◌≢◌, IsTrue};
 ghost use Rattle.std.specs.Io.KnownBytes.{Appends};
-ghost use Rattle.up_hooks.specs.Told.{has_code};
+ghost use Rattle.up_hooks.specs.Recorded.{has_code};
 ghost use Rattle.up_hooks.specs.declared.post_hook.Outcome.TheVariants.{Done, Failed};
 ghost use Rattle.up_wire.specs.Device.{GaveUp};
 ghost use Rattle.up_server.specs.ReportText.{event_line};
 
-use crate::report::write_told;
+use crate::report::write_event_line;
 use std::sync::atomic::{AtomicBool, Ordering};
 use std::sync::{Mutex, Wait};
 use up_events::Event;
@@ -23,7 +23,7 @@ fn write_line<W: Sink>(sink: &mut W, event: &Event) -> Outcome
     ensures failed { result ≢ Done
         → (result ≡ Failed 1) × GaveUp (W.device sink.new) (W.device sink.new).interruptions }
 {
-    match write_told(sink, &(*event, Outcome::Done)) {
+    match write_event_line(sink, &(*event, Outcome::Done)) {
         Ok(()) => Outcome::Done,
         Err(_) => Outcome::Failed(1),
     }

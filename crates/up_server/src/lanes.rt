@@ -1,6 +1,6 @@
 //! Lanes over the queues of a board, in threads of their own.
 ghost use Rattle.std.specs.Prelude.{◌≡◌, All, IfOk, vec_len, [], false, slice_index_or};
-ghost use Rattle.up_lanes.specs.LaneSides.{lane_side};
+ghost use Rattle.up_lanes.specs.LaneViews.{lane_view};
 ghost use Rattle.up_dispatch.specs.Lists.{EachAt};
 
 use crate::runner::{LaneNotices, Runner};
@@ -27,7 +27,7 @@ pub fn lanes_over<H: PostHook + Drop>(
     requires one_each { vec_len takes ≡ vec_len hooks }
     ensures count { IfOk result (λ v. vec_len v ≡ vec_len takes) }
     ensures lanes { IfOk result (λ v. EachAt (λ k l. (e : _) (h : _)
-        → l ≡ lane_side k (slice_index_or takes.items k e).queue [] false
+        → l ≡ lane_view k (slice_index_or takes.items k e).queue [] false
         (slice_index_or hooks.items k h)) v.items) }
 {
     let mut lanes = Vec::with_capacity(alloc, takes.len())?;

@@ -10,13 +10,13 @@ mod hooks;
 mod lanes;
 mod listening;
 mod report;
+mod run_outcome;
 mod runner;
 mod running;
 mod server_fault;
 mod serving;
 mod shown;
 mod status;
-mod telling;
 
 pub use event_lines::EventLines;
 pub use hooks::Hooks;

@@ -5,16 +5,16 @@ ghost use Rattle.up_dispatch.specs.Parts.{IsNamed};
 ghost use Rattle.up_dispatch.specs.declared.finish.Report.{Report};
 ghost use Rattle.up_hooks.specs.declared.recorder.Recorder.{Recorder};
 ghost use Rattle.up_server.specs.ReportText.{report_by};
-ghost use Rattle.up_server.specs.Reported.{IsReportOf, IsTold, IsToldAs, any_stopped};
+ghost use Rattle.up_server.specs.Reported.{IsReportOf, IsRunOutcome, IsOutcomeOfText, any_stopped};
 
 use crate::beside::run_beside;
 use crate::boards;
 use crate::hooks::Hooks;
+use crate::run_outcome::report_outcome;
 use crate::runner::{OnStderr, Runner};
 use crate::server_fault::ServerFault;
 use crate::shown::Shown;
 use crate::status::{say, start_saying};
-use crate::telling::tell_report;
 use std::alloc::{AllocError, Global};
 use std::marker::{Brand, Send, Sync};
 use std::net::TcpListener;
@@ -199,10 +199,10 @@ pub fn serve<
     ensures { (result ≡ Err ServerFault.Memory) ⊎ ((report : Report (Recorder F))
         × IsReportOf ⟦<Recorder<F> as PostHook>⟧.handed settings.now.lanes report
         × All (λ lane. ⟦<Recorder<F> as PostHook>⟧.is_sound lane.hook) report.lanes.items
-        × IsTold report (W.device sink.old) (W.device sink.new) result) }
+        × IsRunOutcome report (W.device sink.old) (W.device sink.new) result) }
 {
     match serve_with(rt, alloc, hooks, settings, connections) {
-        Ok(report) => tell_report(sink, &report),
+        Ok(report) => report_outcome(sink, &report),
         Err(_) => Err(ServerFault::Memory),
     }
 }
@@ -230,11 +230,11 @@ pub fn keep_serving<
     ensures { (result ≡ Err ServerFault.Memory) ⊎ ((report : Report H)
         × IsReportOf H.handed settings.now.lanes report
         × All (λ lane. H.is_sound lane.hook) report.lanes.items
-        × IsToldAs (report_by H.count H.text report) (any_stopped report.lanes.items)
+        × IsOutcomeOfText (report_by H.count H.text report) (any_stopped report.lanes.items)
         (W.device sink.old) (W.device sink.new) result) }
 {
     match serve_with(rt, alloc, hooks, settings, connections) {
-        Ok(counts) => tell_report(sink, &counts),
+        Ok(counts) => report_outcome(sink, &counts),
         Err(_) => Err(ServerFault::Memory),
     }
 }

@@ -110,23 +110,26 @@ pub fn write_events<W: Sink>(sink: &mut W, events: &[(Event, Outcome)]) -> Resul
 
 /// Writes an event as a line, with what its post-hook answered, and makes the sink send the line on. The error is that
 /// a write or the flush gave up on the sink.
-pub fn write_told<W: Sink>(sink: &mut W, told: &(Event, Outcome)) -> Result<(), WriteFailed>
+pub fn write_event_line<W: Sink>(
+    sink: &mut W,
+    recorded: &(Event, Outcome),
+) -> Result<(), WriteFailed>
     ensures written { Writes (W.device sink.old).bytes (W.device sink.new).bytes
-        (event_line told.now) result }
+        (event_line recorded.now) result }
     ensures failed { OnErr result (GaveUp (W.device sink.new) (W.device sink.new).interruptions) }
 {
-    write_event(sink, told)?;
+    write_event(sink, recorded)?;
     flush(sink)
 }
 
 /// Writes an event as a line, with what its post-hook answered.
-fn write_event<W: Sink>(sink: &mut W, told: &(Event, Outcome)) -> Result<(), WriteFailed>
+fn write_event<W: Sink>(sink: &mut W, recorded: &(Event, Outcome)) -> Result<(), WriteFailed>
     ensures written { Writes (W.device sink.old).bytes (W.device sink.new).bytes
-        (event_line told.now) result }
+        (event_line recorded.now) result }
     ensures failed { OnErr result (GaveUp (W.device sink.new) (W.device sink.new).interruptions) }
 {
-    write_event_text(sink, &told.0)?;
-    write_outcome(sink, told.1)
+    write_event_text(sink, &recorded.0)?;
+    write_outcome(sink, recorded.1)
 }
 
 /// A length in digits, or a dash if it is not known.

@@ -14,7 +14,7 @@ use up_lanes::{Lane, LaneEnd, StepEnd};
 const FIRST_PAUSE: u64 = 100;
 
 /// The longest wait, in milliseconds.
-const MOST_PAUSE: u64 = 10_000;
+const MAX_PAUSE: u64 = 10_000;
 
 /// How many times a lane is tried after the board was closed, with the first pause between two tries.
 const LAST_TRIES: u32 = 3;
@@ -102,7 +102,7 @@ fn next_pause(pause: u64, is_closed: bool) -> u64 {
     if is_closed {
         FIRST_PAUSE
     } else {
-        pause.saturating_mul(2).min(MOST_PAUSE)
+        pause.saturating_mul(2).min(MAX_PAUSE)
     }
 }
 

@@ -1,10 +1,10 @@
 //! One conversation on a new board, with each lane in a thread of its own.
 ghost use Rattle.std.specs.Prelude.{◌≡◌, IfOk, vec_len, [], length, All};
-ghost use Rattle.up_hooks.specs.Gives.{ClosuresGive};
+ghost use Rattle.up_hooks.specs.MayAnswer.{ClosuresMayAnswer};
 ghost use Rattle.up_dispatch.specs.Lists.{EachAt};
 ghost use Rattle.up_dispatch.specs.Parts.{IsNamed};
 ghost use Rattle.up_server.specs.Seats.{IsServedFrom};
-ghost use Rattle.up_server.specs.Run.{IsRun};
+ghost use Rattle.up_server.specs.Run.{IsServedRun};
 
 use crate::beside::run_beside;
 use crate::boards;
@@ -65,7 +65,7 @@ fn converse_from<B: Naming, R: Source, W: Sink, T: Wait>(
     sink: &mut W,
 ) -> Ended
     ensures served { IsServedFrom
-        B.queue B.lanes (ClosuresGive hooks.now) B.max_size seat.old seat.new
+        B.queue B.lanes (ClosuresMayAnswer hooks.now) B.max_size seat.old seat.new
         (R.device source.old) (R.device source.new)
         (W.device sink.old) (W.device sink.new) result }
 {
@@ -95,7 +95,7 @@ fn drive<B: Naming + Send + Sync, H: PostHook + Drop, R: Source, W: Sink, T: Thr
     ensures ends { IfOk result (λ d. EachAt (λ k e. H.is_sound e.hook
         × (e.lane ≡ k) × (e.take_end.queue ≡ B.queue k)) d.lanes.items) }
     ensures served { IfOk result (λ d. IsServedFrom
-        B.queue B.lanes (ClosuresGive hooks.now) B.max_size 0 d.seat
+        B.queue B.lanes (ClosuresMayAnswer hooks.now) B.max_size 0 d.seat
         (R.device source.old) (R.device source.new)
         (W.device sink.old) (W.device sink.new) d.ended) }
 {
@@ -112,7 +112,7 @@ fn drive<B: Naming + Send + Sync, H: PostHook + Drop, R: Source, W: Sink, T: Thr
             ensures same_source { result.2.ghost_name ≡ source.entry.ghost_name }
             ensures same_sink { result.3.ghost_name ≡ sink.entry.ghost_name }
             ensures served { IsServedFrom
-                B.queue B.lanes (ClosuresGive hooks.entry.now) B.max_size seat result.1
+                B.queue B.lanes (ClosuresMayAnswer hooks.entry.now) B.max_size seat result.1
                 (R.device source.entry.now) (R.device result.2.now)
                 (W.device sink.entry.now) (W.device result.3.now) result.0 }
         {
@@ -147,8 +147,8 @@ pub fn run<
     requires sized { settings.now.max_size ≡ B.max_size }
     requires one_for_each { vec_len hooks.post ≡ settings.now.lanes }
     requires new { All (λ h. H.is_sound h × (H.handed h ≡ [])) hooks.post.items }
-    ensures run { IfOk result (λ served. IsRun
-        H.handed B.queue (ClosuresGive hooks.pre) settings.now served
+    ensures run { IfOk result (λ served. IsServedRun
+        H.handed B.queue (ClosuresMayAnswer hooks.pre) settings.now served
         (R.device source.old) (R.device source.new) (W.device sink.old) (W.device sink.new)) }
     ensures sound { IfOk result (λ served. All (λ x. H.is_sound x.hook) served.report.lanes.items) }
 {

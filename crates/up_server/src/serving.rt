@@ -1,16 +1,16 @@
 //! A run of the server over one input.
 ghost use Rattle.std.specs.Prelude.{◌≡◌, ◌⊎◌, ℕ, [], All, Err, length};
-ghost use Rattle.up_hooks.specs.Gives.{ClosuresGive};
+ghost use Rattle.up_hooks.specs.MayAnswer.{ClosuresMayAnswer};
 ghost use Rattle.up_hooks.specs.declared.recorder.Recorder.{Recorder};
-ghost use Rattle.up_queue.specs.Sides.{QueueId};
+ghost use Rattle.up_queue.specs.EndViews.{QueueId};
 ghost use Rattle.up_wire.specs.Device.{Device};
-ghost use Rattle.up_server.specs.Run.{IsRun, IsReported};
+ghost use Rattle.up_server.specs.Run.{IsServedRun, IsReported};
 ghost use Rattle.up_server.specs.declared.running.Served.{Served};
 
 use crate::hooks::Hooks;
+use crate::run_outcome::run_outcome;
 use crate::running::{Served, run};
 use crate::server_fault::ServerFault;
-use crate::telling::tell;
 use std::alloc::Global;
 use std::marker::{Brand, Sync};
 use std::sync::Wait;
@@ -38,7 +38,8 @@ pub fn replay<F: Fn(&Event) -> Outcome + Send + Drop, R: Source, W: Sink, T: Thr
         × (⟦<Recorder<F> as PostHook>⟧.handed r ≡ [])) hooks.post.items }
     ensures { (result ≡ Err ServerFault.Memory)
         ⊎ ((queue : ℕ → QueueId) × (served : Served (Recorder F)) × (replied : Device)
-        × IsRun ⟦<Recorder<F> as PostHook>⟧.handed queue (ClosuresGive hooks.pre) settings.now
+        × IsServedRun ⟦<Recorder<F> as PostHook>⟧.handed queue (ClosuresMayAnswer hooks.pre)
+        settings.now
         served (R.device source.old) (R.device source.new) (W.device sink.old) replied
         × All (λ lane. ⟦<Recorder<F> as PostHook>⟧.is_sound lane.hook) served.report.lanes.items
         × IsReported served replied (W.device sink.new) result) }
@@ -50,5 +51,5 @@ pub fn replay<F: Fn(&Event) -> Outcome + Send + Drop, R: Source, W: Sink, T: Thr
     else {
         return Err(ServerFault::Memory);
     };
-    tell(sink, &served)
+    run_outcome(sink, &served)
 }

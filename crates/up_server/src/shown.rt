@@ -66,13 +66,13 @@ impl<F: Fn(&Event) -> Outcome + Send> Shown for Teller<F> {
 }
 
 impl<H: Shown, D: Disk + Send> Shown for Continued<H, D> {
-    ghost use Rattle.up_handed.specs.Continues.{handed_of, hook_of};
+    ghost use Rattle.up_handed.specs.Continues.{handed_of, inner_hook};
     ghost use Rattle.up_handed.specs.Counts.{count_of};
 
     // How many events all runs have handed over, as the disk counts them.
     ghost count = { λ c. count_of (handed_of c) };
 
-    ghost text = { λ c. H.text (hook_of c) };
+    ghost text = { λ c. H.text (inner_hook c) };
 
     fn count_handed(&self) -> u64 {
         self.count()

@@ -6,7 +6,7 @@ use Rattle.up_machine.specs.declared.plan.Asked.{Asked}
 use Rattle.up_machine.specs.declared.plan.Done.{Done}
 use Rattle.up_machine.specs.declared.refusal.Refusal.{Refusal}
 use Rattle.up_machine.specs.declared.refusal.Refusal.TheVariants.{NoMemory}
-use Rattle.up_queue.specs.Sides.{QueueId}
+use Rattle.up_queue.specs.EndViews.{QueueId}
 use Rattle.up_dispatch.specs.Tied.{CommitsAt}
 use Rattle.up_store.specs.StoredCommits.{Says, StoredCommits}
 

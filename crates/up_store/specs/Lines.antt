@@ -20,8 +20,8 @@ pub record Progress : Type 0 where
   pub decided : ℕ
 
 -- all changes before it had their turn, and it is known to be on the disk or lost
-abbrev pub IsTurn : Progress → ℕ → Type 0
-IsTurn line number = (line.done ≡ number) × (number < line.known)
+abbrev pub HasTurn : Progress → ℕ → Type 0
+HasTurn line number = (line.done ≡ number) × (number < line.known)
 
 -- it could not be written
 abbrev pub IsLost : Progress → ℕ → Type 0

@@ -7,10 +7,10 @@ use Rattle.up_machine.specs.declared.plan.Asked.{Asked}
 use Rattle.up_machine.specs.declared.plan.Done.{Done}
 use Rattle.up_machine.specs.declared.refusal.Refusal.{Refusal}
 use Rattle.up_machine.specs.declared.refusal.Refusal.TheVariants as refusal
-use Rattle.up_queue.specs.Sides.{QueueId}
+use Rattle.up_queue.specs.EndViews.{QueueId}
 use Rattle.up_replay.specs.Replay.{asked_of}
 use Rattle.up_dispatch.specs.Keepers.{SeatCommits, SeatPlans}
-use Rattle.up_dispatch.specs.Keeps.{Committing, Gives, Keeping, keeping}
+use Rattle.up_dispatch.specs.Keeps.{Committing, ClosureAnswers, Keeping, keeping}
 use Rattle.up_dispatch.specs.Tied.{CommitsAt}
 
 -- the entry has this request, with its id and with what the closures answered to it
@@ -29,17 +29,17 @@ IsRefusedFirst queue lanes max_size count request id asked after_it result =
     (is_refusal asked ≡ true) × SeatCommits queue lanes max_size count request id asked after_it result
 
 -- the change was not written, so the board did not see it; the answer is that memory ran out
-abbrev pub IsUnwritten : ℕ → ℕ → Result Done Refusal → Type 0
-IsUnwritten before after_it result = (result ≡ Err refusal.NoMemory) × (after_it ≡ before)
+abbrev pub IsNotMade : ℕ → ℕ → Result Done Refusal → Type 0
+IsNotMade before after_it result = (result ≡ Err refusal.NoMemory) × (after_it ≡ before)
 
 -- the commits of a lawful board that has all changes made from the seat, in the order of the log; or the board did not
 -- see the change
 abbrev pub StoredCommits : (ℕ → QueueId) → ℕ → ℕ → Committing ℕ
 StoredCommits queue lanes max_size count request id asked after_it result =
     IsInTurn queue lanes max_size count request id asked after_it result
-    ⊎ (IsRefusedFirst queue lanes max_size count request id asked after_it result ⊎ IsUnwritten count after_it result)
+    ⊎ (IsRefusedFirst queue lanes max_size count request id asked after_it result ⊎ IsNotMade count after_it result)
 
 -- such a seat as a keeper, with the plans of a seat and with these commits
-abbrev pub by_stored_seat : (ℕ → QueueId) → ℕ → ℕ → Gives → Keeping ℕ
+abbrev pub by_stored_seat : (ℕ → QueueId) → ℕ → ℕ → ClosureAnswers → Keeping ℕ
 by_stored_seat queue lanes max_size gives =
     keeping (SeatPlans queue lanes max_size) (StoredCommits queue lanes max_size) gives

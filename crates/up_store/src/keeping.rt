@@ -1,6 +1,6 @@
 //! Conversations whose changes are written to a log before they are made.
 ghost use Rattle.std.specs.Prelude.{◌≡◌};
-ghost use Rattle.up_hooks.specs.Gives.{ClosuresGive};
+ghost use Rattle.up_hooks.specs.MayAnswer.{ClosuresMayAnswer};
 ghost use Rattle.up_dispatch.specs.Answering.{Serves};
 ghost use Rattle.up_dispatch.specs.Exchanges.{KeepsBorrows, stand_in};
 ghost use Rattle.up_dispatch.specs.Turn.{Converses};
@@ -83,7 +83,7 @@ pub fn converse_stored<
     exchange: &mut Exchange<'_, I, R, W>,
 ) -> Ended
     ensures served { Converses
-        (Serves (by_stored_seat B.queue B.lanes B.max_size (ClosuresGive hooks.now)) I.draws)
+        (Serves (by_stored_seat B.queue B.lanes B.max_size (ClosuresMayAnswer hooks.now)) I.draws)
         B.max_size
         (stand_in R.device W.device seat.old exchange.old)
         (stand_in R.device W.device seat.new exchange.new) result }

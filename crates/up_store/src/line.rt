@@ -1,7 +1,7 @@
 //! The order of changes.
 ghost use Rattle.std.specs.Prelude.{◌≡◌, ◌⊎◌, ◌<◌, ◌↔◌, ◌++◌, [], IfOk, IsErr, OnErr, IsTrue, true, false, min};
 ghost use Rattle.std.specs.Prelude.{vec_len, ◌+◌};
-ghost use Rattle.up_store.specs.Lines.{IsLost, IsTurn, MayWrite, Takes};
+ghost use Rattle.up_store.specs.Lines.{IsLost, HasTurn, MayWrite, Takes};
 ghost use Rattle.up_store.specs.Lines.{has_drawn, has_had_turn, has_lost_rest};
 ghost use Rattle.up_store.specs.declared.line.Next.TheVariants.{Commit, Refuse, Wait, Write};
 
@@ -12,10 +12,10 @@ use std::mem;
 use up_log::Spelled;
 
 /// How many changes a batch has, at most.
-const MOST_CHANGES: usize = 64;
+const MAX_BATCH_CHANGES: usize = 64;
 
 /// How many bytes a batch takes, at most, unless its first change alone takes more.
-const MOST_BYTES: usize = 1 << 23;
+const MAX_BATCH_BYTES: usize = 1 << 23;
 
 /// What comes next for a change that was drawn.
 #[derive(Drop)]
@@ -85,7 +85,7 @@ fn fill(waiting: &mut VecDeque<Spelled>, batch: &mut Vec<Spelled>)
     ensures { batch.new.items ++ waiting.new.items ≡ batch.old.items ++ waiting.old.items }
 {
     let mut size: usize = 0;
-    for _ in 0..MOST_CHANGES {
+    for _ in 0..MAX_BATCH_CHANGES {
         if batch.len() >= batch.capacity() {
             break;
         }
@@ -98,7 +98,7 @@ fn fill(waiting: &mut VecDeque<Spelled>, batch: &mut Vec<Spelled>)
             Some(next) => next.size(),
             None => break,
         };
-        if next.saturating_add(size) > MOST_BYTES {
+        if next.saturating_add(size) > MAX_BATCH_BYTES {
             break;
         }
     }
@@ -115,7 +115,7 @@ impl Line {
     {
         Ok(Line {
             waiting: VecDeque::new(alloc),
-            room: Vec::with_capacity(alloc, MOST_CHANGES)?,
+            room: Vec::with_capacity(alloc, MAX_BATCH_CHANGES)?,
             is_writing: false,
             is_held: false,
             is_over: false,
@@ -169,9 +169,9 @@ impl Line {
         ensures wait { result ≡ Wait → self.new ≡ self.old }
         ensures write { (batch : _) → result ≡ Write batch → Takes self.old self.new batch.items
             × MayWrite self.old }
-        ensures commit { result ≡ Commit → (self.new ≡ self.old) × IsTurn self.old number
+        ensures commit { result ≡ Commit → (self.new ≡ self.old) × HasTurn self.old number
             × (¬ IsLost self.old number) × (self.old.is_over ≡ false) }
-        ensures refuse { result ≡ Refuse → (self.new ≡ self.old) × IsTurn self.old number
+        ensures refuse { result ≡ Refuse → (self.new ≡ self.old) × HasTurn self.old number
             × ((self.old.is_over ≡ true) ⊎ IsLost self.old number) }
     {
         if self.done == number && number < self.known {
@@ -188,7 +188,7 @@ impl Line {
 
     /// Whether the change of this number has to wait.
     pub fn is_waiting(&self, number: u64) -> bool
-        ensures { IsTurn self.now number → result ≡ false }
+        ensures { HasTurn self.now number → result ≡ false }
     {
         !(self.done == number && number < self.known) && !self.may_write()
     }

@@ -14,7 +14,7 @@ use up_log::LogFault;
 
 /// How many times at most a shorter log catches up with entries that were added meanwhile, before changes are held up
 /// for the rest.
-const MOST_ROUNDS: u32 = 16;
+const MAX_ROUNDS: u32 = 16;
 
 /// If this many entries or fewer are left, changes are held up for them.
 const FEW: u64 = 64;
@@ -167,7 +167,7 @@ impl<D: Disk + Drop, F: Folder<D>> Shortening<D, F> {
     ) -> Result<(), Kept> {
         let ended = self.ended.list(rt, alloc)?;
         let mut shorter = Shorter::begin(rt, alloc, store, &self.folder, generation, &ended)?;
-        for _ in 0..MOST_ROUNDS {
+        for _ in 0..MAX_ROUNDS {
             if shorter.add_settled(rt, alloc, store)? <= FEW {
                 break;
             }

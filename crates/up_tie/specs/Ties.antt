@@ -19,9 +19,9 @@ IsSettledAs g log setup premise P =
     premise → IsCleanLog g log → IsTrue log.is_broken ⊎ ((batches : List (List Entry)) × IsSettled g log setup batches × P batches)
 
 -- the batches of the log contain these entries
-abbrev pub IsWritten : {D : Type 0} → Ghosts D → Log D → Setup → Type 0 → List Entry → Type 0
-IsWritten g log setup premise entries = IsSettledAs g log setup premise (λ batches. entries_of batches ≡ entries)
+abbrev pub LogContains : {D : Type 0} → Ghosts D → Log D → Setup → Type 0 → List Entry → Type 0
+LogContains g log setup premise entries = IsSettledAs g log setup premise (λ batches. entries_of batches ≡ entries)
 
 -- the book is the one that the batches of the log define
-abbrev pub IsTied : {D : Type 0} → Ghosts D → Log D → Setup → Type 0 → State → Type 0
-IsTied g log setup premise book = IsSettledAs g log setup premise (λ batches. book ≡ book_of setup (entries_of batches))
+abbrev pub IsBookOfLog : {D : Type 0} → Ghosts D → Log D → Setup → Type 0 → State → Type 0
+IsBookOfLog g log setup premise book = IsSettledAs g log setup premise (λ batches. book ≡ book_of setup (entries_of batches))

@@ -1,7 +1,7 @@
 //! The data that the lock of the book protects.
 ghost use Rattle.std.specs.Prelude.{◌≡◌, ◌≢◌, ◌↔◌, ◌++◌, ◌∷◌, [], length, Err, IsTrue};
 ghost use Rattle.up_headers.specs.Table.{FitsWithin};
-ghost use Rattle.up_machine.specs.Decision.{Answers, decide};
+ghost use Rattle.up_machine.specs.Decision.{IsExpectedOrNoMemory, decide};
 ghost use Rattle.up_machine.specs.declared.refusal.Refusal.TheVariants.{NoMemory};
 ghost use Rattle.up_replay.specs.Replay.{asked_of, replayed_one};
 ghost use Rattle.up_tie.specs.Ties.{book_of};
@@ -9,7 +9,7 @@ ghost use Rattle.up_tie.specs.Ties.{book_of};
 use crate::site::Site;
 use std::alloc::Global;
 use std::marker::Model;
-use up_events::MOST_BYTES;
+use up_events::MAX_UPLOAD_BYTES;
 use up_history::{Front, Receipt};
 use up_log::Entry;
 use up_machine::{Book, Done, Refusal, Remains};
@@ -43,8 +43,8 @@ fn commit_entry(
     entry: Entry,
     remains: &mut Remains,
 ) -> Result<Done, Refusal>
-    requires bounded { FitsWithin MOST_BYTES entry.request }
-    ensures answer { Answers result
+    requires bounded { FitsWithin MAX_UPLOAD_BYTES entry.request }
+    ensures answer { IsExpectedOrNoMemory result
         (decide book.old entry.request entry.id (asked_of entry.consent)) }
     ensures committed { result ≢ Err NoMemory → book.new ≡ replayed_one book.old entry }
     ensures memory { result ≡ Err NoMemory → book.new ≡ book.old }
@@ -93,10 +93,10 @@ impl<J: Site> Committed<J> {
         receipt: &Receipt<Entry, J>,
         remains: &mut Remains,
     ) -> Result<Done, Refusal>
-        requires bounded { FitsWithin MOST_BYTES entry.request }
+        requires bounded { FitsWithin MAX_UPLOAD_BYTES entry.request }
         requires claims { receipt.now.entry ≡ entry }
         requires next { receipt.now.number ≡ length self.old }
-        ensures answer { Answers result
+        ensures answer { IsExpectedOrNoMemory result
             (decide (book_of J.setup self.old) entry.request entry.id (asked_of entry.consent)) }
         ensures committed { result ≢ Err NoMemory → self.new ≡ self.old ++ entry ∷ [] }
         ensures memory { result ≡ Err NoMemory → self.new ≡ self.old }

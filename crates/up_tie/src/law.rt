@@ -1,6 +1,6 @@
 //! Laws about a log and a book that are not under their locks.
 ghost use Rattle.std.specs.Prelude.{◌≡◌, ◌≤◌, length, take};
-ghost use Rattle.up_tie.specs.Ties.{IsWritten, IsTied, book_of};
+ghost use Rattle.up_tie.specs.Ties.{LogContains, IsBookOfLog, book_of};
 
 use crate::committed::Committed;
 use crate::site::Site;
@@ -31,7 +31,7 @@ pub fn taken_apart<D: Disk, J: Site>(
     committed: Committed<J>,
 ) -> (Log<D>, Book)
     ensures tied { length committed ≡ length written
-        → IsTied D.Disk result.0 J.setup J.premise result.1 }
+        → IsBookOfLog D.Disk result.0 J.setup J.premise result.1 }
 {
     // For the prover: a law, which does nothing when it runs.
     agree(&written, &committed);

@@ -1,6 +1,6 @@
 //! Reading a log to its end, and restoring the book that it defines.
 ghost use Rattle.std.specs.Prelude.{◌≡◌, [], List, IfOk};
-ghost use Rattle.up_log.specs.Logs.{IsReading};
+ghost use Rattle.up_log.specs.Logs.{IsReaderAt};
 ghost use Rattle.up_log.specs.declared.entry.Entry.{Entry as Logged};
 ghost use Rattle.up_machine.specs.State.{empty_state};
 
@@ -28,7 +28,7 @@ pub fn reopen<D: Disk, J: Site>(
 where
     D: Drop,
     requires reader { J.premise
-        → (batches : List (List Logged)) × IsReading D.Disk reader J.setup [] batches }
+        → (batches : List (List Logged)) × IsReaderAt D.Disk reader J.setup [] batches }
     requires book { book ≡ empty_state J.setup.lanes J.setup.max_size }
     requires front { front ≡ [] }
     ensures { IfOk result (λ r. r.1 ≡ r.0) }

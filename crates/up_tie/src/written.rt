@@ -1,7 +1,7 @@
 //! The data that the lock of the log's writer protects.
 ghost use Rattle.std.specs.Prelude.{◌≡◌, ◌++◌, length, map, Err, OnOk, OnErr};
 ghost use Rattle.up_history.specs.Histories.{IsOutOfOrder};
-ghost use Rattle.up_tie.specs.Ties.{IsWritten};
+ghost use Rattle.up_tie.specs.Ties.{LogContains};
 ghost use Rattle.up_tie.specs.declared.fault.Unwritten.TheVariants.{OutOfOrder};
 
 use crate::fault::Unwritten;
@@ -23,20 +23,20 @@ pub struct Written<D: Disk, J: Site> {
 impl<D: Disk, J: Site> Model for Written<D, J> {
     ghost use Rattle.std.specs.Prelude.{◌≤◌, List, length, take};
     ghost use Rattle.up_log.specs.declared.entry.Entry.{Entry};
-    ghost use Rattle.up_tie.specs.Ties.{IsWritten};
+    ghost use Rattle.up_tie.specs.Ties.{LogContains};
 
     ghost Value = { List Entry };
 
     ghost view = { λ w. take w.count w.front };
 
     ghost invariant = { λ w. (w.count ≤ length w.front)
-        × IsWritten D.Disk w.log J.setup J.premise (take w.count w.front) };
+        × LogContains D.Disk w.log J.setup J.premise (take w.count w.front) };
 }
 
 impl<D: Disk, J: Site> Written<D, J> {
     /// A log with the entries that the front has seen.
     pub fn new(log: Log<D>, front: Front<Entry, J>) -> Written<D, J>
-        requires { IsWritten D.Disk log J.setup J.premise front }
+        requires { LogContains D.Disk log J.setup J.premise front }
         ensures { result ≡ front }
     {
         Written {
@@ -80,7 +80,7 @@ impl<D: Disk, J: Site> Written<D, J> {
 
     /// The log, which contains the entries that were written.
     pub fn into_log(self) -> Log<D>
-        ensures { IsWritten D.Disk result J.setup J.premise self }
+        ensures { LogContains D.Disk result J.setup J.premise self }
     {
         self.log
     }

@@ -8,8 +8,8 @@ use Rattle.std.specs.Char.{is_ascii_hexdigit}
 use Rattle.httparse.specs.Grammar.{LineEnd, Field, print_field, print_section, ReadsSection, HasNoSection, NeverHasSection, is_ows, is_extension_byte, print_extension, IsExtension, ChunkLine, IsChunkLine, print_chunk_line, ReadsChunkLine, HasNoChunkLine, NeverHasChunkLine}
 use Rattle.httparse.specs.Ascii.{crlf_bytes}
 use Rattle.httparse.specs.Spans.{SectionExceeds}
-use Rattle.up_wire.specs.declared.body.Stop.{Stop}
-use Rattle.up_wire.specs.declared.body.Stop.TheVariants.{Ended, Failed, Bad, NoMemory}
+use Rattle.up_wire.specs.declared.body.BodyEnd.{BodyEnd}
+use Rattle.up_wire.specs.declared.body.BodyEnd.TheVariants.{Ended, Failed, Bad, NoMemory}
 use Rattle.up_wire.specs.declared.body.BodyRead.{BodyRead}
 use Rattle.up_wire.specs.declared.framing.Framing.TheVariants.{Chunked}
 use Rattle.up_wire.specs.Message.{Ending}
@@ -124,7 +124,7 @@ line_refused part all none more line rest reads =
 -- ---- the body
 
 -- a body that stops at a part of it
-pub stop_answer : (limit : ℕ) (input : List ℕ) (ending : Ending) (stop : Stop) (body : Vec ℕ Global) (cut bad : Type 0) (result : BodyRead)
+pub stop_answer : (limit : ℕ) (input : List ℕ) (ending : Ending) (stop : BodyEnd) (body : Vec ℕ Global) (cut bad : Type 0) (result : BodyRead)
     → result ≡ stopped stop body → IsStop ending cut bad stop → (cut → IsCutChunked limit body.items input) → (bad → IsBadChunk limit input)
     → IsBodyRead limit Chunked input ending result
 stop_answer limit input ending Ended body cut bad result same is c b = subst (IsBodyRead limit Chunked input ending) (sym same) (c is.0, inl is.1)
@@ -133,7 +133,7 @@ stop_answer limit input ending Bad body cut bad result same is c b = subst (IsBo
 stop_answer limit input ending NoMemory body cut bad result same is c b = subst (IsBodyRead limit Chunked input ending) (sym same) (inl refl)
 
 -- the line feed behind the carriage return
-pub crlf_after : (a b : List ℕ) (ending : Ending) (result : Result (Unit {0}) Stop) → a ≡ 13 ∷ [] → IsByteRead 10 b ending result → IsCrlfRead (a ++ b) ending result
+pub crlf_after : (a b : List ℕ) (ending : Ending) (result : Result (Unit {0}) BodyEnd) → a ≡ 13 ∷ [] → IsByteRead 10 b ending result → IsCrlfRead (a ++ b) ending result
 crlf_after a b ending (Ok done) first next = ((λ i. first i ++ next.0 i), next.1)
 crlf_after a b ending (Err Ended) first next = (inr (λ i. first i ++ next.0 i), next.1)
 crlf_after a b ending (Err Failed) first next = (inr (λ i. first i ++ next.0 i), next.1)
@@ -148,7 +148,7 @@ chunks_are body bytes run chunks line_text end line grown same ends next =
     (subst (AreChunks (body ++ run)) (λ i. chunks ++ (sym same i ++ (run ++ sym ends i))) next)
 
 -- a buffer to which bytes were read has little room still
-pub still_bounded : (done : Unit {0}) (result : Result (Unit {0}) Stop) (body : Vec ℕ Global) → result ≡ Ok done
+pub still_bounded : (done : Unit {0}) (result : Result (Unit {0}) BodyEnd) (body : Vec ℕ Global) → result ≡ Ok done
     → (result ≡ Err NoMemory) ⊎ IsBounded body → IsBounded body
 still_bounded done result body whole (inl wanting) = absurd (cc)
 still_bounded done result body whole (inr bounded) = bounded

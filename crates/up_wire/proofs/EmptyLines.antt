@@ -6,7 +6,7 @@ use Rattle.std.specs.List.{flat_map}
 use Rattle.std.specs.Bool.{beq}
 use Rattle.httparse.specs.Grammar.{LineEnd, crlf, lf, print_end, print_blank, print_version, Field, print_field, print_section, ReadsSection, HasNoSection, RequestHead, print_request, ReadsRequest, HasNoRequest}
 use Rattle.up_wire.specs.Device.{HasNoFeed, IsEndedLine}
-use Rattle.up_wire.specs.declared.body.Stop.{Stop}
+use Rattle.up_wire.specs.declared.body.BodyEnd.{BodyEnd}
 use Rattle.up_wire.specs.Chunks.{AreOpenTrailers, AreBadTrailers}
 use Rattle.up_wire.specs.Steps.{is_line_end, IsStop, IsStopBehind}
 use Rattle.up_wire.specs.Message.{IsHead, Ending}
@@ -205,7 +205,7 @@ not_same false false apart same = let both : true ≡ false = apart in cc both
 -- ---- trailers that break off
 
 -- behind lines that may become a section, or that don't
-pub trailers_stop : (text part : List ℕ) (ending : Ending) (stop result : Stop) → IsStopBehind text stop result → HasNoSection text → HasNoFeed part
+pub trailers_stop : (text part : List ℕ) (ending : Ending) (stop result : BodyEnd) → IsStopBehind text stop result → HasNoSection text → HasNoFeed part
     → length (text ++ part) < max_head → (AreOpenTrailers (text ++ part) → IsStop ending (AreOpenTrailers (text ++ part)) (AreBadTrailers (text ++ part)) stop)
     → IsStop ending (AreOpenTrailers (text ++ part)) (AreBadTrailers (text ++ part)) result
 trailers_stop text part ending stop result (inl (is, may)) none all short so =

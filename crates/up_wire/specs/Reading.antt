@@ -12,8 +12,8 @@ use Rattle.up_wire.specs.Framing.{interim}
 use Rattle.up_wire.specs.Message.{Ending, fields_of, IsHead, framing_of, open_yet, ended, failed, IsMessage, IsCut, IsEndOfInput, IsFault}
 
 -- a prefix of the text
-abbrev pub IsFront : List ℕ → List ℕ → Type 0
-IsFront front text = (rest : List ℕ) × (text ≡ front ++ rest)
+abbrev pub IsPrefix : List ℕ → List ℕ → Type 0
+IsPrefix front text = (rest : List ℕ) × (text ≡ front ++ rest)
 
 -- what must be written after a head: nothing if its fields are at fault
 abbrev pub interim_after : Result Framing WireFault → RequestHead → List ℕ
@@ -34,7 +34,7 @@ IsInterimAtFault limit input Fault.UnknownCoding line = IsDue limit input line
 IsInterimAtFault limit input Fault.BodyTooLarge line = IsDue limit input line
 IsInterimAtFault limit input Fault.ReadFailed line = line ≡ []
 IsInterimAtFault limit input Fault.NoMemory line = (line ≡ []) ⊎ IsDue limit input line
-IsInterimAtFault limit input Fault.WriteFailed line = (whole : List ℕ) × IsDue limit input whole × (0 < length whole) × IsFront line whole
+IsInterimAtFault limit input Fault.WriteFailed line = (whole : List ℕ) × IsDue limit input whole × (0 < length whole) × IsPrefix line whole
 
 -- what was written
 abbrev pub IsInterim : ℕ → List ℕ → Taken → List ℕ → Type 0

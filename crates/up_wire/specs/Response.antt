@@ -7,11 +7,11 @@ use Rattle.httparse.specs.Ascii.{crlf_bytes}
 use Rattle.http.specs.StatusCode.{reason_phrase}
 use Rattle.up_message.specs.declared.response.Response.{Response}
 use Rattle.up_message.specs.Fields.{Field}
-use Rattle.up_wire.specs.Reading.{IsFront}
+use Rattle.up_wire.specs.Reading.{IsPrefix}
 
 -- a prefix of the text was written
 abbrev pub WritesFront : Option (List ℕ) → Option (List ℕ) → List ℕ → Type 0
-WritesFront before after text = (front : List ℕ) × IsFront front text × Appends before after front
+WritesFront before after text = (front : List ℕ) × IsPrefix front text × Appends before after front
 
 -- the text was written; after an error, a prefix of it
 abbrev pub Writes : {X E : Type 0} → Option (List ℕ) → Option (List ℕ) → List ℕ → Result X E → Type 0
@@ -19,8 +19,8 @@ Writes before after text (Ok done) = Appends before after text
 Writes before after text (Err fault) = WritesFront before after text
 
 -- the slices, joined
-abbrev pub joined : List (Bor (List ℕ)) → List ℕ
-joined pieces = flat_map (λ piece. piece.now) pieces
+abbrev pub joined_slices : List (Bor (List ℕ)) → List ℕ
+joined_slices pieces = flat_map (λ piece. piece.now) pieces
 
 -- the reason phrase of a status, empty if there is none
 abbrev pub phrase : ℕ → List ℕ

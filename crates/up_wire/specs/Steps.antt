@@ -12,7 +12,7 @@ use Rattle.up_wire.specs.declared.head.Head.{Head}
 use Rattle.up_wire.specs.declared.head.Parsed.{Parsed}
 use Rattle.up_wire.specs.declared.head_reader.HeadRead.{HeadRead}
 use Rattle.up_wire.specs.declared.body.BodyRead.{BodyRead}
-use Rattle.up_wire.specs.declared.body.Stop.{Stop}
+use Rattle.up_wire.specs.declared.body.BodyEnd.{BodyEnd}
 use Rattle.up_wire.specs.declared.chunks.Trailers.{Trailers}
 use Rattle.httparse.specs.Grammar as Line
 use Rattle.up_wire.specs.declared.body.Batch.{Batch}
@@ -23,7 +23,7 @@ use Rattle.up_wire.specs.Chunks.{IsLine, IsOpenLine, IsBadLine, IsOpenEnd, IsBad
 use Rattle.up_wire.specs.Message.{IsBody, IsCutBody, IsBodyFault, Ending, open_yet, ended, failed, fields_of, is_bare, IsHead, IsEndOfInput, IsBadHead, IsTooLarge, IsReadFailure, IsBare}
 use Rattle.up_wire.specs.Limits.{max_fields, max_interruptions, first_room}
 use Rattle.up_wire.specs.Device.{Device, GaveUp, Counts, Tries, HasNoFeed, IsEndedLine}
-use Rattle.up_wire.specs.Reading.{IsFront}
+use Rattle.up_wire.specs.Reading.{IsPrefix}
 
 -- the bytes of a step
 abbrev pub step_bytes : Step → List ℕ
@@ -98,8 +98,8 @@ IsHeadRead input ending (HeadRead.Fault fault bare) = IsHeadFault input ending f
 IsHeadRead input ending HeadRead.End = IsEndOfInput input × (ending ≡ ended)
 
 -- the fault of bytes that are no head: `waiting` if they can still become one, and otherwise what is wrong with them
-abbrev pub IsStanding : List ℕ → WireFault → WireFault → Type 0
-IsStanding text waiting fault =
+abbrev pub IsFaultOfPartialHead : List ℕ → WireFault → WireFault → Type 0
+IsFaultOfPartialHead text waiting fault =
     ((fault ≡ waiting) × MayBecomeRequest text)
     ⊎ (((fault ≡ Fault.BadHead) × NeverHasRequest text)
     ⊎ ((fault ≡ Fault.HeadTooLarge) × RequestExceeds max_fields text))
@@ -158,21 +158,21 @@ IsLineTaken most text line ending Taken.Failed = HasNoFeed line × (length text 
 IsLineTaken most text line ending Taken.NoMemory = HasNoFeed line × (ending ≡ open_yet)
 
 -- why reading stopped: the input breaks off as `cut` says, or is malformed as `bad` says
-abbrev pub IsStop : Ending → Type 0 → Type 0 → Stop → Type 0
-IsStop ending cut bad Stop.Ended = cut × (ending ≡ ended)
-IsStop ending cut bad Stop.Failed = cut × (ending ≡ failed)
-IsStop ending cut bad Stop.Bad = bad
-IsStop ending cut bad Stop.NoMemory = ending ≡ open_yet
+abbrev pub IsStop : Ending → Type 0 → Type 0 → BodyEnd → Type 0
+IsStop ending cut bad BodyEnd.Ended = cut × (ending ≡ ended)
+IsStop ending cut bad BodyEnd.Failed = cut × (ending ≡ failed)
+IsStop ending cut bad BodyEnd.Bad = bad
+IsStop ending cut bad BodyEnd.NoMemory = ending ≡ open_yet
 
 -- the result for a body that stops so, with the bytes that arrived
-abbrev pub stopped : Stop → Vec ℕ Global → BodyRead
-stopped Stop.Ended body = BodyRead.Cut body
-stopped Stop.Failed body = BodyRead.Cut body
-stopped Stop.Bad body = BodyRead.Fault Fault.BadFraming
-stopped Stop.NoMemory body = BodyRead.Fault Fault.NoMemory
+abbrev pub stopped : BodyEnd → Vec ℕ Global → BodyRead
+stopped BodyEnd.Ended body = BodyRead.Cut body
+stopped BodyEnd.Failed body = BodyRead.Cut body
+stopped BodyEnd.Bad body = BodyRead.Fault Fault.BadFraming
+stopped BodyEnd.NoMemory body = BodyRead.Fault Fault.NoMemory
 
 -- a body of this size, or a part of it
-abbrev pub IsBytesRead : {X : Type 0} → ℕ → List ℕ → Ending → Result X Stop → Type 0
+abbrev pub IsBytesRead : {X : Type 0} → ℕ → List ℕ → Ending → Result X BodyEnd → Type 0
 IsBytesRead size bytes ending (Ok done) = (length bytes ≡ size) × (ending ≡ open_yet)
 IsBytesRead size bytes ending (Err stop) = IsStop ending (length bytes < size) ⊥ stop
 
@@ -183,12 +183,12 @@ pub record HoldsFront (size : ℕ) (came : List ℕ) (body : Vec ℕ Global) : T
   pub bounded : IsBounded body
 
 -- the result of reading the prefix of a body; nothing is said if memory ran out
-abbrev pub IsFrontRead : {X : Type 0} → ℕ → List ℕ → Ending → Vec ℕ Global → Result X Stop → Type 0
+abbrev pub IsFrontRead : {X : Type 0} → ℕ → List ℕ → Ending → Vec ℕ Global → Result X BodyEnd → Type 0
 IsFrontRead size came ending body (Ok done) = HoldsFront size came body × (ending ≡ open_yet)
-IsFrontRead size came ending body (Err Stop.Ended) = HoldsFront size came body × (length came < size) × (ending ≡ ended)
-IsFrontRead size came ending body (Err Stop.Failed) = HoldsFront size came body × (length came < size) × (ending ≡ failed)
-IsFrontRead size came ending body (Err Stop.Bad) = ⊥
-IsFrontRead size came ending body (Err Stop.NoMemory) = ⊤
+IsFrontRead size came ending body (Err BodyEnd.Ended) = HoldsFront size came body × (length came < size) × (ending ≡ ended)
+IsFrontRead size came ending body (Err BodyEnd.Failed) = HoldsFront size came body × (length came < size) × (ending ≡ failed)
+IsFrontRead size came ending body (Err BodyEnd.Bad) = ⊥
+IsFrontRead size came ending body (Err BodyEnd.NoMemory) = ⊤
 
 -- a chunk line with this size; the input is still open
 pub record IsLineOf (input : List ℕ) (ending : Ending) (size : ℕ) : Type 0 where
@@ -199,17 +199,17 @@ pub record IsLineOf (input : List ℕ) (ending : Ending) (size : ℕ) : Type 0 w
   pub goes_on : ending ≡ open_yet
 
 -- the result of reading a chunk line: its size
-abbrev pub IsLineRead : List ℕ → Ending → Result ℕ Stop → Type 0
+abbrev pub IsLineRead : List ℕ → Ending → Result ℕ BodyEnd → Type 0
 IsLineRead input ending (Ok size) = IsLineOf input ending size
 IsLineRead input ending (Err stop) = IsStop ending (IsOpenLine input) (IsBadLine input) stop
 
 -- the result of reading one byte
-abbrev pub IsByteRead : {X : Type 0} → ℕ → List ℕ → Ending → Result X Stop → Type 0
+abbrev pub IsByteRead : {X : Type 0} → ℕ → List ℕ → Ending → Result X BodyEnd → Type 0
 IsByteRead wanted input ending (Ok done) = (input ≡ wanted ∷ []) × (ending ≡ open_yet)
 IsByteRead wanted input ending (Err stop) = IsStop ending (input ≡ []) ((b : ℕ) × (input ≡ b ∷ []) × (b ≢ wanted)) stop
 
 -- the result of reading CRLF
-abbrev pub IsCrlfRead : {X : Type 0} → List ℕ → Ending → Result X Stop → Type 0
+abbrev pub IsCrlfRead : {X : Type 0} → List ℕ → Ending → Result X BodyEnd → Type 0
 IsCrlfRead input ending (Ok done) = (input ≡ crlf_bytes) × (ending ≡ open_yet)
 IsCrlfRead input ending (Err stop) = IsStop ending (IsOpenEnd input) (IsBadEnd input) stop
 
@@ -221,19 +221,19 @@ AreParsed text Trailers.Partial = HasNoSection text × MayBecomeSection text
 AreParsed text Trailers.Bad = NeverHasSection text ⊎ SectionExceeds max_fields text
 
 -- trailers break off after these whole lines, or the lines are malformed
-abbrev pub IsStopBehind : List ℕ → Stop → Stop → Type 0
+abbrev pub IsStopBehind : List ℕ → BodyEnd → BodyEnd → Type 0
 IsStopBehind lines stop result =
-    ((result ≡ stop) × MayBecomeSection lines) ⊎ ((result ≡ Stop.Bad) × (NeverHasSection lines ⊎ SectionExceeds max_fields lines))
+    ((result ≡ stop) × MayBecomeSection lines) ⊎ ((result ≡ BodyEnd.Bad) × (NeverHasSection lines ⊎ SectionExceeds max_fields lines))
 
 -- the result of reading a trailer section
-abbrev pub AreTrailersRead : {X : Type 0} → List ℕ → Ending → Result X Stop → Type 0
+abbrev pub AreTrailersRead : {X : Type 0} → List ℕ → Ending → Result X BodyEnd → Type 0
 AreTrailersRead input ending (Ok done) = IsTrailers input × (ending ≡ open_yet)
 AreTrailersRead input ending (Err stop) = IsStop ending (AreOpenTrailers input) (AreBadTrailers input) stop
 
 -- a prefix of the text was written: all of it if `done`
 abbrev pub WritesIf : Option (List ℕ) → Option (List ℕ) → List ℕ → Bool → Type 0
 WritesIf before after text done =
-    (front : List ℕ) × IsFront front text × Appends before after front × (done ≡ true → front ≡ text)
+    (front : List ℕ) × IsPrefix front text × Appends before after front × (done ≡ true → front ≡ text)
 
 -- what a call that writes this text did: it wrote a prefix, all of it if `done`, and counted the interruptions of its
 -- sink

@@ -23,7 +23,7 @@ pub(crate) enum BodyRead {
 
 /// Why reading a part of a body stopped.
 #[derive(Clone, Copy)]
-pub(crate) enum Stop {
+pub(crate) enum BodyEnd {
     Ended,
     Failed,
     /// No body has these bytes there.
@@ -31,15 +31,15 @@ pub(crate) enum Stop {
     NoMemory,
 }
 
-impl Stop {
+impl BodyEnd {
     /// The result for a body that stops so, with the bytes that arrived.
     pub(crate) fn into_body(self, body: Vec<u8>) -> BodyRead
         ensures { result ≡ stopped self body }
     {
         match self {
-            Stop::Ended | Stop::Failed => BodyRead::Cut(body),
-            Stop::Bad => BodyRead::Fault(WireFault::BadFraming),
-            Stop::NoMemory => BodyRead::Fault(WireFault::NoMemory),
+            BodyEnd::Ended | BodyEnd::Failed => BodyRead::Cut(body),
+            BodyEnd::Bad => BodyRead::Fault(WireFault::BadFraming),
+            BodyEnd::NoMemory => BodyRead::Fault(WireFault::NoMemory),
         }
     }
 }
@@ -99,7 +99,7 @@ fn read_front<R: Source>(
     interruptions: &mut u32,
     body: &mut Vec<u8>,
     size: u64,
-) -> Result<(), Stop>
+) -> Result<(), BodyEnd>
     requires patient { interruptions.old < max_interruptions }
     requires empty { body.old.items ≡ [] }
     requires bounded { IsBounded body.old }
@@ -112,8 +112,8 @@ fn read_front<R: Source>(
     }
     match take_step(source, interruptions) {
         Step::Byte(first) => read_large_front(source, interruptions, body, size, first),
-        Step::Ended => Err(Stop::Ended),
-        Step::Failed => Err(Stop::Failed),
+        Step::Ended => Err(BodyEnd::Ended),
+        Step::Failed => Err(BodyEnd::Failed),
     }
 }
 
@@ -126,7 +126,7 @@ fn read_large_front<R: Source>(
     body: &mut Vec<u8>,
     size: u64,
     first: u8,
-) -> Result<(), Stop>
+) -> Result<(), BodyEnd>
     requires patient { interruptions.old < max_interruptions }
     requires empty { body.old.items ≡ [] }
     requires large { large ≤ size }
@@ -143,11 +143,11 @@ fn read_large_front<R: Source>(
             Batch::Came(count) => filled += count,
             Batch::Ended => {
                 put_front(body, &front[..filled], size)?;
-                return Err(Stop::Ended);
+                return Err(BodyEnd::Ended);
             }
             Batch::Failed => {
                 put_front(body, &front[..filled], size)?;
-                return Err(Stop::Failed);
+                return Err(BodyEnd::Failed);
             }
         }
     }
@@ -155,22 +155,22 @@ fn read_large_front<R: Source>(
 }
 
 /// Copies the start of a body into it, with room for as many bytes again, but for at most `size` in all.
-fn put_front(body: &mut Vec<u8>, front: &[u8], size: u64) -> Result<(), Stop>
+fn put_front(body: &mut Vec<u8>, front: &[u8], size: u64) -> Result<(), BodyEnd>
     requires empty { body.old.items ≡ [] }
     requires some { 0 < length front.now }
     requires within { length front.now ≤ size }
     requires bounded { IsBounded body.old }
-    ensures memory { IfErr result (λ stop. stop ≡ Stop.NoMemory) }
+    ensures memory { IfErr result (λ stop. stop ≡ BodyEnd.NoMemory) }
     ensures items { OnOk result (body.new.items ≡ front.now) }
     ensures bounded { OnOk result (IsBounded body.new) }
 {
     if !make_room(body, size, 2 * front.len()) {
-        return Err(Stop::NoMemory);
+        return Err(BodyEnd::NoMemory);
     }
     let room = body.capacity();
     // std does not promise that filling a buffer takes no more room than there is.
     if body.extend_from_slice(front).is_err() || body.capacity() > room {
-        return Err(Stop::NoMemory);
+        return Err(BodyEnd::NoMemory);
     }
     Ok(())
 }
@@ -182,7 +182,7 @@ pub(crate) fn read_bytes<R: Source>(
     body: &mut Vec<u8>,
     size: u64,
     most: u64,
-) -> Result<(), Stop>
+) -> Result<(), BodyEnd>
     requires patient { interruptions.old < max_interruptions }
     requires within { (vec_len body.old ≤ size) × (size ≤ most) }
     requires bounded { IsBounded body.old }
@@ -190,22 +190,22 @@ pub(crate) fn read_bytes<R: Source>(
         interruptions.old interruptions.new
         (λ run ending. (body.new.items ≡ body.old.items ++ run)
         × IsBytesRead size body.new.items ending result) }
-    ensures bounded { (result ≡ Err Stop.NoMemory) ⊎ IsBounded body.new }
+    ensures bounded { (result ≡ Err BodyEnd.NoMemory) ⊎ IsBounded body.new }
 {
     let mut filled = body.len();
     'batches: while (filled as u64) < size {
         if !make_ready(body, filled, size, most) {
-            return Err(Stop::NoMemory);
+            return Err(BodyEnd::NoMemory);
         }
         match fill(source, interruptions, body.as_mut_slice(), filled) {
             Batch::Came(count) => filled += count,
             Batch::Ended => {
                 body.truncate(filled);
-                return Err(Stop::Ended);
+                return Err(BodyEnd::Ended);
             }
             Batch::Failed => {
                 body.truncate(filled);
-                return Err(Stop::Failed);
+                return Err(BodyEnd::Failed);
             }
         }
     }
@@ -217,14 +217,14 @@ const FIRST_ROOM: usize = 8192;
 
 /// The maximum number of bytes that are asked for at a time. This many places stay in the processor's cache from when
 /// they are made ready until they are filled.
-const MOST_READY: usize = 1 << 18;
+const MAX_READY: usize = 1 << 18;
 
 /// Whether `ready` places after the first `filled` bytes are enough to read into: all that are wanted, or a good part
 /// of the maximum that can be made ready at a time.
 fn is_enough(ready: usize, filled: usize, wanted: u64) -> bool
     ensures { result ≡ true → (0 < wanted → 0 < ready) }
 {
-    ready as u64 == wanted || ready > filled.min(MOST_READY) / 4 && ready > 0
+    ready as u64 == wanted || ready > filled.min(MAX_READY) / 4 && ready > 0
 }
 
 /// Makes places ready after the first `filled` bytes, for some of the bytes up to `size`, so that they can be read
@@ -247,7 +247,7 @@ fn make_ready(body: &mut Vec<u8>, filled: usize, size: u64, most: u64) -> bool
         return false;
     }
     let room = body.capacity();
-    let wanted = (size - filled as u64).min(MOST_READY as u64) as usize;
+    let wanted = (size - filled as u64).min(MAX_READY as u64) as usize;
     let ready = wanted.min(room - filled);
     // std does not promise that filling a buffer takes no more room than there is.
     if body.resize(filled + ready, 0).is_err() || body.capacity() > room {

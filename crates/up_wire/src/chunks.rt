@@ -5,7 +5,7 @@ ghost use Rattle.up_wire.specs.Limits.{max_interruptions};
 ghost use Rattle.up_wire.specs.Steps.{HasRead, IsBodyRead, HasBoundedBody, IsLineRead, IsByteRead, IsCrlfRead};
 ghost use Rattle.up_wire.specs.Steps.{AreParsed, IsStopBehind, AreTrailersRead};
 
-use crate::body::{BodyRead, Stop, read_bytes};
+use crate::body::{BodyEnd, BodyRead, read_bytes};
 use crate::device::Source;
 use crate::framing::Framing;
 use crate::head::MAX_FIELDS;
@@ -64,7 +64,7 @@ fn read_line<R: Source>(
     source: &mut R,
     interruptions: &mut u32,
     text: &mut Vec<u8>,
-) -> Result<u64, Stop>
+) -> Result<u64, BodyEnd>
     requires { interruptions.old < max_interruptions }
     ensures { HasRead (R.device source.old) (R.device source.new)
         interruptions.old interruptions.new
@@ -74,18 +74,18 @@ fn read_line<R: Source>(
     match take_line(source, interruptions, text, MAX_LINE) {
         Line::Whole => match parse_chunk_size(text) {
             Ok(Status::Complete((_, size))) => Ok(size),
-            Ok(Status::Partial) => Err(Stop::Bad),
-            Err(_) => Err(Stop::Bad),
+            Ok(Status::Partial) => Err(BodyEnd::Bad),
+            Err(_) => Err(BodyEnd::Bad),
         },
-        Line::Full => Err(Stop::Bad),
-        Line::Ended => Err(Stop::Ended),
-        Line::Failed => Err(Stop::Failed),
-        Line::NoMemory => Err(Stop::NoMemory),
+        Line::Full => Err(BodyEnd::Bad),
+        Line::Ended => Err(BodyEnd::Ended),
+        Line::Failed => Err(BodyEnd::Failed),
+        Line::NoMemory => Err(BodyEnd::NoMemory),
     }
 }
 
 /// Reads the CRLF after a chunk.
-fn read_crlf<R: Source>(source: &mut R, interruptions: &mut u32) -> Result<(), Stop>
+fn read_crlf<R: Source>(source: &mut R, interruptions: &mut u32) -> Result<(), BodyEnd>
     requires { interruptions.old < max_interruptions }
     ensures { HasRead (R.device source.old) (R.device source.new)
         interruptions.old interruptions.new
@@ -98,7 +98,7 @@ fn read_crlf<R: Source>(source: &mut R, interruptions: &mut u32) -> Result<(), S
 }
 
 /// Reads this byte.
-fn read_byte<R: Source>(source: &mut R, interruptions: &mut u32, wanted: u8) -> Result<(), Stop>
+fn read_byte<R: Source>(source: &mut R, interruptions: &mut u32, wanted: u8) -> Result<(), BodyEnd>
     requires { interruptions.old < max_interruptions }
     ensures { HasRead (R.device source.old) (R.device source.new)
         interruptions.old interruptions.new
@@ -106,9 +106,9 @@ fn read_byte<R: Source>(source: &mut R, interruptions: &mut u32, wanted: u8) -> 
 {
     match take_step(source, interruptions) {
         Step::Byte(byte) if byte == wanted => Ok(()),
-        Step::Byte(_) => Err(Stop::Bad),
-        Step::Ended => Err(Stop::Ended),
-        Step::Failed => Err(Stop::Failed),
+        Step::Byte(_) => Err(BodyEnd::Bad),
+        Step::Ended => Err(BodyEnd::Ended),
+        Step::Failed => Err(BodyEnd::Failed),
     }
 }
 
@@ -134,14 +134,14 @@ fn parse_trailers(text: &[u8]) -> Trailers
 }
 
 /// Why trailers stopped after these whole lines: `stop`, or that the lines are malformed.
-fn stop_behind(lines: &[u8], stop: Stop) -> Stop
+fn stop_behind(lines: &[u8], stop: BodyEnd) -> BodyEnd
     requires { HasNoSection lines.now }
     ensures { IsStopBehind lines.now stop result }
 {
     match parse_trailers(lines) {
         Trailers::Whole => unreachable!(),
         Trailers::Partial => stop,
-        Trailers::Bad => Stop::Bad,
+        Trailers::Bad => BodyEnd::Bad,
     }
 }
 
@@ -151,7 +151,7 @@ fn read_trailers<R: Source>(
     alloc: Global,
     source: &mut R,
     interruptions: &mut u32,
-) -> Result<(), Stop>
+) -> Result<(), BodyEnd>
     requires { interruptions.old < max_interruptions }
     ensures { HasRead (R.device source.old) (R.device source.new)
         interruptions.old interruptions.new
@@ -166,14 +166,14 @@ fn read_trailers<R: Source>(
                     match parse_trailers(&text) {
                         Trailers::Whole => return Ok(()),
                         Trailers::Partial => {}
-                        Trailers::Bad => return Err(Stop::Bad),
+                        Trailers::Bad => return Err(BodyEnd::Bad),
                     }
                 }
             }
-            Line::Full => return Err(Stop::Bad),
-            Line::Ended => return Err(stop_behind(&text[..start], Stop::Ended)),
-            Line::Failed => return Err(stop_behind(&text[..start], Stop::Failed)),
-            Line::NoMemory => return Err(Stop::NoMemory),
+            Line::Full => return Err(BodyEnd::Bad),
+            Line::Ended => return Err(stop_behind(&text[..start], BodyEnd::Ended)),
+            Line::Failed => return Err(stop_behind(&text[..start], BodyEnd::Failed)),
+            Line::NoMemory => return Err(BodyEnd::NoMemory),
         }
     }
 }

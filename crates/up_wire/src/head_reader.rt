@@ -3,7 +3,7 @@ ghost use Rattle.std.specs.Prelude.{◌≡◌, ◌<◌, false};
 ghost use Rattle.httparse.specs.Grammar.{HasNoRequest};
 ghost use Rattle.up_wire.specs.Message.{is_crlfs};
 ghost use Rattle.up_wire.specs.Limits.{max_interruptions};
-ghost use Rattle.up_wire.specs.Steps.{HasRead, IsStanding, IsHeadRead};
+ghost use Rattle.up_wire.specs.Steps.{HasRead, IsFaultOfPartialHead, IsHeadRead};
 
 use crate::device::Source;
 use crate::head::{Head, MAX_FIELDS, Parsed, parse};
@@ -45,7 +45,7 @@ fn is_blank(mut text: &[u8]) -> bool
 /// The fault of bytes that are no head: `waiting` if they can still become one.
 fn fault_of(text: &[u8], waiting: WireFault) -> WireFault
     requires { HasNoRequest text.now }
-    ensures { IsStanding text.now waiting result }
+    ensures { IsFaultOfPartialHead text.now waiting result }
 {
     let mut spans = [EMPTY_HEADER_SPAN; MAX_FIELDS];
     match parse_request(text, &mut spans) {

@@ -4,7 +4,7 @@ ghost use Rattle.std.specs.Prelude.{◌≡◌, ◌*◌, ◌<◌, ◌≤◌, true
 /// A buffer of at most this many bytes grows by a copy of its bytes into new memory. A larger buffer grows in place, or
 /// its pages are moved. The C library would copy a small buffer too, but while it holds the lock that all threads
 /// share.
-const MOST_COPIED: usize = 1 << 19;
+const MAX_COPIED: usize = 1 << 19;
 
 /// Makes room for at least one byte in a buffer that may grow to `most` bytes. A buffer that is nearly full doubles, or
 /// gets `first` bytes of room at first, but no more than `most`. Returns whether there is room.
@@ -22,7 +22,7 @@ pub(crate) fn make_room(buffer: &mut Vec<u8>, most: u64, first: usize) -> bool
     }
     let growth = first.saturating_sub(len).max(len);
     let growth = (growth as u64).min(most - len as u64) as usize;
-    if len > MOST_COPIED {
+    if len > MAX_COPIED {
         return buffer.reserve_exact(growth).is_ok();
     }
     move_to_room(buffer, len + growth)

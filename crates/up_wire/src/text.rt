@@ -3,7 +3,7 @@ ghost use Rattle.std.specs.Prelude.{◌<◌, ◌≤◌, OnOk, OnErr};
 ghost use Rattle.std.specs.Io.KnownBytes.{Keeps};
 ghost use Rattle.up_wire.specs.Device.{GaveUp, interrupted};
 ghost use Rattle.up_wire.specs.Limits.{max_interruptions};
-ghost use Rattle.up_wire.specs.Response.{Writes, joined};
+ghost use Rattle.up_wire.specs.Response.{Writes, joined_slices};
 
 use crate::device::Sink;
 use crate::write::{send_on, write_each};
@@ -18,7 +18,7 @@ pub struct WriteFailed;
 /// prefix of the text may then be written.
 pub fn write_pieces<W: Sink>(sink: &mut W, pieces: &[&[u8]]) -> Result<(), WriteFailed>
     ensures written { Writes (W.device sink.old).bytes (W.device sink.new).bytes
-        (joined pieces.now) result }
+        (joined_slices pieces.now) result }
     ensures patient { OnOk result
         (interrupted (W.device sink.old) (W.device sink.new) < max_interruptions) }
     ensures failed { OnErr result

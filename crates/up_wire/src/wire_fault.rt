@@ -35,12 +35,12 @@ pub enum WireFault {
 }
 
 impl WireFault {
-    ghost use Rattle.up_wire.specs.WireFaults.{status_of, line_of};
+    ghost use Rattle.up_wire.specs.WireFaults.{wire_fault_status, wire_fault_line};
 
     /// The status code of the response (RFC 9110, section 15). `ReadFailed` and `WriteFailed` get no response, and have
     /// no status.
     pub fn status(&self) -> Option<u16>
-        ensures { result ≡ status_of self.now }
+        ensures { result ≡ wire_fault_status self.now }
     {
         match self {
             WireFault::BadHead | WireFault::BadFraming => Some(400),
@@ -54,7 +54,7 @@ impl WireFault {
 
     /// The body of the response: a line with the number of the fault and its name.
     pub fn text(&self) -> &'static str
-        ensures { result.now ≡ line_of self.now }
+        ensures { result.now ≡ wire_fault_line self.now }
     {
         match self {
             WireFault::BadHead => "1 BadHead\n",

@@ -3,7 +3,7 @@ ghost use Rattle.std.specs.Prelude.{◌≡◌, ◌<◌, false, length};
 ghost use Rattle.std.specs.Io.KnownBytes.{Keeps};
 ghost use Rattle.up_wire.specs.Framing.{has_body, interim};
 ghost use Rattle.up_wire.specs.Device.{Tries};
-ghost use Rattle.up_wire.specs.Response.{joined};
+ghost use Rattle.up_wire.specs.Response.{joined_slices};
 ghost use Rattle.up_wire.specs.Steps.{HasWritten};
 ghost use Rattle.up_wire.specs.Limits.{max_interruptions};
 
@@ -39,7 +39,7 @@ pub(crate) fn write_all<W: Sink>(sink: &mut W, bytes: &[u8], interruptions: &mut
 pub(crate) fn write_each<W: Sink>(sink: &mut W, pieces: &[&[u8]], interruptions: &mut u32) -> bool
     requires { interruptions.old < max_interruptions }
     ensures { HasWritten (W.device sink.old) (W.device sink.new)
-        interruptions.old interruptions.new (joined pieces.now) result }
+        interruptions.old interruptions.new (joined_slices pieces.now) result }
 {
     for piece in pieces {
         if !write_all(sink, piece, interruptions) {

@@ -2,17 +2,17 @@
 use Rattle.std.specs.Prelude.{ℕ}
 
 -- the maximum number of items in the queue of a lane
-abbrev pub most_capacity : ℕ
-most_capacity = 4096
+abbrev pub max_capacity : ℕ
+max_capacity = 4096
 
 -- the maximum number of connections after which a server can be asked to end
-abbrev pub most_connections : ℕ
-most_connections = 65536
+abbrev pub max_connections : ℕ
+max_connections = 65536
 
 -- the maximum number of connections that are open at a time
-abbrev pub most_open : ℕ
-most_open = 4096
+abbrev pub max_open : ℕ
+max_open = 4096
 
 -- the greatest possible shard
-abbrev pub most_shard : ℕ
-most_shard = 255
+abbrev pub max_shard : ℕ
+max_shard = 255

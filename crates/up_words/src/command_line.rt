@@ -3,14 +3,14 @@ ghost use Rattle.std.specs.Prelude.{◌≡◌, ◌≤◌, IfOk, IfSome, option_m
 ghost use Rattle.clap.specs.Words.{first_value, found_of};
 
 use crate::settings::{
-    MOST_CAPACITY, MOST_CONNECTIONS, MOST_GRACE, MOST_OPEN, MOST_PATIENCE, MOST_SHARD, MOST_STATUS,
+    MAX_CAPACITY, MAX_CONNECTIONS, MAX_GRACE, MAX_OPEN, MAX_PATIENCE, MAX_SHARD, MAX_STATUS,
     Serving, Settings, Words,
 };
 use clap::builder::ValueParser;
 use clap::error::ErrorKind;
 use clap::{Arg, ArgAction, ArgMatches, Command, Error};
 use std::alloc::{AllocError, Global};
-use up_events::{MOST_BYTES, MOST_LANES};
+use up_events::{MAX_LANES, MAX_UPLOAD_BYTES};
 
 /// The output of `--version`: the version of the program, and the logic of the toolchain that proved it, as in
 /// `rt version`.
@@ -66,19 +66,19 @@ struct Word<'a> {
 const COMMON: [Word<'static>; 7] = [
     Word {
         name: "lanes",
-        kind: Kind::Number(1, MOST_LANES),
+        kind: Kind::Number(1, MAX_LANES),
         default: Some("2"),
         help: "How many lanes hand events over, from 1 to 16",
     },
     Word {
         name: "capacity",
-        kind: Kind::Number(1, MOST_CAPACITY),
+        kind: Kind::Number(1, MAX_CAPACITY),
         default: Some("16"),
         help: "How many items the queue of a lane holds, from 1 to 4096",
     },
     Word {
         name: "max-size",
-        kind: Kind::Number(1, MOST_BYTES),
+        kind: Kind::Number(1, MAX_UPLOAD_BYTES),
         default: Some("1048576"),
         help: "The most bytes of an upload, from 1 to 1073741824",
     },
@@ -118,31 +118,31 @@ const CONNECTIONS: [Word<'static>; 11] = [
     },
     Word {
         name: "connections",
-        kind: Kind::Number(1, MOST_CONNECTIONS),
+        kind: Kind::Number(1, MAX_CONNECTIONS),
         default: None,
         help: "End and report after N connections, from 1 to 65536; without it the server goes on",
     },
     Word {
         name: "open",
-        kind: Kind::Number(1, MOST_OPEN),
+        kind: Kind::Number(1, MAX_OPEN),
         default: Some("1024"),
         help: "How many connections are open at a time, from 1 to 4096; others wait",
     },
     Word {
         name: "patience",
-        kind: Kind::Number(1, MOST_PATIENCE),
+        kind: Kind::Number(1, MAX_PATIENCE),
         default: None,
         help: "End a connection on which no byte moves for N seconds, from 1 to 86400",
     },
     Word {
         name: "least-rate",
-        kind: Kind::Number(1, MOST_BYTES),
+        kind: Kind::Number(1, MAX_UPLOAD_BYTES),
         default: None,
         help: "End a connection whose request comes at fewer than N bytes a second for more than 10 seconds",
     },
     Word {
         name: "status",
-        kind: Kind::Number(1, MOST_STATUS),
+        kind: Kind::Number(1, MAX_STATUS),
         default: None,
         help: "Say on standard error every N seconds, from 1 to 86400, and at the end how the server stands",
     },
@@ -160,13 +160,13 @@ const CONNECTIONS: [Word<'static>; 11] = [
     },
     Word {
         name: "grace",
-        kind: Kind::Number(1, MOST_GRACE),
+        kind: Kind::Number(1, MAX_GRACE),
         default: Some("10"),
         help: "How many seconds the events that are left have then, from 1 to 86400",
     },
     Word {
         name: "shard",
-        kind: Kind::Number(0, MOST_SHARD),
+        kind: Kind::Number(0, MAX_SHARD),
         default: None,
         help: "Begin the ids of new uploads with the byte N, from 0 to 255, by which a proxy finds this server",
     },
@@ -253,7 +253,7 @@ fn number_of(matches: &ArgMatches<'_>, id: &str, most: u64) -> Option<u64>
 /// The byte of a shard, if it is given. `clap` has checked its limits.
 fn shard_of(serve: &ArgMatches<'_>) -> Option<u8> {
     let number = serve.get_one::<u64>("shard")?;
-    Some(number.min(MOST_SHARD) as u8)
+    Some(number.min(MAX_SHARD) as u8)
 }
 
 /// A text from the command line, if it is given.
@@ -271,14 +271,14 @@ fn text_of(alloc: Global, matches: &ArgMatches<'_>, id: &str) -> Result<Option<S
 fn serving_of(alloc: Global, serve: &ArgMatches<'_>) -> Result<Serving, AllocError> {
     Ok(Serving {
         address: text_of(alloc, serve, "address")?.unwrap_or(String::new(alloc)),
-        connections: number_of(serve, "connections", MOST_CONNECTIONS),
-        open: value_of(serve, "open", MOST_OPEN),
-        patience: number_of(serve, "patience", MOST_PATIENCE),
-        least_rate: number_of(serve, "least-rate", MOST_BYTES),
-        status: number_of(serve, "status", MOST_STATUS),
+        connections: number_of(serve, "connections", MAX_CONNECTIONS),
+        open: value_of(serve, "open", MAX_OPEN),
+        patience: number_of(serve, "patience", MAX_PATIENCE),
+        least_rate: number_of(serve, "least-rate", MAX_UPLOAD_BYTES),
+        status: number_of(serve, "status", MAX_STATUS),
         events: serve.get_flag("events"),
         until_eof: serve.get_flag("until-eof"),
-        grace: value_of(serve, "grace", MOST_GRACE),
+        grace: value_of(serve, "grace", MAX_GRACE),
         shard: shard_of(serve),
         store: text_of(alloc, serve, "store")?,
     })
@@ -292,9 +292,9 @@ fn words_of(
 ) -> Result<Words, AllocError> {
     Ok(Words {
         settings: Settings {
-            lanes: value_of(matches, "lanes", MOST_LANES),
-            capacity: value_of(matches, "capacity", MOST_CAPACITY),
-            max_size: value_of(matches, "max-size", MOST_BYTES),
+            lanes: value_of(matches, "lanes", MAX_LANES),
+            capacity: value_of(matches, "capacity", MAX_CAPACITY),
+            max_size: value_of(matches, "max-size", MAX_UPLOAD_BYTES),
         },
         require_key: text_of(alloc, matches, "require-key")?,
         max_length: matches.get_one::<u64>("max-length"),

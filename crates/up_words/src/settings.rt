@@ -1,37 +1,37 @@
 //! The settings of a run of the server.
 ghost use Rattle.std.specs.Prelude.{◌≡◌, ℕ, ◌≤◌, Some, option_and_then};
-ghost use Rattle.up_events.specs.declared.limits.TheConstants.{MOST_BYTES, MOST_LANES};
-ghost use Rattle.up_words.specs.Limits.{most_capacity, most_connections, most_open, most_shard};
-ghost use Rattle.up_words.specs.declared.settings.TheConstants.{MOST_CAPACITY, MOST_CONNECTIONS, MOST_OPEN};
+ghost use Rattle.up_events.specs.declared.limits.TheConstants.{MAX_UPLOAD_BYTES, MAX_LANES};
+ghost use Rattle.up_words.specs.Limits.{max_capacity, max_connections, max_open, max_shard};
+ghost use Rattle.up_words.specs.declared.settings.TheConstants.{MAX_CAPACITY, MAX_CONNECTIONS, MAX_OPEN};
 
 /// The maximum number of items in the queue of a lane.
-pub const MOST_CAPACITY: u64 = 4096;
+pub const MAX_CAPACITY: u64 = 4096;
 
 /// The maximum number of connections after which a server can be asked to end.
-pub const MOST_CONNECTIONS: u64 = 65_536;
+pub const MAX_CONNECTIONS: u64 = 65_536;
 
 /// The maximum number of connections that are open at a time.
-pub const MOST_OPEN: u64 = 4096;
+pub const MAX_OPEN: u64 = 4096;
 
 /// The greatest possible shard, a byte.
-pub const MOST_SHARD: u64 = 255;
+pub const MAX_SHARD: u64 = 255;
 
 /// The constants are exactly the numbers in `specs/Limits.antt`.
 pub fn limits_are_exact()
-    ensures capacity { MOST_CAPACITY ≡ most_capacity }
-    ensures connections { MOST_CONNECTIONS ≡ most_connections }
-    ensures at_a_time { MOST_OPEN ≡ most_open }
-    ensures shard { MOST_SHARD ≡ most_shard }
+    ensures capacity { MAX_CAPACITY ≡ max_capacity }
+    ensures connections { MAX_CONNECTIONS ≡ max_connections }
+    ensures at_a_time { MAX_OPEN ≡ max_open }
+    ensures shard { MAX_SHARD ≡ max_shard }
 {}
 
 /// The maximum number of seconds for which a connection may be silent: a day.
-pub const MOST_PATIENCE: u64 = 86_400;
+pub const MAX_PATIENCE: u64 = 86_400;
 
 /// The maximum number of seconds between two lines about the state of the server: a day.
-pub const MOST_STATUS: u64 = 86_400;
+pub const MAX_STATUS: u64 = 86_400;
 
 /// The maximum number of seconds for the lanes after the end of a run: a day.
-pub const MOST_GRACE: u64 = 86_400;
+pub const MAX_GRACE: u64 = 86_400;
 
 /// The size of a server.
 #[derive(Clone, Copy, Debug, PartialEq, Eq)]
@@ -42,9 +42,9 @@ pub struct Settings {
     pub capacity: u64,
     /// The maximum number of bytes of an upload and of a message's body, from 1 to 2^30.
     pub max_size: u64,
-    ghost lanes_within: { (1 ≤ lanes) × (lanes ≤ MOST_LANES) },
-    ghost capacity_within: { (1 ≤ capacity) × (capacity ≤ MOST_CAPACITY) },
-    ghost max_size_within: { (1 ≤ max_size) × (max_size ≤ MOST_BYTES) },
+    ghost lanes_within: { (1 ≤ lanes) × (lanes ≤ MAX_LANES) },
+    ghost capacity_within: { (1 ≤ capacity) × (capacity ≤ MAX_CAPACITY) },
+    ghost max_size_within: { (1 ≤ max_size) × (max_size ≤ MAX_UPLOAD_BYTES) },
 }
 
 impl Default for Settings {
@@ -84,8 +84,8 @@ pub struct Serving {
     pub shard: Option<u8>,
     /// The folder that keeps uploads and changes. `None` if they are only in memory.
     pub store: Option<String>,
-    ghost connections_within: { (count : ℕ) → connections ≡ Some count → (1 ≤ count) × (count ≤ MOST_CONNECTIONS) },
-    ghost open_within: { (1 ≤ «open») × («open» ≤ MOST_OPEN) },
+    ghost connections_within: { (count : ℕ) → connections ≡ Some count → (1 ≤ count) × (count ≤ MAX_CONNECTIONS) },
+    ghost open_within: { (1 ≤ «open») × («open» ≤ MAX_OPEN) },
 }
 
 /// What the command line asks for.

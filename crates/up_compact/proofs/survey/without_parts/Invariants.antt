@@ -1,5 +1,5 @@
-use Rattle.up_compact.specs.Surveys.{IsWithin}
+use Rattle.up_compact.specs.Surveys.{IsSubset}
 use Rattle.up_compact.proofs.survey.without_parts.Given as goal
 
 abbrev pub invariant-loop : goal.invariant-loop
-invariant-loop l = IsWithin l.ids l.fn.ended
+invariant-loop l = IsSubset l.ids l.fn.ended

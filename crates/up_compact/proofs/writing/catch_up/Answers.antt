@@ -2,7 +2,7 @@ use Rattle.std.proofs.Common.{◌≡◌, ◌∙◌, ◌+◌, ℕ, List, [], ◌�
 use Rattle.up_log.specs.Logs.{IsSettled, ReadsAt}
 use Rattle.up_log.specs.declared.entry.Entry.{Entry}
 use Rattle.up_compact.specs.Shorter.{kept}
-use Rattle.up_compact.specs.Surveys.{has}
+use Rattle.up_compact.specs.Surveys.{has_id}
 use Rattle.up_compact.specs.Writing.{HasEntries, carried_out, staying}
 use Rattle.up_compact.proofs.Adding.{count_more, staying_more}
 use Rattle.up_compact.proofs.writing.catch_up.Goals as goal
@@ -11,8 +11,8 @@ pub loop-entries-preserved : goal.loop-entries-preserved
 loop-entries-preserved g c = record {
   added = λ setup read left settled behind entries clean.
       let loop = c.loop-entries in
-      let voids = has c.args.left_out.now.voids in
-      let uploads = has c.args.left_out.now.uploads in
+      let voids = has_id c.args.left_out.now.voids in
+      let uploads = has_id c.args.left_out.now.uploads in
       let was = loop.invariant.added setup read left settled behind entries (c.batch_at.ensures.clean clean) in
       let now = subst (IsSettled g.D.Disk loop.log setup) (sym was.2) (loop.invariant.kept setup (read ++ left) settled) in
       let next = subst (λ (f : Option (List Entry × ℕ)). ReadsAt setup was.0 was.1 (Ok f)) c.in-Some.is (c.in_ok-entries.ensures.reads setup was.0 was.1 now was.3.0 clean) in

@@ -1,9 +1,9 @@
 use Rattle.std.specs.Prelude.{◌≡◌}
-use Rattle.up_hooks.specs.Gives.{ClosuresGive}
+use Rattle.up_hooks.specs.MayAnswer.{ClosuresMayAnswer}
 use Rattle.up_dispatch.specs.Answering.{Serves}
 use Rattle.up_dispatch.specs.Exchanges.{KeepsBorrows, stand_in}
 use Rattle.up_dispatch.specs.Keeps.{keeping}
-use Rattle.up_dispatch.specs.Turn.{Passes}
+use Rattle.up_dispatch.specs.Turn.{TurnsLeadTo}
 use Rattle.up_dispatch.proofs.conversation.converse.Given as goal
 
 abbrev pub invariant-loop-turn : goal.invariant-loop-turn
@@ -13,7 +13,7 @@ invariant-loop-turn g l =
     record {
       lender : keeper.lender l.keeper ≡ keeper.lender l.initial.keeper;
       borrows : KeepsBorrows l.initial.exchange l.exchange;
-      passes : Passes (Serves (keeping keeper.plans keeper.commits (ClosuresGive l.hooks)) g.I.Ids.draws) l.max_size l.turn
+      passes : TurnsLeadTo (Serves (keeping keeper.plans keeper.commits (ClosuresMayAnswer l.hooks)) g.I.Ids.draws) l.max_size l.turn
           (at (keeper.state l.initial.keeper) l.initial.exchange)
           (at (keeper.state l.keeper) l.exchange);
     }

@@ -2,7 +2,7 @@ use Rattle.std.proofs.Common.{rules, inl, inr, ◌+◌, take, drop, sym, arith, 
 use Rattle.std.proofs.Math.Seq.{split_at}
 use Rattle.std.proofs.lemmas.List.{take_all}
 use Rattle.std.proofs.lemmas.List.Elements.{All-more}
-use Rattle.up_hooks.specs.Gives.{LetsPass}
+use Rattle.up_hooks.specs.MayAnswer.{LetsPassOrAllows}
 use Rattle.up_hooks.proofs.pre_hooks.ask_each.Goals as goal
 use Rattle.up_hooks.proofs.pre_hooks.ask_each.Goals.{then-is_of+in_default, else-is_of}
 
@@ -18,7 +18,7 @@ returns-in-Refuse-clause-closures g c = (
 )
 
 pub loop-hook-preserved : goal.loop-hook-preserved
-loop-hook-preserved g c = All-more (LetsPass c.args.ask.now) c.args.hooks.now c.loop-hook.hook-index c.hook-item.result (omega arith) c.loop-hook.invariant
+loop-hook-preserved g c = All-more (LetsPassOrAllows c.args.ask.now) c.args.hooks.now c.loop-hook.hook-index c.hook-item.result (omega arith) c.loop-hook.invariant
     (rw (← c.hook-item.is) (elim c.if-is_of.branch [ then-is_of+in_default w ↦ (λ e. w.in_default.ensures.answer) | else-is_of w ↦ (λ e. absurd (search rules)) ]))
 
 pub returns-in-Create : goal.returns-in-Create

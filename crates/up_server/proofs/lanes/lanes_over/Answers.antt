@@ -3,8 +3,8 @@ use Rattle.std.specs.Iterator.Adapters.{zip_first, zip_second}
 use Rattle.std.specs.Vec.Iter.{into_iter_items}
 use Rattle.up_dispatch.proofs.Drops.{at_drop}
 use Rattle.up_dispatch.proofs.Each.{EachAt-more}
-use Rattle.up_lanes.specs.LaneSides.{LaneSide, lane_side}
-use Rattle.up_queue.specs.Sides.{TakeSide}
+use Rattle.up_lanes.specs.LaneViews.{LaneView, lane_view}
+use Rattle.up_queue.specs.EndViews.{TakeEndView}
 use Rattle.up_server.proofs.lanes.lanes_over.Goals as goal
 
 pub loop-take_end-preserved : goal.loop-take_end-preserved
@@ -20,7 +20,7 @@ loop-take_end-preserved g c =
     let more : vec_len c.push.new.self ≡ done + 1 = search rules in
     let next : suc done ≡ vec_len c.push.new.self = omega (arith, more) in
     let count : length lanes ≡ done = omega (arith, c.loop-take_end.lanes.ok.0) in
-    let P : ℕ → LaneSide g.row.H.Denot → Type 0 = λ k x. (e : TakeSide) (h : g.row.H.Denot) → x ≡ lane_side k (get_or takes k e).queue [] false (get_or hooks k h) in
+    let P : ℕ → LaneView g.row.H.Denot → Type 0 = λ k x. (e : TakeEndView) (h : g.row.H.Denot) → x ≡ lane_view k (get_or takes k e).queue [] false (get_or hooks k h) in
     let number : c.len-in-loop-take_end.result ≡ length lanes = c.len-in-loop-take_end.ensures ∙ sym count in
     record {
       takes = omega (arith, more, step.0.1, was.takes);
@@ -30,5 +30,5 @@ loop-take_end-preserved g c =
       lanes = rw c.in_ok-push.ensures.items (EachAt-more P lanes c.new.result was.lanes
           (λ e h. let is : c.in-Some.take_end ≡ get_or takes (length lanes) e = sym (at.1 e) ∙ ap (λ n. get_or takes n e) (sym count) in
           let hook_is : c.in-Some.hook ≡ get_or hooks (length lanes) h = sym (at_hook.1 h) ∙ ap (λ n. get_or hooks n h) (sym count) in
-          c.new.ensures ∙ (λ i. lane_side (number i) (is i).queue [] false (hook_is i))));
+          c.new.ensures ∙ (λ i. lane_view (number i) (is i).queue [] false (hook_is i))));
     }

@@ -1,5 +1,5 @@
 use Rattle.std.specs.Prelude.{length, slice_index_or}
-use Rattle.up_queue.specs.Sides.{no_queue}
+use Rattle.up_queue.specs.EndViews.{no_queue}
 use Rattle.up_server.proofs.listening.serve_with.Given as goal
 
 abbrev pub ghosts-run-B-Ledger : goal.ghosts-run-B-Ledger

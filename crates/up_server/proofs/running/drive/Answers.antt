@@ -1,5 +1,5 @@
 use Rattle.std.proofs.Common.{rules, sym}
-use Rattle.up_hooks.specs.Gives.{ClosuresGive}
+use Rattle.up_hooks.specs.MayAnswer.{ClosuresMayAnswer}
 use Rattle.up_server.specs.Seats.{IsServedFrom}
 use Rattle.up_server.proofs.Seating.{come_back}
 use Rattle.up_server.proofs.running.drive.Goals as goal
@@ -9,5 +9,5 @@ returns-clause-served g c =
     let given = c.in_ok-ended in
     let a = c.args in
     come_back
-    (λ first source sink. IsServedFrom g.B.Naming.queue g.B.Naming.lanes (ClosuresGive a.hooks.now) g.B.Naming.max_size first given.seat (g.R.Source.device a.source.now) (g.R.Source.device source) (g.W.Sink.device a.sink.now) (g.W.Sink.device sink) given.ended)
+    (λ first source sink. IsServedFrom g.B.Naming.queue g.B.Naming.lanes (ClosuresMayAnswer a.hooks.now) g.B.Naming.max_size first given.seat (g.R.Source.device a.source.now) (g.R.Source.device source) (g.W.Sink.device a.sink.now) (g.W.Sink.device sink) given.ended)
     c.in-Some.seat _ given.source.now _ given.sink.now _ (sym c.in-Some.ensures) (search rules) (search rules) given.ensures.done.1.1

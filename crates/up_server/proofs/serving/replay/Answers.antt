@@ -1,5 +1,5 @@
 use Rattle.std.proofs.Common.{inr, rules, slice_index_or}
-use Rattle.up_queue.specs.Sides.{no_queue}
+use Rattle.up_queue.specs.EndViews.{no_queue}
 use Rattle.up_server.proofs.serving.replay.Goals as goal
 
 pub returns : goal.returns
@@ -12,7 +12,7 @@ returns g c =
       g.W.Sink.device sink,
       c.in-Ok-run.ensures.run,
       c.in-Ok-run.ensures.sound,
-      c.tell.ensures,
+      c.run_outcome.ensures,
     )
 
 pub run-requires-clause-lanes : goal.run-requires-clause-lanes

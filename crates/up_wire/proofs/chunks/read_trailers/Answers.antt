@@ -2,7 +2,7 @@ use Rattle.std.proofs.Common.{◌≡◌, ◌<◌, ◌≤◌, ◌++◌, length, t
 use Rattle.std.proofs.lemmas.Grind.{common_steps}
 use Rattle.httparse.specs.Grammar.{HasNoSection}
 use Rattle.up_wire.specs.Limits.{max_head}
-use Rattle.up_wire.specs.declared.body.Stop.TheVariants as Stop
+use Rattle.up_wire.specs.declared.body.BodyEnd.TheVariants as BodyEnd
 use Rattle.up_wire.specs.declared.chunks.Trailers.TheVariants as Trailers
 use Rattle.up_wire.specs.Steps.{AreParsed, IsStopBehind, is_line_end}
 use Rattle.up_wire.proofs.ChunkedTexts.{trailers_alone}
@@ -59,9 +59,9 @@ returns-in-Ended g c =
     let a = c.in-Ended.ensures.answer in
     let text = c.lines.text.items in
     let lines : take c.len-start.result c.deref-in-Ended.result.now ≡ text = front_of text a.input c.deref-in-Ended.result.now c.len-start.result (c.deref-in-Ended.ensures.value ∙ a.is.0) (omega (arith, c.len-start.ensures)) in
-    let stop = subst (λ t. IsStopBehind t Stop.Ended c.stop_behind.result) lines c.stop_behind.ensures in
+    let stop = subst (λ t. IsStopBehind t BodyEnd.Ended c.stop_behind.result) lines c.stop_behind.ensures in
     let short : length (text ++ a.input) < max_head = omega (arith, ap length a.is.0, a.is.1.1) in
-    record { input = text ++ a.input; ending = a.ending; took = took_on old.took a.took; is = trailers_stop text a.input a.ending Stop.Ended c.stop_behind.result stop old.no_section a.is.1.0 short (λ cut. (cut, a.is.1.2)) }
+    record { input = text ++ a.input; ending = a.ending; took = took_on old.took a.took; is = trailers_stop text a.input a.ending BodyEnd.Ended c.stop_behind.result stop old.no_section a.is.1.0 short (λ cut. (cut, a.is.1.2)) }
 
 pub returns-in-Failed : goal.returns-in-Failed
 returns-in-Failed g c =
@@ -69,9 +69,9 @@ returns-in-Failed g c =
     let a = c.in-Failed.ensures.answer in
     let text = c.lines.text.items in
     let lines : take c.len-start.result c.deref-in-Failed.result.now ≡ text = front_of text a.input c.deref-in-Failed.result.now c.len-start.result (c.deref-in-Failed.ensures.value ∙ a.is.0) (omega (arith, c.len-start.ensures)) in
-    let stop = subst (λ t. IsStopBehind t Stop.Failed c.stop_behind-in-Failed.result) lines c.stop_behind-in-Failed.ensures in
+    let stop = subst (λ t. IsStopBehind t BodyEnd.Failed c.stop_behind-in-Failed.result) lines c.stop_behind-in-Failed.ensures in
     let short : length (text ++ a.input) < max_head = omega (arith, ap length a.is.0, a.is.1.1) in
-    record { input = text ++ a.input; ending = a.ending; took = took_on old.took a.took; is = trailers_stop text a.input a.ending Stop.Failed c.stop_behind-in-Failed.result stop old.no_section a.is.1.0 short (λ cut. (cut, a.is.1.2)) }
+    record { input = text ++ a.input; ending = a.ending; took = took_on old.took a.took; is = trailers_stop text a.input a.ending BodyEnd.Failed c.stop_behind-in-Failed.result stop old.no_section a.is.1.0 short (λ cut. (cut, a.is.1.2)) }
 
 pub returns-in-NoMemory : goal.returns-in-NoMemory
 returns-in-NoMemory g c =

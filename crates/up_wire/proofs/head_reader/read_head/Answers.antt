@@ -3,7 +3,7 @@ use Rattle.std.proofs.lemmas.Grind.{common_steps}
 use Rattle.httparse.specs.Grammar.{HasNoRequest, NeverHasRequest}
 use Rattle.up_wire.specs.Message.{open_yet, failed, IsBlank}
 use Rattle.up_wire.specs.Limits.{max_head}
-use Rattle.up_wire.specs.Steps.{IsParsed, IsStanding, IsHeadRead, is_line_end}
+use Rattle.up_wire.specs.Steps.{IsParsed, IsFaultOfPartialHead, IsHeadRead, is_line_end}
 use Rattle.up_wire.specs.declared.wire_fault.WireFault.{WireFault}
 use Rattle.up_wire.specs.declared.wire_fault.WireFault.TheVariants.{ReadFailed, HeadTooLarge}
 use Rattle.up_wire.specs.declared.head.Parsed.TheVariants as Parsed
@@ -17,14 +17,14 @@ use Rattle.up_wire.proofs.Counting.{took_none, took_on, took_as, took_so}
 use Rattle.up_wire.proofs.head_reader.read_head.Goals as goal
 
 -- a read failed over bytes that are no head
-standing_failed : (text : List ℕ) (fault : WireFault) → IsStanding text ReadFailed fault → HasNoRequest text → length text < max_head
+standing_failed : (text : List ℕ) (fault : WireFault) → IsFaultOfPartialHead text ReadFailed fault → HasNoRequest text → length text < max_head
     → IsHeadRead text failed (HeadRead.Fault fault false)
 standing_failed text fault (inl (is, may)) none short = subst (λ f. IsHeadRead text failed (HeadRead.Fault f false)) (sym is) ((refl, none, short, may), refl)
 standing_failed text fault (inr (inl (is, never))) none short = subst (λ f. IsHeadRead text failed (HeadRead.Fault f false)) (sym is) (inl (omega arith, never), refl)
 standing_failed text fault (inr (inr (is, exceeds))) none short = subst (λ f. IsHeadRead text failed (HeadRead.Fault f false)) (sym is) (inl (omega arith, exceeds), refl)
 
 -- the limit was reached over bytes that are no head
-standing_full : (text : List ℕ) (fault : WireFault) → IsStanding text HeadTooLarge fault → HasNoRequest text → length text ≡ max_head
+standing_full : (text : List ℕ) (fault : WireFault) → IsFaultOfPartialHead text HeadTooLarge fault → HasNoRequest text → length text ≡ max_head
     → IsHeadRead text open_yet (HeadRead.Fault fault false)
 standing_full text fault (inl (is, may)) none full = subst (λ f. IsHeadRead text open_yet (HeadRead.Fault f false)) (sym is) (inr (full, none, may), refl)
 standing_full text fault (inr (inl (is, never))) none full = subst (λ f. IsHeadRead text open_yet (HeadRead.Fault f false)) (sym is) (inl (omega arith, never), refl)
@@ -112,7 +112,7 @@ returns-in-Full g c =
     let old = c.lines.invariant in
     let a = c.in-Full.ensures.answer in
     let text = c.lines.text.items in
-    let standing = subst (λ t. IsStanding t HeadTooLarge c.fault_of.result) (c.deref-in-Full.ensures.value ∙ a.is.0) c.fault_of.ensures in
+    let standing = subst (λ t. IsFaultOfPartialHead t HeadTooLarge c.fault_of.result) (c.deref-in-Full.ensures.value ∙ a.is.0) c.fault_of.ensures in
     let full : length (text ++ a.input) ≡ max_head = omega (arith, ap length a.is.0, a.is.1.1) in
     record {
       input = text ++ a.input;
@@ -153,7 +153,7 @@ returns-in-Failed g c =
     let old = c.lines.invariant in
     let a = c.in-Failed.ensures.answer in
     let text = c.lines.text.items in
-    let standing = subst (λ t. IsStanding t ReadFailed c.fault_of-in-Failed.result) (c.deref-in-Failed.ensures.value ∙ a.is.0) c.fault_of-in-Failed.ensures in
+    let standing = subst (λ t. IsFaultOfPartialHead t ReadFailed c.fault_of-in-Failed.result) (c.deref-in-Failed.ensures.value ∙ a.is.0) c.fault_of-in-Failed.ensures in
     let short : length (text ++ a.input) < max_head = omega (arith, ap length a.is.0, a.is.1.1) in
     record {
       input = text ++ a.input;

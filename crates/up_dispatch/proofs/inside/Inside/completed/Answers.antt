@@ -4,20 +4,20 @@ use Rattle.up_events.specs.declared.event.Accepted.{Accepted}
 use Rattle.up_events.specs.Log.{log_of}
 use Rattle.up_events.specs.Records.{lane_log}
 use Rattle.up_lanes.specs.HowOf.{is_drained}
-use Rattle.up_dispatch.specs.Fed.{IsFed}
+use Rattle.up_dispatch.specs.QueuedUpTo.{IsQueuedUpTo}
 use Rattle.up_dispatch.specs.Reports.{IsHandedOver, TellsUploads}
-use Rattle.up_dispatch.specs.Standing.{Standing}
+use Rattle.up_dispatch.specs.BoardView.{BoardView}
 use Rattle.up_dispatch.proofs.Uploads.{tells_uploads}
 use Rattle.up_dispatch.proofs.inside.Inside.completed.Goals as goal
 
-pub settle-lanes-requires-clause-fed : goal.settle-lanes-requires-clause-fed
-settle-lanes-requires-clause-fed g c κs within = λ k f e below.
+pub settle-lanes-requires-clause-queued : goal.settle-lanes-requires-clause-queued
+settle-lanes-requires-clause-queued g c κs within = λ k f e below.
     let book = c.self.inside.book in
     let lanes = c.args.lanes.items in
     let queue : (get_or lanes k e).take_end.queue ≡ g.B.Naming.queue k =
     All-get_or (λ x. x.take_end.queue ≡ g.B.Naming.queue x.lane) lanes k e (omega (arith, below, c.args.lanes.ok.0)) c.requires.queues ∙ ap g.B.Naming.queue (c.requires.all_lanes.1 k e (omega (arith, below, c.args.lanes.ok.0))) in
-    subst (λ q. IsFed q (lane_log book.journal k) book.closed (get_or c.self.inside.feeds.items k f)) (sym queue)
-    (c.self.invariant.fed k f (omega (arith, below, c.args.lanes.ok.0, c.requires.all_lanes.0, c.self.invariant.named, c.self.invariant.lanes, ap (λ (s : Standing). s.book.journal.lanes) c.self.view_is)))
+    subst (λ q. IsQueuedUpTo q (lane_log book.journal k) book.closed (get_or c.self.inside.cursors.items k f)) (sym queue)
+    (c.self.invariant.queued k f (omega (arith, below, c.args.lanes.ok.0, c.requires.all_lanes.0, c.self.invariant.named, c.self.invariant.lanes, ap (λ (s : BoardView). s.book.journal.lanes) c.self.view_is)))
 
 pub returns-clause-handed : goal.returns-clause-handed
 returns-clause-handed g c = λ k d within.

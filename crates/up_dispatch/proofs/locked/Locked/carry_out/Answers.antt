@@ -1,6 +1,6 @@
 use Rattle.std.proofs.Common.{not, subst, sym}
 use Rattle.up_commits.specs.Follows.{Following, IsBookOf}
-use Rattle.up_machine.specs.Decision.{Answers, decide}
+use Rattle.up_machine.specs.Decision.{IsExpectedOrNoMemory, decide}
 use Rattle.up_machine.specs.declared.plan.Asked.{Asked}
 use Rattle.up_dispatch.proofs.Tying.{ended, has_ended, tied_on}
 use Rattle.up_dispatch.proofs.locked.Locked.carry_out.Goals as goal
@@ -14,7 +14,7 @@ invariant_of-self g c =
     let wants = c.wants_memory-is_carried in
     let whole = c.self.invariant.0 in
     let going = rw (← c.self.view_is) at c.requires.going in
-    let answer = subst (λ (asked : Asked). Answers done.result.0 (decide inside.inside.book entry.request entry.id asked)) c.asked_of.ensures done.ensures.answer in
+    let answer = subst (λ (asked : Asked). IsExpectedOrNoMemory done.result.0 (decide inside.inside.book entry.request entry.id asked)) c.asked_of.ensures done.ensures.answer in
     let follows = has_ended inside.followed _ _ entry (not wants.result) c.begin.ensures c.end.ensures in (
       ended inside.followed _ entry (not wants.result) whole follows,
       λ tied. subst (λ (f : Following). IsBookOf N.lanes N.max_size f done.new.self.book) (sym follows)

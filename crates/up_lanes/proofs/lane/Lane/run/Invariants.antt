@@ -1,6 +1,6 @@
 use Rattle.std.proofs.Common.{◌≡◌}
 use Rattle.up_events.specs.Delivery.{IsPrefix}
-use Rattle.up_lanes.specs.LaneSides.{StaysAlike}
+use Rattle.up_lanes.specs.LaneViews.{StaysAlike}
 use Rattle.up_lanes.proofs.lane.Lane.run.Given as goal
 
 abbrev pub invariant-loop : goal.invariant-loop

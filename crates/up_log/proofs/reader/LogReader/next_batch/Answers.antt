@@ -1,7 +1,7 @@
 use Rattle.std.proofs.Common.{◌∙◌, ◌+◌, ℕ, List, [], ◌∷◌, ◌++◌, length, drop, sym, ap, subst}
 use Rattle.up_log.specs.declared.entry.Entry.{Entry}
 use Rattle.up_log.specs.Blocks.{blocks}
-use Rattle.up_log.specs.Logs.{IsPart, NextIs}
+use Rattle.up_log.specs.Logs.{IsFileReadUpTo, NextIs}
 use Rattle.up_log.specs.Spelling.{batch}
 use Rattle.up_log.proofs.Parts.{goes_on, tail_is}
 use Rattle.up_log.proofs.reader.LogReader.next_batch.Goals as goal
@@ -26,7 +26,7 @@ returns-clause-reads g c = λ setup read left reading clean.
       others,
       are,
       (
-        subst (λ (f : List ℕ). IsPart setup f c.in_ok-entries.gate len (read ++ c.in_ok-entries.entries ∷ []) others) (sym all) on,
+        subst (λ (f : List ℕ). IsFileReadUpTo setup f c.in_ok-entries.gate len (read ++ c.in_ok-entries.entries ∷ []) others) (sym all) on,
         λ d now. reading.1 d (c.begins_at.ensures.crash d (c.block_at.ensures.crash d now)) ∙ sym all,
       ),
     )

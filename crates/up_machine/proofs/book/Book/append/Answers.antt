@@ -1,7 +1,7 @@
 use Rattle.std.proofs.Common.{◌≡◌, Ok, Some, [], ◌∷◌, ◌++◌, length, refl, sym, ap, ◌∙◌, subst, rules}
 use Rattle.up_headers.specs.Rows.{first_that_holds}
 use Rattle.up_headers.specs.declared.request.Request.TheVariants as request
-use Rattle.up_machine.specs.Decision.{Answers, change_by, decide, rows_of}
+use Rattle.up_machine.specs.Decision.{IsExpectedOrNoMemory, change_by, decide, rows_of}
 use Rattle.up_machine.specs.Fits.{Fits}
 use Rattle.up_machine.specs.Responses.{reached_offset}
 use Rattle.up_machine.specs.State.{Contents, State, after}
@@ -9,8 +9,8 @@ use Rattle.up_machine.proofs.DecisionLemmas.{decided, refused_by}
 use Rattle.up_machine.proofs.FitsLemmas.{patch_takes, sound_after}
 use Rattle.up_machine.proofs.book.Book.append.Goals as goal
 
-pub take-requires-clause-room : goal.take-requires-clause-room
-take-requires-clause-room c =
+pub append-requires-clause-room : goal.append-requires-clause-room
+append-requires-clause-room c =
     let a = c.self.inside in
     let p = c.args.patch.now in
     let s : State = record { content = a.uploads; journal = a.journal; closed = a.closed; max_size = a.max_size } in
@@ -18,8 +18,8 @@ take-requires-clause-room c =
     let takes = patch_takes s p c.args.asked.now c.in_ok-step.step c.in-Some.change c.self.invariant c.in_ok-step.ensures made in
     takes.room
 
-pub take-requires-clause-follows : goal.take-requires-clause-follows
-take-requires-clause-follows c =
+pub append-requires-clause-follows : goal.append-requires-clause-follows
+append-requires-clause-follows c =
     let a = c.self.inside in
     let p = c.args.patch.now in
     let s : State = record { content = a.uploads; journal = a.journal; closed = a.closed; max_size = a.max_size } in
@@ -34,8 +34,8 @@ invariant_of-self-2 c =
     let s : State = record { content = a.uploads; journal = a.journal; closed = a.closed; max_size = a.max_size } in
     let made : change_by p.id c.in_ok-step.step.declared (length p.bytes) ≡ Some c.in-Some.change = ap (change_by p.id c.in_ok-step.step.declared) (sym c.len-count.ensures) ∙ sym c.change_by.ensures ∙ c.in-Some.is in
     let takes = patch_takes s p c.args.asked.now c.in_ok-step.step c.in-Some.change c.self.invariant c.in_ok-step.ensures made in
-    let put = takes.next c.take.new.self c.in_ok-take.ensures.ok in
-    sound_after s c.in-Some.change c.take.new.self c.take.new.journal c.self.invariant takes.can c.in_ok-take.ensures.noted
+    let put = takes.next c.append.new.self c.in_ok-append.ensures.ok in
+    sound_after s c.in-Some.change c.append.new.self c.append.new.journal c.self.invariant takes.can c.in_ok-append.ensures.noted
     (subst (λ (m : Contents). Fits m (a.journal.accepted ++ c.in-Some.change ∷ [])) (sym put) takes.fits)
 
 pub returns-in_err-step-clause-answer : goal.returns-in_err-step-clause-answer
@@ -43,7 +43,7 @@ returns-in_err-step-clause-answer c =
     let a = c.self.inside in
     let p = c.args.patch.now in
     let s : State = record { content = a.uploads; journal = a.journal; closed = a.closed; max_size = a.max_size } in
-    subst (λ (t : State). Answers c.from_residual.result (decide t (request.Patch p) 0 c.args.asked.now)) c.self.view_is
+    subst (λ (t : State). IsExpectedOrNoMemory c.from_residual.result (decide t (request.Patch p) 0 c.args.asked.now)) c.self.view_is
     (refused_by (first_that_holds (rows_of s (request.Patch p) 0 c.args.asked.now)) _ _ c.in_err-step.field-0.0 c.from_residual.result c.from_residual.ensures.1 c.in_err-step.ensures)
 
 pub returns-in_err-response-clause-answer : goal.returns-in_err-response-clause-answer
@@ -62,8 +62,8 @@ returns-in_default-clause-answer c =
     let is = subst (λ (t : State). decide t (request.Patch p) 0 c.args.asked.now ≡ Ok (record { response = reached_offset c.in_ok-step.step.offset; change = change_by p.id c.in_ok-step.step.declared (length p.bytes) })) c.self.view_is (decided s p c.args.asked.now c.in_ok-step.step c.in_ok-step.ensures) in
     rw is (search rules)
 
-pub returns-in_err-take-clause-answer : goal.returns-in_err-take-clause-answer
-returns-in_err-take-clause-answer c =
+pub returns-in_err-append-clause-answer : goal.returns-in_err-append-clause-answer
+returns-in_err-append-clause-answer c =
     let a = c.self.inside in
     let p = c.args.patch.now in
     let s : State = record { content = a.uploads; journal = a.journal; closed = a.closed; max_size = a.max_size } in
@@ -85,8 +85,8 @@ returns-clause-ok c =
     let s : State = record { content = a.uploads; journal = a.journal; closed = a.closed; max_size = a.max_size } in
     let made : change_by p.id c.in_ok-step.step.declared (length p.bytes) ≡ Some c.in-Some.change = ap (change_by p.id c.in_ok-step.step.declared) (sym c.len-count.ensures) ∙ sym c.change_by.ensures ∙ c.in-Some.is in
     let takes = patch_takes s p c.args.asked.now c.in_ok-step.step c.in-Some.change c.self.invariant c.in_ok-step.ensures made in
-    let put = takes.next c.take.new.self c.in_ok-take.ensures.ok in
+    let put = takes.next c.append.new.self c.in_ok-append.ensures.ok in
     let change : c.change_by-change.result ≡ Some c.in-Some.change = c.change_by-change.ensures ∙ sym c.change_by.ensures ∙ c.in-Some.is in
-    let new : State = record { content = c.take.new.self; journal = c.take.new.journal; closed = a.closed; max_size = a.max_size } in
-    let done : new ≡ after s (request.Patch p) 0 (Some c.in-Some.change) = rw (put, c.in_ok-take.ensures.noted) refl in
+    let new : State = record { content = c.append.new.self; journal = c.append.new.journal; closed = a.closed; max_size = a.max_size } in
+    let done : new ≡ after s (request.Patch p) 0 (Some c.in-Some.change) = rw (put, c.in_ok-append.ensures.noted) refl in
     subst (λ (t : State). new ≡ after t (request.Patch p) 0 c.change_by-change.result) c.self.view_is (done ∙ ap (after s (request.Patch p) 0) (sym change))

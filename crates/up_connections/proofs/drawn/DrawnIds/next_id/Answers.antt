@@ -1,5 +1,0 @@
-use Rattle.std.proofs.Common.{rules}
-use Rattle.up_connections.proofs.drawn.DrawnIds.next_id.Goals as goal
-
-pub returns : goal.returns
-returns c = search rules

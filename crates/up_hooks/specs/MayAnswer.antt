@@ -1,0 +1,51 @@
+-- The verdict of a server's closures together.
+use Rattle.std.specs.Prelude.{◌≡◌, ◌≢◌, List, ◌∷◌, ◌++◌, All}
+use Rattle.std.specs.Fn.{FnReturnsAt}
+use Rattle.std.specs.Borrow.{Bor}
+use denote.Param.Members.{Mut}
+use Rattle.up_machine.specs.declared.ask.Ask.{Ask}
+use Rattle.up_machine.specs.declared.ask.Point.{Point}
+use Rattle.up_machine.specs.declared.ask.Point.TheVariants.{Finish}
+use Rattle.up_machine.specs.declared.ask.Verdict.{Verdict}
+use Rattle.up_machine.specs.declared.ask.Verdict.TheVariants.{Allow, Refuse}
+use Rattle.up_machine.specs.declared.plan.Asked.{Asked}
+use Rattle.up_machine.specs.declared.plan.Asked.TheVariants as asked
+use Rattle.up_hooks.specs.declared.pre_hook.PreHook.{PreHook}
+use Rattle.up_hooks.specs.declared.pre_hooks.PreHooks.{PreHooks}
+
+module _ {X : Type 0} {F : X → Type 0} {g : Mut ((i : X) × F i) (Bor Ask × Unit {0}) Verdict} where
+  -- the point at which the closure is asked
+  abbrev pub point_of : PreHook X F g → Point
+  point_of hook = hook.point
+
+  -- the closure itself
+  abbrev pub judge_of : PreHook X F g → (i : X) × F i
+  judge_of hook = (hook.judge.vtable, hook.judge.value)
+
+  -- the closures, in the order in which they are asked
+  abbrev pub listed : PreHooks X F g → List (PreHook X F g)
+  listed hooks = hooks.hooks.items
+
+  -- the closure may return this verdict
+  abbrev pub MayReturn : PreHook X F g → Ask → Verdict → Type 0
+  MayReturn hook ask verdict = FnReturnsAt g (judge_of hook) ask verdict
+
+  -- the closure is for another point, or it may allow
+  abbrev pub LetsPassOrAllows : Ask → PreHook X F g → Type 0
+  LetsPassOrAllows ask hook = point_of hook ≡ ask.point → MayReturn hook ask Allow
+
+  -- each closure of the point allows, for which pre-finish has its own value; or the first closure that does not allow
+  -- returned this refusal. `Skipped` is never the result
+  abbrev pub HooksMayAnswer : List (PreHook X F g) → Ask → Asked → Type 0
+  HooksMayAnswer hooks ask asked.Skipped = ⊥
+  HooksMayAnswer hooks ask asked.Allowed = (ask.point ≢ Finish) × All (LetsPassOrAllows ask) hooks
+  HooksMayAnswer hooks ask asked.AllowedFinish = (ask.point ≡ Finish) × All (LetsPassOrAllows ask) hooks
+  HooksMayAnswer hooks ask (asked.Refused status reason) =
+      (before : List (PreHook X F g)) × (hook : PreHook X F g) × (after : List (PreHook X F g))
+      × (hooks ≡ before ++ hook ∷ after)
+      × All (LetsPassOrAllows ask) before
+      × (point_of hook ≡ ask.point)
+      × MayReturn hook ask (Refuse status reason)
+
+  abbrev pub ClosuresMayAnswer : PreHooks X F g → Ask → Asked → Type 0
+  ClosuresMayAnswer hooks ask asked = HooksMayAnswer (listed hooks) ask asked

@@ -1,0 +1,100 @@
+//! A closure that is asked about a request from one seat of a board, and waits until a request from another seat got
+//! its response.
+ghost use Rattle.std.specs.Prelude.{◌≡◌, IsTrue, length};
+ghost use Rattle.up_dispatch.specs.Parts.{IsNamed};
+ghost use Rattle.up_hooks.specs.Verdicts.{is_allowed_verdict};
+
+use crate::conversations::talk;
+use crate::gate::{Gate, HEAD, POST};
+use std::alloc::Global;
+use std::marker::{Brand, Send, Sync};
+use std::process::Abort;
+use std::sync::{Arc, Wait};
+use std::test::Fail;
+use std::thread;
+use std::thread::Threads;
+use up_dispatch::{Board, BoardParts, Counting, Ended, Naming, Seat, Seated};
+use up_hooks::{PreHook, PreHooks};
+use up_machine::{Ask, Point, Verdict};
+
+const MAX_SIZE: u64 = 1 << 20;
+
+/// How a conversation from the seat ends, and what it writes.
+fn talk_from<B: Naming, R: Wait>(
+    rt: &R,
+    alloc: Global,
+    board: &Board<B>,
+    seat: &mut Seat<B>,
+    hooks: &PreHooks,
+    asked: &[u8],
+) -> (Ended, Vec<u8>) {
+    let mut keeper = Seated::new(rt, board, seat);
+    talk(alloc, &mut keeper, hooks, &mut Counting::new(), asked)
+}
+
+/// Sends a request from the seat once the closure was called.
+fn talk_meanwhile<B: Naming, R: Wait>(
+    rt: &R,
+    alloc: Global,
+    board: &Board<B>,
+    mut seat: Seat<B>,
+    hooks: &PreHooks,
+    gate: &Gate,
+) -> (bool, Vec<u8>) {
+    let was_called = gate.is_called_in_time();
+    let (_, written) = talk_from(rt, alloc, board, &mut seat, hooks, HEAD);
+    gate.open();
+    (was_called, written)
+}
+
+/// An upload is created from one seat, and requested from the other.
+fn talk_from_two_seats<B: Naming + Send + Sync, R: Threads + Wait + Abort + Sync>(
+    rt: &R,
+    alloc: Global,
+    board: &Board<B>,
+    hooks: &PreHooks,
+    gate: &Gate,
+) -> Result<(), Fail> {
+    let (Some(mut first), Some(second)) = (board.seat(rt), board.seat(rt)) else {
+        return Err("two seats".into());
+    };
+    let ((ended, made), (was_called, shown)) = thread::join(
+        rt,
+        || talk_from(rt, alloc, board, &mut first, hooks, POST),
+        || talk_meanwhile(rt, alloc, board, second, hooks, gate),
+    );
+    assert_eq!(rt; (was_called, ended), (true, Ended::Closed));
+    assert!(rt; shown.starts_with(b"HTTP/1.1 404 "));
+    assert!(rt; made.starts_with(b"HTTP/1.1 201 "));
+    Ok(())
+}
+
+/// Two seats of a new board with these parts.
+fn two_seats<B: Naming + Send + Sync, R: Threads + Wait + Abort + Sync>(
+    rt: &R,
+    alloc: Global,
+    parts: BoardParts,
+    hooks: &PreHooks,
+    gate: &Gate,
+) -> Result<(), Fail>
+    requires named { IsNamed B.name B.parts B.queue B.lanes parts }
+    requires lanes { length parts.queues ≡ 2 }
+    requires sized { B.max_size ≡ 1048576 }
+{
+    let (board, _takes) = Board::<B>::new(alloc, parts, MAX_SIZE)?;
+    talk_from_two_seats(rt, alloc, &board, hooks, gate)
+}
+
+#[test]
+fn a_closure_waits_for_another_seat(rt: HostRuntime) -> Result<(), Fail> {
+    let gate = Arc::new(rt.alloc(), Gate::new())?;
+    let held = Arc::try_clone(&gate)?;
+    let judge = move |_: &Ask| -> Verdict
+        ensures { IsTrue (is_allowed_verdict result) }
+    { held.judge() };
+    let mut hooks = Vec::new(rt.alloc());
+    hooks.push(PreHook::new(Point::Create, Box::new(rt.alloc(), judge)?))?;
+    let parts = BoardParts::new(rt.alloc(), 2, 1)?;
+    let hooks = PreHooks::new(hooks);
+    two_seats::<Brand, _>(&rt, rt.alloc(), parts, &hooks, &gate)
+}

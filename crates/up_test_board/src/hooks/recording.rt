@@ -1,0 +1,94 @@
+//! Post-hooks that keep the events that they were handed.
+ghost use Rattle.std.specs.Prelude.{IsTrue};
+ghost use Rattle.up_hooks.specs.Recorded.{has_code};
+
+use std::alloc::Global;
+use std::sync::atomic::{AtomicU64, Ordering};
+use std::test::Fail;
+use up_events::{Event, Hook, Id};
+use up_hooks::{Outcome, PostHook, Recorder, new_recorders};
+
+fn event(number: u64, hook: Hook, offset: u64) -> Event {
+    Event {
+        id: Id::new(1),
+        number,
+        hook,
+        offset,
+        length: Some(11),
+    }
+}
+
+/// Hands over the events of these pairs, in order, and returns them with the outcomes.
+fn hand_all<H: PostHook>(
+    alloc: Global,
+    hook: &mut H,
+    pairs: &[(Event, Outcome)],
+) -> Result<Vec<(Event, Outcome)>, Fail>
+    requires { H.is_sound hook.old }
+{
+    let mut handed = Vec::new(alloc);
+    for (event, _) in pairs {
+        hook.ready()?;
+        handed.push((*event, hook.hand(event)))?;
+    }
+    Ok(handed)
+}
+
+#[test]
+fn goes_on_after_a_failure(rt: HostRuntime) -> Result<(), Fail> {
+    let calls = AtomicU64::new(0);
+    let mut recorder = Recorder::new(
+        rt.alloc(),
+        |event: &Event| -> Outcome
+            ensures { IsTrue (has_code result) }
+        {
+            calls.fetch_add(1, Ordering::SeqCst);
+            match event.hook {
+                Hook::Create => Outcome::Done,
+                Hook::Receive => Outcome::Failed(7),
+                Hook::Finish => Outcome::Failed(99),
+                Hook::Terminate => Outcome::Failed(1),
+            }
+        },
+    );
+    let wanted = [
+        (event(1, Hook::Create, 0), Outcome::Done),
+        (event(2, Hook::Receive, 6), Outcome::Failed(7)),
+        (event(3, Hook::Receive, 11), Outcome::Failed(7)),
+        (event(4, Hook::Finish, 11), Outcome::Failed(99)),
+        (event(5, Hook::Terminate, 11), Outcome::Failed(1)),
+    ];
+    let handed = hand_all(rt.alloc(), &mut recorder, &wanted)?;
+    assert_eq!(rt; handed.as_slice(), wanted.as_slice());
+    assert_eq!(rt; recorder.list(), wanted.as_slice());
+    assert_eq!(rt; calls.load(Ordering::SeqCst), 5);
+    Ok(())
+}
+
+#[test]
+fn keeps_one_pair_for_each_event(rt: HostRuntime) -> Result<(), Fail> {
+    let mut recorder = Recorder::new(rt.alloc(), |_: &Event| Outcome::Failed(7));
+    let created = event(1, Hook::Create, 0);
+    assert!(rt; recorder.list().is_empty());
+    recorder.ready()?;
+    recorder.ready()?;
+    assert!(rt; recorder.list().is_empty());
+    assert_eq!(rt; recorder.hand(&created), Outcome::Failed(7));
+    assert_eq!(rt; recorder.list(), [(created, Outcome::Failed(7))].as_slice());
+    Ok(())
+}
+
+#[test]
+fn each_lane_has_a_recorder_of_its_own(rt: HostRuntime) -> Result<(), Fail> {
+    let created = event(1, Hook::Create, 0);
+    let mut recorders = new_recorders(rt.alloc(), 2, |_: &Event| Outcome::Done)?;
+    assert_eq!(rt; recorders.len(), 2);
+    let Some(first) = recorders.first_mut() else {
+        return Err("a recorder".into());
+    };
+    first.ready()?;
+    assert_eq!(rt; first.hand(&created), Outcome::Done);
+    assert_eq!(rt; recorders[0].list(), [(created, Outcome::Done)].as_slice());
+    assert_eq!(rt; recorders[1].list().len(), 0);
+    Ok(())
+}

@@ -1,0 +1,13 @@
+use Rattle.std.specs.Prelude.{length, slice_index_or}
+use Rattle.up_queue.specs.EndViews.{no_queue}
+use Rattle.up_test_log.proofs.stores.closing.what_a_closed_board_refuses_does_not_come_back.Given as goal
+
+abbrev pub ghosts-closed_by_store-B-Ledger : goal.ghosts-closed_by_store-B-Ledger
+ghosts-closed_by_store-B-Ledger g a = record { name = a.parts.name; parts = a.parts.parts }
+
+abbrev pub ghosts-closed_by_store-B-Naming : goal.ghosts-closed_by_store-B-Naming
+ghosts-closed_by_store-B-Naming g a = record {
+  queue = λ lane. slice_index_or a.parts.queues lane no_queue;
+  lanes = length a.parts.queues;
+  max_size = 1000;
+}

@@ -1,0 +1,13 @@
+use Rattle.std.specs.Prelude.{length, slice_index_or}
+use Rattle.up_queue.specs.EndViews.{no_queue}
+use Rattle.up_test_log.proofs.stores.shorter.shorten.Given as goal
+
+abbrev pub ghosts-shorten_by-B-Ledger : goal.ghosts-shorten_by-B-Ledger
+ghosts-shorten_by-B-Ledger g a = record { name = a.parts.name; parts = a.parts.parts }
+
+abbrev pub ghosts-shorten_by-B-Naming : goal.ghosts-shorten_by-B-Naming
+ghosts-shorten_by-B-Naming g a = record {
+  queue = λ lane. slice_index_or a.parts.queues lane no_queue;
+  lanes = length a.parts.queues;
+  max_size = 1000;
+}

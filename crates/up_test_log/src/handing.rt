@@ -1,0 +1,226 @@
+//! Lanes that continue where earlier runs ended, on disks that fail and crash.
+ghost use Rattle.std.specs.Prelude.{◌≡◌, true, IfOk, IsTrue};
+ghost use Rattle.up_handed.specs.Counts.{count_of, device_of};
+ghost use Rattle.up_handed.specs.OnDisk.{IsOnDisk};
+ghost use Rattle.up_hooks.specs.Recorded.{AnswersWithCodes};
+
+use crate::full_once::FullOnce;
+use sqlite_disk::{Disk, Fuse, Memory};
+use sqlite_std_file::Unknown;
+use std::alloc::Global;
+use std::fs;
+use std::test::Fail;
+use up_events::{Event, Hook, Id};
+use up_handed::{Continued, Handed, HandedFault, open_handed, restart};
+use up_hooks::{Outcome, PostHook, Recorder};
+
+/// The count in this file.
+fn opened<D: Disk + Drop>(device: D) -> Result<Handed<D>, HandedFault>
+    ensures { IfOk result (λ handed. IsOnDisk D.Disk (device_of handed) (count_of handed)) }
+{
+    match Handed::open(device) {
+        Ok(handed) => Ok(handed),
+        Err(refused) => Err(refused.fault),
+    }
+}
+
+/// The event of an upload with this number.
+fn event_of(number: u64) -> Event {
+    Event {
+        id: Id::new(1),
+        number,
+        hook: Hook::Receive,
+        offset: number,
+        length: None,
+    }
+}
+
+/// Makes room for an event, and tries again if that fails.
+fn has_room<H: PostHook>(hook: &mut H) -> bool
+    requires { H.is_sound hook.old }
+    ensures sound { H.is_sound hook.new }
+    ensures room { IsTrue result → H.has_room hook.new ≡ true }
+{
+    if hook.ready().is_ok() {
+        return true;
+    }
+    hook.ready().is_ok()
+}
+
+/// Hands over the events from the first to this number, as a lane does: it makes room before each event, and after the
+/// last. Returns the number of events that there was room for.
+fn hand_over<H: PostHook>(hook: &mut H, last: u64) -> u64
+    requires { H.is_sound hook.old }
+    ensures { H.is_sound hook.new }
+{
+    for number in 0..last {
+        if !has_room(hook) {
+            return number;
+        }
+        hook.hand(&event_of(number + 1));
+    }
+    has_room(hook);
+    last
+}
+
+/// What a post-hook was handed: the number of the first event, or 0 if there is none, and the number of events.
+fn told<F>(recorder: &Recorder<F>) -> (u64, usize) {
+    let pairs = recorder.list();
+    match pairs {
+        [] => (0, 0),
+        [first, ..] => (first.0.number, pairs.len()),
+    }
+}
+
+/// A run with this file that hands over the events from the first to this number.
+fn run_over<F: Fn(&Event) -> Outcome + Send + Copy, D: Disk + Send + Drop>(
+    alloc: Global,
+    answer: F,
+    device: D,
+    events: u64,
+) -> Result<Continued<Recorder<F>, D>, HandedFault>
+    requires callable { F.IsAlwaysCallable answer }
+    requires codes { AnswersWithCodes F.Fn answer }
+{
+    let handed = opened(device)?;
+    let mut run = Continued::new(Recorder::new(alloc, answer), handed);
+    hand_over(&mut run, events);
+    Ok(run)
+}
+
+/// The file that a run leaves after it handed over this number of events.
+fn left<F: Fn(&Event) -> Outcome + Send + Copy>(
+    alloc: Global,
+    answer: F,
+    events: u64,
+) -> Result<Memory, HandedFault>
+    requires callable { F.IsAlwaysCallable answer }
+    requires codes { AnswersWithCodes F.Fn answer }
+{
+    let run = run_over(alloc, answer, Memory::new(alloc), events)?;
+    let (_, handed) = run.into_parts();
+    Ok(handed.into_device())
+}
+
+#[test]
+fn what_earlier_runs_handed_over_is_passed_over(rt: HostRuntime) -> Result<(), Fail> {
+    let alloc = rt.alloc();
+    // The number of events that were handed over before, the number that the lane hands over, and what the post-hook is
+    // handed.
+    for (before, events, want) in [
+        (0, 3, (1, 3)),
+        (1, 3, (2, 2)),
+        (3, 3, (0, 0)),
+        (3, 2, (0, 0)),
+        (2, 0, (0, 0)),
+        (4, 7, (5, 3)),
+    ] {
+        let answer = |_: &Event| Outcome::Done;
+        let device = left(alloc, answer, before)?;
+        let run = run_over(alloc, answer, device, events)?;
+        assert_eq!(rt; run.before(), before);
+        assert_eq!(rt; told(run.hook()), want, "{events} events after {before}");
+        let (_, handed) = run.into_parts();
+        assert_eq!(rt; handed.count(), before.max(events));
+    }
+    Ok(())
+}
+
+/// The number of events, out of three, that a run hands over if its disk fails from some call on, and the number of the
+/// first event that the next run hands over after a crash.
+fn crashed<F: Fn(&Event) -> Outcome + Send + Copy>(
+    alloc: Global,
+    answer: F,
+    calls: u64,
+) -> Result<(usize, u64), HandedFault>
+    requires callable { F.IsAlwaysCallable answer }
+    requires codes { AnswersWithCodes F.Fn answer }
+{
+    let first = run_over(alloc, answer, Fuse::new(Memory::new(alloc), calls), 3)?;
+    let (_, count) = told(first.hook());
+    let handed = match restart(first) {
+        Ok(handed) => handed,
+        Err(refused) => return Err(refused.fault),
+    };
+    let mut next = Continued::new(Recorder::new(alloc, answer), handed);
+    hand_over(&mut next, 4);
+    let (number, _) = told(next.hook());
+    Ok((count, number))
+}
+
+#[test]
+fn a_crash_repeats_one_event_at_most(rt: HostRuntime) -> Result<(), Fail> {
+    let alloc = rt.alloc();
+    // Opening takes two calls, and each event takes two: a write and a sync.
+    for (calls, handed, next) in [
+        (2, 1, 1),
+        (3, 1, 1),
+        (4, 2, 2),
+        (5, 2, 2),
+        (6, 3, 3),
+        (7, 3, 3),
+        (8, 3, 4),
+        (9, 3, 4),
+    ] {
+        let found = crashed(alloc, |_: &Event| Outcome::Done, calls)?;
+        assert_eq!(rt; found, (handed, next), "after {calls} calls");
+    }
+    Ok(())
+}
+
+#[test]
+fn a_lane_goes_on_when_the_disk_works_again(rt: HostRuntime) -> Result<(), Fail> {
+    let alloc = rt.alloc();
+    // The call that fails: one of the three writes, or a sync, after which the file must be opened again.
+    for (calls, handed, next) in [
+        (3, 3, 4),
+        (5, 3, 4),
+        (7, 3, 4),
+        (4, 1, 2),
+        (6, 2, 3),
+        (8, 3, 4),
+        (9, 3, 4),
+    ] {
+        let device = FullOnce::new(Memory::new(alloc), calls);
+        let first = run_over(alloc, |_: &Event| Outcome::Done, device, 3)?;
+        assert_eq!(rt; told(first.hook()), (1, handed), "call {calls} fails");
+        let (_, count) = first.into_parts();
+        let device = count.into_device().into_inner();
+        let second = run_over(alloc, |_: &Event| Outcome::Done, device, 4)?;
+        assert_eq!(rt; told(second.hook()).0, next, "call {calls} failed");
+    }
+    Ok(())
+}
+
+/// The number in a file after a run that hands over one more event, and whether the file is `Busy` for others until the
+/// run has ended.
+fn one_more<F: Fn(&Event) -> Outcome + Send + Copy>(
+    rt: &HostRuntime,
+    path: &str,
+    answer: F,
+) -> Result<(u64, bool), HandedFault>
+    requires callable { F.IsAlwaysCallable answer }
+    requires codes { AnswersWithCodes F.Fn answer }
+{
+    let handed = open_handed(rt, path, Unknown)?;
+    let before = handed.count();
+    let mut run = Continued::new(Recorder::new(rt.alloc(), answer), handed);
+    hand_over(&mut run, before.saturating_add(1));
+    let is_busy = matches!(open_handed(rt, path, Unknown), Err(HandedFault::Busy));
+    let (_, handed) = run.into_parts();
+    Ok((handed.count(), is_busy))
+}
+
+#[test]
+fn a_count_outlives_its_run(rt: HostRuntime) -> Result<(), Fail> {
+    let path = "up_log_tests_handed/handed.0";
+    let _ = fs::remove_dir_all(&rt, "up_log_tests_handed");
+    fs::create_dir(&rt, "up_log_tests_handed")?;
+    for want in [1, 2, 3] {
+        let found = one_more(&rt, path, |_: &Event| Outcome::Done)?;
+        assert_eq!(rt; found, (want, true));
+    }
+    assert_eq!(rt; fs::read(&rt, path)?.len(), 3);
+    fs::remove_dir_all(&rt, "up_log_tests_handed")?;
+    Ok(())
+}

@@ -1,0 +1,85 @@
+//! Books that are restored: from a log on a disk, and from entries that no server writes.
+use crate::logs::{Row, SETUP, What, entries_of, read, spelled_of};
+use sqlite_disk::Memory;
+use std::alloc::Global;
+use std::test::Fail;
+use up_events::{Id, MAX_UPLOAD_BYTES};
+use up_log::{LogFault, LogReader};
+use up_machine::Book;
+use up_message::Sequence;
+use up_replay::{Unreplayed, Unrestored, replay, restore};
+
+/// The offset and the length of an upload.
+fn standing(book: &Book, id: u128) -> Option<(u64, Option<u64>)> {
+    match book.upload(Id::new(id)) {
+        Some(view) => Some((view.offset, view.length)),
+        None => None,
+    }
+}
+
+fn replay_rows(alloc: Global, book: &mut Book, rows: &[Row]) -> Result<(), Unreplayed> {
+    let Ok(entries) = entries_of(alloc, rows) else {
+        return Err(Unreplayed::Memory);
+    };
+    replay(alloc, book, Sequence::from_vec(entries))
+}
+
+#[test]
+fn what_was_refused_changes_nothing(rt: HostRuntime) -> Result<(), Fail> {
+    let alloc = rt.alloc();
+    let mut book = Book::new(alloc, 2, 1000)?;
+    let rows = [
+        (What::Make, 5, 3),
+        // A second creation with the same id, a removal of an upload that does not exist, bytes for it, and too many
+        // bytes.
+        (What::Make, 5, 4),
+        (What::Remove, 6, 0),
+        (What::Put, 6, 3),
+        (What::Put, 5, 4),
+        (What::Put, 5, 3),
+    ];
+    assert_eq!(rt; replay_rows(alloc, &mut book, &rows), Ok(()));
+    assert_eq!(rt; book.journal().accepted_count(), 2);
+    assert_eq!(rt; standing(&book, 5), Some((3, Some(3))));
+    assert_eq!(rt; standing(&book, 6), None);
+    // A creation that no server receives.
+    let rows = [(What::Make, 7, MAX_UPLOAD_BYTES + 1), (What::Make, 8, 3)];
+    assert_eq!(rt;
+        replay_rows(alloc, &mut book, &rows),
+        Err(Unreplayed::TooLong)
+    );
+    assert_eq!(rt; book.journal().accepted_count(), 2);
+    Ok(())
+}
+
+/// The file of a log with these two batches.
+fn file_of(alloc: Global, first: &[Row], second: &[Row]) -> Result<Memory, LogFault> {
+    let (mut log, _) = read(alloc, Memory::new(alloc))?;
+    log.append(&mut Vec::new(alloc), &spelled_of(alloc, first)?)?;
+    log.append(&mut Vec::new(alloc), &spelled_of(alloc, second)?)?;
+    Ok(log.into_device())
+}
+
+/// Restores a book from a file.
+fn restore_file(alloc: Global, file: Memory, book: &mut Book) -> Result<(), Unrestored> {
+    match LogReader::open(alloc, file, SETUP) {
+        Ok(reader) => {
+            restore(alloc, reader, book)?;
+            Ok(())
+        }
+        Err(refused) => Err(Unrestored::Log(refused.fault)),
+    }
+}
+
+#[test]
+fn a_book_comes_back(rt: HostRuntime) -> Result<(), Fail> {
+    let alloc = rt.alloc();
+    let first = [(What::Make, 5, 4), (What::Make, 6, 5)];
+    let second = [(What::Put, 5, 3), (What::Remove, 6, 0)];
+    let mut book = Book::new(alloc, 2, 1000)?;
+    restore_file(alloc, file_of(alloc, &first, &second)?, &mut book)?;
+    assert_eq!(rt; book.journal().accepted_count(), 4);
+    assert_eq!(rt; standing(&book, 5), Some((3, Some(4))));
+    assert_eq!(rt; standing(&book, 6), None);
+    Ok(())
+}

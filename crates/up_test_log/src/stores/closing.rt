@@ -1,0 +1,63 @@
+//! Changes that reach a board after it was closed.
+ghost use Rattle.std.specs.Prelude.{◌≡◌, length};
+ghost use Rattle.up_dispatch.specs.Parts.{IsNamed};
+
+use super::running::{CommitResult, Job, Tally, board_of, change, logs_on, plainly, restored};
+use crate::logs::What;
+use sqlite_disk::Memory;
+use std::alloc::Global;
+use std::marker::Brand;
+use std::sync::Wait;
+use std::test::Fail;
+use up_dispatch::{BoardParts, Naming};
+use up_machine::Refusal;
+use up_store::{Store, Stored};
+
+/// The results of changes through a store after its board was closed, and the files of its logs. The upload 1 was
+/// created before.
+fn closed_by_store<B: Naming, R: Wait>(
+    rt: &R,
+    alloc: Global,
+    parts: BoardParts,
+) -> Result<(Vec<CommitResult>, (Memory, Memory)), Fail>
+    requires named { IsNamed B.name B.parts B.queue B.lanes parts }
+    requires lanes { length parts.queues ≡ 2 }
+    requires sized { B.max_size ≡ 1000 }
+{
+    let (board, mut seat) = board_of::<B, R>(rt, alloc, parts)?;
+    let disks = (Memory::new(alloc), Memory::new(alloc));
+    let logs = logs_on(rt, alloc, &board, &mut seat, disks)?;
+    let tally = Tally::new();
+    let store = Store::unread(alloc, &tally)?;
+    store.open(rt, logs);
+    let mut keeper = Stored::new(rt, &board, &store, &mut seat);
+    change(alloc, &mut keeper, &[(What::Make, 1, 4)])?;
+    board.close(rt);
+    let rows = [(What::Put, 1, 3), (What::Make, 2, 4), (What::Remove, 1, 0)];
+    let told = change(alloc, &mut keeper, &rows)?;
+    let Some(logs) = store.into_logs() else {
+        return Err("a store that is open".into());
+    };
+    Ok((told, (logs.changes.into_device(), logs.voids.into_device())))
+}
+
+#[test]
+fn what_a_closed_board_refuses_does_not_come_back(rt: HostRuntime) -> Result<(), Fail> {
+    let alloc = rt.alloc();
+    let parts = BoardParts::new(alloc, 2, 4)?;
+    let (told, disks) = closed_by_store::<Brand, _>(&rt, alloc, parts)?;
+    for told in &told {
+        assert_eq!(rt; *told, Err(Refusal::Closed));
+    }
+    assert_eq!(rt; told.len(), 3);
+    let (seen, _) = restored(&rt, alloc, disks)?;
+    let mut rows = Vec::new(alloc);
+    rows.push((What::Make, 1, 4))?;
+    let job = Job {
+        rows,
+        byte: 0,
+        times: 0,
+    };
+    assert!(rt; seen == plainly(&rt, alloc, &job)?.1);
+    Ok(())
+}

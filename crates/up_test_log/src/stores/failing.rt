@@ -1,0 +1,288 @@
+//! Stores on disks that fail, for good or for one call.
+use super::running::{CommitResult, Job, Ran, Seen, Tally, plainly, restored, run_on};
+use super::together::{jobs_of, shared_file, told_plainly};
+use crate::full_once::FullOnce;
+use crate::logs::{Row, What};
+use sqlite_disk::{Crash, Disk, Fuse, Memory};
+use std::alloc::{AllocError, Global};
+use std::marker::Send;
+use std::process::Abort;
+use std::sync::Wait;
+use std::test::Fail;
+use std::thread::Threads;
+use up_machine::Refusal;
+
+/// Changes each of which is accepted after those before it.
+const ROWS: [Row; 6] = [
+    (What::Make, 1, 4),
+    (What::Put, 1, 3),
+    (What::Make, 2, 2),
+    (What::Put, 2, 2),
+    (What::Make, 3, 5),
+    (What::Remove, 1, 0),
+];
+
+/// The job with only these rows.
+fn job_of(alloc: Global, rows: &[Row]) -> Result<Job, AllocError> {
+    Ok(Job {
+        rows: Vec::from_slice(alloc, rows)?,
+        byte: 0,
+        times: 0,
+    })
+}
+
+/// The number of results before the first `NoMemory`, and of all results without `NoMemory`.
+fn made(told: &[CommitResult]) -> (usize, usize) {
+    let mut first: usize = 0;
+    let mut all: usize = 0;
+    let mut has_failed = false;
+    for told in told {
+        if *told == Err(Refusal::NoMemory) {
+            has_failed = true;
+            continue;
+        }
+        all = all.saturating_add(1);
+        if !has_failed {
+            first = first.saturating_add(1);
+        }
+    }
+    (first, all)
+}
+
+/// The state of a plain board after the first `count` rows.
+fn standing<R: Wait>(rt: &R, alloc: Global, count: usize) -> Result<Seen, Fail> {
+    let job = job_of(alloc, &ROWS[..count.min(6)])?;
+    Ok(plainly(rt, alloc, &job)?.1)
+}
+
+/// The state of a board that is restored from logs.
+fn seen_again<D: Disk + Drop, R: Wait>(rt: &R, alloc: Global, disks: (D, D)) -> Result<Seen, Fail> {
+    Ok(restored(rt, alloc, disks)?.0)
+}
+
+/// The number of rows that succeed in a store whose disk fails from some call on. Checks that a crash leaves these, and
+/// perhaps the next one. `None` if the logs are not opened.
+fn left<R: Threads + Wait + Abort + Sync>(
+    rt: &R,
+    alloc: Global,
+    calls: u64,
+) -> Result<Option<usize>, Fail> {
+    let tally = Tally::new();
+    let disks = (
+        Fuse::new(Memory::new(alloc), calls),
+        Fuse::new(Memory::new(alloc), u64::MAX),
+    );
+    let mut jobs = Vec::new(alloc);
+    jobs.push(job_of(alloc, &ROWS)?)?;
+    let Some(Ran { outcomes, logs, .. }) = run_on(rt, alloc, disks, &tally, jobs)? else {
+        return Ok(None);
+    };
+    let [(told, _)] = outcomes.as_slice() else {
+        return Err("one job".into());
+    };
+    let (first, all) = made(told);
+    assert_eq!(rt; (first, told.len()), (all, 6));
+    assert_eq!(rt; tally.counts(), [u64::from(all < 6), 0, 0]);
+    let (mut changes, voids) = (logs.changes.into_device(), logs.voids.into_device());
+    changes.crash();
+    let seen = seen_again(rt, alloc, (changes, voids))?;
+    let is_next = seen == standing(rt, alloc, all.saturating_add(1))?;
+    assert!(rt;
+        is_next || seen == standing(rt, alloc, all)?,
+        "after {calls} calls"
+    );
+    Ok(Some(all))
+}
+
+#[test]
+fn a_crash_leaves_what_was_answered(rt: HostRuntime) -> Result<(), Fail> {
+    let alloc = rt.alloc();
+    let mut counts = [0u64; 7];
+    for calls in 0..40 {
+        if let Some(count) = left(&rt, alloc, calls)? {
+            let place = &mut counts[count.min(6)];
+            *place = place.saturating_add(1);
+        }
+    }
+    // A change takes four calls. So in each change, four of the disks fail.
+    for count in 1..6usize {
+        assert_eq!(rt; counts[count], 4);
+    }
+    assert!(rt; counts[6] > 0);
+    Ok(())
+}
+
+/// Whether the results are the expected ones up to the first `NoMemory`, and all `NoMemory` from there on.
+fn is_cut_off(told: &[CommitResult], want: &[CommitResult]) -> bool {
+    let (first, all) = made(told);
+    let first = first.min(told.len()).min(want.len());
+    first == all && told.len() == want.len() && told[..first] == want[..first]
+}
+
+/// Checks that three seats of a board whose disk fails from some call on get true results: a crash leaves what
+/// succeeded, in the same order.
+fn hold_at_once<R: Threads + Wait + Abort + Sync>(
+    rt: &R,
+    alloc: Global,
+    calls: u64,
+) -> Result<(), Fail> {
+    let tally = Tally::new();
+    let disks = (
+        Fuse::new(shared_file(alloc)?, calls),
+        Fuse::new(Memory::new(alloc), u64::MAX),
+    );
+    let Some(
+        Ran {
+            outcomes,
+            seen,
+            logs,
+        },
+    ) = run_on(rt, alloc, disks, &tally, jobs_of(alloc)?)?
+    else {
+        return Err("an open log".into());
+    };
+    assert_eq!(rt; tally.counts(), [1, 0, 0]);
+    let plain = told_plainly(rt, alloc)?;
+    for ((told, _), (want, _)) in outcomes.iter().zip(&plain) {
+        assert!(rt; is_cut_off(told, want), "after {calls} calls");
+    }
+    let (mut changes, voids) = (logs.changes.into_device(), logs.voids.into_device());
+    changes.crash();
+    assert!(rt;
+        seen_again(rt, alloc, (changes, voids))? == seen,
+        "after {calls} calls"
+    );
+    Ok(())
+}
+
+#[test]
+fn seats_at_once_are_told_what_a_crash_leaves(rt: HostRuntime) -> Result<(), Fail> {
+    for calls in [20, 21, 22, 23, 150, 151, 152, 153] {
+        hold_at_once(&rt, rt.alloc(), calls)?;
+    }
+    Ok(())
+}
+
+/// Creations, each of which is accepted whatever happens to the others.
+const CREATIONS: [Row; 6] = [
+    (What::Make, 1, 5),
+    (What::Make, 2, 5),
+    (What::Make, 3, 5),
+    (What::Make, 4, 5),
+    (What::Make, 5, 5),
+    (What::Make, 6, 5),
+];
+
+/// The creations that succeeded.
+fn taken(alloc: Global, told: &[CommitResult]) -> Result<Vec<Row>, AllocError> {
+    let mut rows = Vec::new(alloc);
+    for (row, told) in CREATIONS.iter().zip(told) {
+        if told.is_ok() {
+            rows.push(*row)?;
+        }
+    }
+    Ok(rows)
+}
+
+/// Checks that a crash leaves exactly what succeeded.
+fn hold_taken<R: Wait + Abort>(
+    rt: &R,
+    alloc: Global,
+    file: Memory,
+    told: &[CommitResult],
+) -> Result<(), Fail> {
+    let mut file = file;
+    file.crash();
+    let seen = seen_again(rt, alloc, (file, Memory::new(alloc)))?;
+    let job = job_of(alloc, &taken(alloc, told)?)?;
+    assert!(rt; seen == plainly(rt, alloc, &job)?.1);
+    Ok(())
+}
+
+/// The number of creations that succeed in a store with a disk of which one call fails: before that call, and in all.
+/// `None` if the logs are not opened.
+fn full_at<R: Threads + Wait + Abort + Sync>(
+    rt: &R,
+    alloc: Global,
+    calls: u64,
+) -> Result<Option<(usize, usize)>, Fail> {
+    let tally = Tally::new();
+    let disks = (
+        FullOnce::new(Memory::new(alloc), calls),
+        FullOnce::new(Memory::new(alloc), 0),
+    );
+    let mut jobs = Vec::new(alloc);
+    jobs.push(job_of(alloc, &CREATIONS)?)?;
+    let Some(Ran { outcomes, logs, .. }) = run_on(rt, alloc, disks, &tally, jobs)? else {
+        return Ok(None);
+    };
+    let [(told, _)] = outcomes.as_slice() else {
+        return Err("one job".into());
+    };
+    let (first, all) = made(told);
+    assert_eq!(rt;
+        tally.counts(),
+        [u64::from(all < 6), u64::from(first < all), 0]
+    );
+    assert_eq!(rt; logs.count, all as u64);
+    hold_taken(rt, alloc, logs.changes.into_device().into_inner(), told)?;
+    Ok(Some((first, all)))
+}
+
+#[test]
+fn a_store_goes_on_once_its_disk_works(rt: HostRuntime) -> Result<(), Fail> {
+    let mut places = Vec::new(rt.alloc());
+    for calls in 1..40 {
+        match full_at(&rt, rt.alloc(), calls)? {
+            Some((first, all)) if first < all => places.push((first, all))?,
+            _ => {}
+        }
+    }
+    // A change takes two writes and two syncs. Whichever fails, only that change is refused, and the log is opened
+    // again if necessary. No change follows the last one.
+    let mut want = Vec::new(rt.alloc());
+    for change in 0..5usize {
+        for _ in 0..4 {
+            want.push((change, 5))?;
+        }
+    }
+    assert_eq!(rt; places.as_slice(), want.as_slice());
+    Ok(())
+}
+
+/// The reports during a run with three seats of a board with a disk of which one call fails. Checks that a crash leaves
+/// what succeeded, in the same order.
+fn told_at_once<R: Threads + Wait + Abort + Sync>(
+    rt: &R,
+    alloc: Global,
+    calls: u64,
+) -> Result<[u64; 3], Fail> {
+    let tally = Tally::new();
+    let disks = (
+        FullOnce::new(shared_file(alloc)?, calls),
+        FullOnce::new(Memory::new(alloc), 0),
+    );
+    let Some(Ran { seen, logs, .. }) = run_on(rt, alloc, disks, &tally, jobs_of(alloc)?)? else {
+        return Err("an open log".into());
+    };
+    let mut file = logs.changes.into_device().into_inner();
+    file.crash();
+    let again = seen_again(rt, alloc, (file, Memory::new(alloc)))?;
+    assert!(rt; again == seen, "at the call {calls}");
+    Ok(tally.counts())
+}
+
+#[test]
+fn seats_at_once_go_on_once_the_disk_works(rt: HostRuntime) -> Result<(), Fail> {
+    for first in [20, 60, 100] {
+        let mut goes_on: u64 = 0;
+        // A batch takes four calls.
+        for calls in first..first + 4 {
+            let [fails, works, stops] = told_at_once(&rt, rt.alloc(), calls)?;
+            assert_eq!(rt; (fails, stops), (1, 0));
+            goes_on = goes_on.saturating_add(works);
+        }
+        assert_eq!(rt; goes_on, 4);
+    }
+    Ok(())
+}

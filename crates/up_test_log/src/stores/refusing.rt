@@ -1,0 +1,117 @@
+//! Changes that a closure refuses.
+ghost use Rattle.std.specs.Prelude.{◌≡◌, length};
+ghost use Rattle.up_dispatch.specs.Parts.{IsNamed};
+
+use super::running::{CommitResult, Tally, board_of, change, count_in, logs_on, result_of};
+use crate::logs::{What, entries_of};
+use sqlite_disk::Memory;
+use std::alloc::Global;
+use std::marker::Brand;
+use std::sync::Wait;
+use std::test::Fail;
+use up_dispatch::{BoardParts, Keeper, Naming, Seated};
+use up_events::{Accepted, Id, Kind, NoMemory};
+use up_machine::{Asked, Reason, Refusal};
+use up_replay::fits;
+use up_store::{Store, Stored};
+
+/// The results of changes that a closure refuses, after the upload 1 of four bytes was created.
+fn refuse<K: Keeper>(
+    alloc: Global,
+    keeper: &mut K,
+    refused: &Asked,
+) -> Result<Vec<CommitResult>, NoMemory> {
+    let mut told = change(alloc, keeper, &[(What::Make, 1, 4)])?;
+    let rows = [
+        (What::Make, 2, 4),
+        (What::Put, 1, 4),
+        (What::Remove, 1, 0),
+        (What::Remove, 3, 0),
+    ];
+    for entry in entries_of(alloc, &rows)? {
+        if fits(&entry.request) {
+            told.push(result_of(alloc, keeper, entry.request, entry.id, refused))?;
+        }
+    }
+    Ok(told)
+}
+
+/// Their results on a plain board.
+fn refused_plainly<B: Naming, R: Wait>(
+    rt: &R,
+    alloc: Global,
+    parts: BoardParts,
+    refused: &Asked,
+) -> Result<Vec<CommitResult>, Fail>
+    requires named { IsNamed B.name B.parts B.queue B.lanes parts }
+    requires lanes { length parts.queues ≡ 2 }
+    requires sized { B.max_size ≡ 1000 }
+{
+    let (board, mut seat) = board_of::<B, R>(rt, alloc, parts)?;
+    Ok(refuse(alloc, &mut Seated::new(rt, &board, &mut seat), refused)?)
+}
+
+/// Their results through a store, and the number of entries of its log after them.
+fn refused_by_store<B: Naming, R: Wait>(
+    rt: &R,
+    alloc: Global,
+    parts: BoardParts,
+    refused: &Asked,
+) -> Result<(Vec<CommitResult>, u64), Fail>
+    requires named { IsNamed B.name B.parts B.queue B.lanes parts }
+    requires lanes { length parts.queues ≡ 2 }
+    requires sized { B.max_size ≡ 1000 }
+{
+    let (board, mut seat) = board_of::<B, R>(rt, alloc, parts)?;
+    let disks = (Memory::new(alloc), Memory::new(alloc));
+    let logs = logs_on(rt, alloc, &board, &mut seat, disks)?;
+    let tally = Tally::new();
+    let store = Store::unread(alloc, &tally)?;
+    store.open(rt, logs);
+    let mut keeper = Stored::new(rt, &board, &store, &mut seat);
+    let told = refuse(alloc, &mut keeper, refused)?;
+    let Some(logs) = store.into_logs() else {
+        return Err("a store that is open".into());
+    };
+    let (count, _) = count_in(alloc, logs.changes.into_device())?;
+    Ok((told, count))
+}
+
+/// The expected results: the upload is created, the closure refuses the next three changes, and the upload 3 does not
+/// exist.
+fn wanted(alloc: Global, reason: Reason) -> Result<Vec<CommitResult>, NoMemory> {
+    let made = Accepted::Created {
+        id: Id::new(1),
+        length: Some(4),
+        kind: Kind::Plain,
+    };
+    let mut told = Vec::new(alloc);
+    told.push(Ok((201, Some(made))))?;
+    for _ in 0..3 {
+        told.push(Err(Refusal::ByHook {
+            status: 418,
+            reason,
+        }))?;
+    }
+    told.push(Err(Refusal::NotFound))?;
+    Ok(told)
+}
+
+#[test]
+fn what_a_closure_refuses_is_not_written(rt: HostRuntime) -> Result<(), Fail> {
+    let alloc = rt.alloc();
+    let reason = Reason::new(b"not on Sundays").ok_or("this is no reason")?;
+    let refused = Asked::Refused {
+        status: 418,
+        reason,
+    };
+    let want = wanted(alloc, reason)?;
+    let parts = BoardParts::new(alloc, 2, 4)?;
+    let plain = refused_plainly::<Brand, _>(&rt, alloc, parts, &refused)?;
+    assert_eq!(rt; plain.as_slice(), want.as_slice());
+    let parts = BoardParts::new(alloc, 2, 4)?;
+    let (told, count) = refused_by_store::<Brand, _>(&rt, alloc, parts, &refused)?;
+    assert_eq!(rt; told.as_slice(), want.as_slice());
+    assert_eq!(rt; count, 1);
+    Ok(())
+}

@@ -1,0 +1,428 @@
+//! Boards whose changes are written to a store first, and boards that are restored from its logs.
+ghost use Rattle.std.specs.Prelude.{◌≡◌, length};
+ghost use Rattle.up_dispatch.specs.Parts.{IsNamed};
+ghost use Rattle.up_events.specs.declared.limits.TheConstants.{MAX_UPLOAD_BYTES};
+ghost use Rattle.up_headers.specs.Table.{FitsWithin};
+
+use crate::full_once::FullOnce;
+use crate::logs::{Row, SETUP, entries_of, read, spelled_of};
+use sqlite_disk::{Disk, Fuse, Memory};
+use std::alloc::Global;
+use std::marker::{Brand, Send, Sync};
+use std::sync::Wait;
+use std::sync::atomic::{AtomicU64, Ordering};
+use std::test::Fail;
+use std::thread;
+use std::thread::Threads;
+use up_dispatch::{Board, BoardParts, Counts, Keeper, Naming, Seat, Seated, answer};
+use up_events::{Accepted, Id, NoMemory};
+use up_headers::Request;
+use up_hooks::PreHooks;
+use up_log::{LogFault, LogReader};
+use up_machine::{Asked, Done, Refusal};
+use up_replay::{Unrestored, asked_of, fits};
+use up_store::{LogFile, Logs, Store, StoreNotices, Stored, restore_on};
+use up_test_board::append;
+use up_wire::{Output, write_response};
+
+/// The number of uploads that are compared.
+const UPLOADS: u64 = 400;
+
+/// The result of a change: the status and the change, or why it was refused.
+pub type CommitResult = Result<(u16, Option<Accepted>), Refusal>;
+
+/// The counts of a board, and its responses about each upload.
+pub type Seen = (Counts, Vec<u8>);
+
+/// How often the store reported that changes cannot be written, that they can be again, and that none is made any more;
+/// and that a log was made shorter, and that it could not be.
+#[derive(Drop)]
+pub struct Tally {
+    fails: AtomicU64,
+    works: AtomicU64,
+    stops: AtomicU64,
+    shorter: AtomicU64,
+    not_shorter: AtomicU64,
+}
+
+impl Tally {
+    pub fn new() -> Tally {
+        Tally {
+            fails: AtomicU64::new(0),
+            works: AtomicU64::new(0),
+            stops: AtomicU64::new(0),
+            shorter: AtomicU64::new(0),
+            not_shorter: AtomicU64::new(0),
+        }
+    }
+
+    /// How often a log was made shorter, and how often it could not be.
+    pub fn switches(&self) -> [u64; 2] {
+        [
+            self.shorter.load(Ordering::SeqCst),
+            self.not_shorter.load(Ordering::SeqCst),
+        ]
+    }
+
+    pub fn counts(&self) -> [u64; 3] {
+        [
+            self.fails.load(Ordering::SeqCst),
+            self.works.load(Ordering::SeqCst),
+            self.stops.load(Ordering::SeqCst),
+        ]
+    }
+}
+
+impl StoreNotices for &Tally {
+    fn fails(&self, _fault: LogFault) {
+        self.fails.fetch_add(1, Ordering::SeqCst);
+    }
+
+    fn works(&self) {
+        self.works.fetch_add(1, Ordering::SeqCst);
+    }
+
+    fn is_restored(&self, _entries: u64) {}
+
+    fn is_not_restored(&self, _why: Unrestored) {}
+
+    fn stops(&self, _fault: LogFault) {
+        self.stops.fetch_add(1, Ordering::SeqCst);
+    }
+
+    fn is_shorter(&self, _before: u64, _now: u64) {
+        self.shorter.fetch_add(1, Ordering::SeqCst);
+    }
+
+    fn is_not_shorter(&self, _fault: LogFault) {
+        self.not_shorter.fetch_add(1, Ordering::SeqCst);
+    }
+
+    fn makes_room(&self) -> bool {
+        false
+    }
+}
+
+/// A disk whose file can be opened again.
+pub trait Again: Disk {
+    /// The same file, opened again.
+    fn again(self) -> Self;
+}
+
+impl Again for Memory {
+    fn again(self) -> Memory {
+        self
+    }
+}
+
+impl<D: Disk> Again for Fuse<D> {
+    fn again(self) -> Fuse<D> {
+        self
+    }
+}
+
+impl<D: Disk> Again for FullOnce<D> {
+    fn again(self) -> FullOnce<D> {
+        FullOnce::new(self.into_inner(), 0)
+    }
+}
+
+impl<D: Again> LogFile<D> for &Tally {
+    fn open_again(&self, _generation: u64, failed: Option<D>) -> Result<D, LogFault> {
+        match failed {
+            Some(disk) => Ok(disk.again()),
+            None => Err(LogFault::Busy),
+        }
+    }
+}
+
+/// Makes a change, and returns its result.
+pub fn result_of<K: Keeper>(
+    alloc: Global,
+    keeper: &mut K,
+    request: Request,
+    id: Id,
+    asked: &Asked,
+) -> CommitResult
+    requires { FitsWithin MAX_UPLOAD_BYTES request }
+{
+    let Done { response, change } = keeper.commit(alloc, request, id, asked)?;
+    Ok((response.status, change))
+}
+
+/// Makes the changes of these rows.
+pub fn change<K: Keeper>(
+    alloc: Global,
+    keeper: &mut K,
+    rows: &[Row],
+) -> Result<Vec<CommitResult>, NoMemory> {
+    let mut told = Vec::new(alloc);
+    for entry in entries_of(alloc, rows)? {
+        if !fits(&entry.request) {
+            return Err(NoMemory);
+        }
+        let asked = asked_of(entry.consent);
+        told.push(result_of(alloc, keeper, entry.request, entry.id, &asked))?;
+    }
+    Ok(told)
+}
+
+/// Appends this byte to the upload 0 `times` times, while others append too, and returns the number of attempts.
+fn append_each<K: Keeper>(
+    alloc: Global,
+    keeper: &mut K,
+    byte: u8,
+    times: u64,
+) -> Result<u64, NoMemory> {
+    let mut offset: u64 = 0;
+    let mut put: u64 = 0;
+    for count in 0..10_000u64 {
+        if put == times {
+            return Ok(count);
+        }
+        let request = append(alloc, Id::new(0), offset, &[byte])?;
+        match result_of(alloc, keeper, request, Id::new(0), &Asked::AllowedFinish) {
+            Ok(_) => put = put.saturating_add(1),
+            Err(Refusal::WrongOffset) => {}
+            Err(_) => return Ok(count),
+        }
+        offset = offset.saturating_add(1);
+    }
+    Ok(10_000)
+}
+
+/// The work from one seat: the changes of these rows, and then `times` times this byte for the upload 0.
+#[derive(Drop)]
+pub struct Job {
+    pub rows: Vec<Row>,
+    pub byte: u8,
+    pub times: u64,
+}
+
+/// The results of the rows of a job, and the number of attempts for its bytes.
+pub type Outcome = (Vec<CommitResult>, u64);
+
+fn work<K: Keeper>(alloc: Global, keeper: &mut K, job: &Job) -> Result<Outcome, NoMemory> {
+    let told = change(alloc, keeper, &job.rows)?;
+    Ok((told, append_each(alloc, keeper, job.byte, job.times)?))
+}
+
+/// The counts of a board, and its responses to HEAD and GET of each upload.
+pub fn seen<B: Naming, R: Wait>(
+    rt: &R,
+    alloc: Global,
+    board: &Board<B>,
+    seat: &mut Seat<B>,
+) -> Result<Seen, Fail> {
+    let hooks = PreHooks::new(Vec::new(alloc));
+    let mut sink = Output::new(Vec::new(alloc));
+    let mut keeper = Seated::new(rt, board, seat);
+    for number in 0..UPLOADS {
+        let id = Id::new(u128::from(number));
+        let response = answer(alloc, &mut keeper, &hooks, Request::Head(id), id);
+        write_response(&mut sink, &response, false, false)?;
+        let response = answer(alloc, &mut keeper, &hooks, Request::Get(id), id);
+        write_response(&mut sink, &response, false, false)?;
+    }
+    Ok((board.counts(rt), sink.into_inner()))
+}
+
+/// A new board of two lanes, which do not run, and a seat.
+pub fn board_of<B: Naming, R: Wait>(
+    rt: &R,
+    alloc: Global,
+    parts: BoardParts,
+) -> Result<(Board<B>, Seat<B>), Fail>
+    requires named { IsNamed B.name B.parts B.queue B.lanes parts }
+    requires lanes { length parts.queues ≡ 2 }
+    requires sized { B.max_size ≡ 1000 }
+{
+    let (board, _takes) = Board::<B>::new(alloc, parts, 1000)?;
+    match board.seat(rt) {
+        Some(seat) => Ok((board, seat)),
+        None => Err("a seat".into()),
+    }
+}
+
+/// The results of a job on a plain board with these parts, and the state of the board after it.
+fn plain_of<B: Naming, R: Wait>(
+    rt: &R,
+    alloc: Global,
+    parts: BoardParts,
+    job: &Job,
+) -> Result<(Outcome, Seen), Fail>
+    requires named { IsNamed B.name B.parts B.queue B.lanes parts }
+    requires lanes { length parts.queues ≡ 2 }
+    requires sized { B.max_size ≡ 1000 }
+{
+    let (board, mut seat) = board_of::<B, R>(rt, alloc, parts)?;
+    let outcome = work(alloc, &mut Seated::new(rt, &board, &mut seat), job)?;
+    Ok((outcome, seen(rt, alloc, &board, &mut seat)?))
+}
+
+/// The file of a log with these batches.
+pub fn file_of(alloc: Global, batches: &[&[Row]]) -> Result<Memory, LogFault> {
+    let (mut log, _) = read(alloc, Memory::new(alloc))?;
+    for rows in batches {
+        log.append(&mut Vec::new(alloc), &spelled_of(alloc, rows)?)?;
+    }
+    Ok(log.into_device())
+}
+
+/// Starts to open a log.
+pub fn reader_of<D: Disk>(alloc: Global, device: D) -> Result<LogReader<D>, LogFault>
+where
+    D: Drop,
+{
+    match LogReader::open(alloc, device, SETUP) {
+        Ok(reader) => Ok(reader),
+        Err(refused) => Err(refused.fault),
+    }
+}
+
+/// The number of entries of the log in a file.
+pub fn count_in(alloc: Global, file: Memory) -> Result<(u64, Memory), LogFault> {
+    let mut reader = reader_of(alloc, file)?;
+    let mut count: u64 = 0;
+    for _ in 0..10_000u64 {
+        let Some(entries) = reader.next_batch(alloc)? else {
+            break;
+        };
+        count = count.saturating_add(entries.len() as u64);
+    }
+    match reader.finish() {
+        Ok(log) => Ok((count, log.into_device())),
+        Err(refused) => Err(refused.fault),
+    }
+}
+
+/// The logs of a store on these disks, whose changes are made again on a board.
+pub fn logs_on<B: Naming, D: Disk, R: Wait>(
+    rt: &R,
+    alloc: Global,
+    board: &Board<B>,
+    seat: &mut Seat<B>,
+    disks: (D, D),
+) -> Result<Logs<D>, Unrestored>
+where
+    D: Drop,
+{
+    let changes = reader_of(alloc, disks.0)?;
+    let voids = reader_of(alloc, disks.1)?;
+    restore_on(rt, alloc, board, seat, changes, voids)
+}
+
+/// The state of a board with these parts that is restored from the logs on these disks, and the logs.
+fn made_again<B: Naming, D: Disk, R: Wait>(
+    rt: &R,
+    alloc: Global,
+    parts: BoardParts,
+    disks: (D, D),
+) -> Result<(Seen, Logs<D>), Fail>
+where
+    D: Drop,
+    requires named { IsNamed B.name B.parts B.queue B.lanes parts }
+    requires lanes { length parts.queues ≡ 2 }
+    requires sized { B.max_size ≡ 1000 }
+{
+    let (board, mut seat) = board_of::<B, R>(rt, alloc, parts)?;
+    let logs = logs_on(rt, alloc, &board, &mut seat, disks)?;
+    Ok((seen(rt, alloc, &board, &mut seat)?, logs))
+}
+
+/// The results of each job, the state of the board after them, and the logs.
+#[derive(Drop)]
+pub struct Ran<D: Disk> {
+    pub outcomes: Vec<Outcome>,
+    pub seen: Seen,
+    pub logs: Logs<D>,
+}
+
+/// Does each job in a thread of its own, from a seat of its own, through a store whose logs are on these disks.
+fn work_each<B: Naming + Send + Sync, D: Again + Send + Drop, R: Threads + Wait + Sync>(
+    rt: &R,
+    alloc: Global,
+    board: &Board<B>,
+    store: &Store<D, &Tally>,
+    jobs: Vec<Job>,
+) -> Result<Vec<Outcome>, Fail> {
+    let given = thread::map_vec(
+        rt,
+        jobs,
+        &|job: Job| -> Result<Outcome, NoMemory> {
+            let Some(mut seat) = board.seat(rt) else {
+                return Err(NoMemory);
+            };
+            work(alloc, &mut Stored::new(rt, board, store, &mut seat), &job)
+        },
+    )?;
+    let mut outcomes = Vec::new(alloc);
+    for outcome in given {
+        outcomes.push(outcome?)?;
+    }
+    Ok(outcomes)
+}
+
+/// Does each job in a thread of its own, from a seat of its own, through a store whose logs are on these disks. `None`
+/// if the logs are not opened.
+fn run_by<B: Naming + Send + Sync, D: Again + Send + Drop, R: Threads + Wait + Sync>(
+    rt: &R,
+    alloc: Global,
+    parts: BoardParts,
+    disks: (D, D),
+    tally: &Tally,
+    jobs: Vec<Job>,
+) -> Result<Option<Ran<D>>, Fail>
+    requires named { IsNamed B.name B.parts B.queue B.lanes parts }
+    requires lanes { length parts.queues ≡ 2 }
+    requires sized { B.max_size ≡ 1000 }
+{
+    let (board, mut seat) = board_of::<B, R>(rt, alloc, parts)?;
+    let Ok(logs) = logs_on(rt, alloc, &board, &mut seat, disks) else {
+        return Ok(None);
+    };
+    let store = Store::unread(alloc, tally)?;
+    store.open(rt, logs);
+    let outcomes = work_each(rt, alloc, &board, &store, jobs)?;
+    let seen = seen(rt, alloc, &board, &mut seat)?;
+    let Some(logs) = store.into_logs() else {
+        return Err("a store that is open".into());
+    };
+    Ok(Some(Ran {
+        outcomes,
+        seen,
+        logs,
+    }))
+}
+
+/// The results of a job on a plain board, and the state of the board after it.
+pub fn plainly<R: Wait>(rt: &R, alloc: Global, job: &Job) -> Result<(Outcome, Seen), Fail> {
+    let parts = BoardParts::new(alloc, 2, 4)?;
+    plain_of::<Brand, R>(rt, alloc, parts, job)
+}
+
+/// The state of a board that is restored from the logs on these disks, and the logs.
+pub fn restored<D: Disk, R: Wait>(
+    rt: &R,
+    alloc: Global,
+    disks: (D, D),
+) -> Result<(Seen, Logs<D>), Fail>
+where
+    D: Drop,
+{
+    let parts = BoardParts::new(alloc, 2, 4)?;
+    made_again::<Brand, D, R>(rt, alloc, parts, disks)
+}
+
+/// Does each job in a thread of its own, through a store whose logs are on these disks. `None` if the logs are not
+/// opened.
+pub fn run_on<D: Again + Send + Drop, R: Threads + Wait + Sync>(
+    rt: &R,
+    alloc: Global,
+    disks: (D, D),
+    tally: &Tally,
+    jobs: Vec<Job>,
+) -> Result<Option<Ran<D>>, Fail> {
+    let parts = BoardParts::new(alloc, 2, 4)?;
+    run_by::<Brand, D, R>(rt, alloc, parts, disks, tally, jobs)
+}

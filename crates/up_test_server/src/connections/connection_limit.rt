@@ -1,0 +1,54 @@
+//! How many connections are open, as threads report it.
+use std::test::Fail;
+use std::thread;
+use std::time::{Duration, Instant};
+use up_connections::ConnectionLimit;
+
+#[test]
+fn lets_the_third_in_once_one_has_left(rt: HostRuntime) -> Result<(), Fail> {
+    let limit = ConnectionLimit::new();
+    let shared_limit = &limit;
+    let shared = &rt;
+    assert_eq!(rt; (limit.acquire(&rt, 2), limit.acquire(&rt, 2)), (1, 2));
+    let told = thread::scope(thread::scope_env(), &rt, |scope| -> Result<u64, Fail> {
+        let third = scope.spawn(move || shared_limit.acquire(shared, 2))?;
+        shared_limit.release(shared);
+        Ok(third.join(shared))
+    })?;
+    assert_eq!(rt; told, 2);
+    Ok(())
+}
+
+#[test]
+fn waits_in_want_until_another_has_left(rt: HostRuntime) -> Result<(), Fail> {
+    let limit = ConnectionLimit::new();
+    let shared_limit = &limit;
+    let shared = &rt;
+    let alone = limit.acquire(&rt, 9);
+    limit.release_and_back_off(&rt, alone);
+    assert_eq!(rt; (limit.acquire(&rt, 9), limit.acquire(&rt, 9)), (1, 2));
+    limit.release(&rt);
+    limit.release_and_back_off(&rt, 2);
+    assert_eq!(rt; (limit.acquire(&rt, 9), limit.acquire(&rt, 9)), (1, 2));
+    thread::scope(thread::scope_env(), &rt, |scope| -> Result<(), Fail> {
+        let other = scope.spawn(move || shared_limit.release(shared))?;
+        shared_limit.release_and_back_off(shared, 2);
+        other.join(shared);
+        Ok(())
+    })?;
+    assert_eq!(rt; limit.acquire(&rt, 1), 1);
+    Ok(())
+}
+
+/// Two connections stay while a third lacks a resource.
+#[test]
+fn waits_in_want_for_a_while(rt: HostRuntime) -> Result<(), Fail> {
+    let limit = ConnectionLimit::new();
+    assert_eq!(rt; (limit.acquire(&rt, 9), limit.acquire(&rt, 9)), (1, 2));
+    let third = limit.acquire(&rt, 9);
+    let start = Instant::now(&rt)?;
+    limit.release_and_back_off(&rt, third);
+    assert!(rt; start.elapsed(&rt)? < Duration::from_secs(10));
+    assert_eq!(rt; limit.acquire(&rt, 9), 3);
+    Ok(())
+}

@@ -1,0 +1,57 @@
+//! Seats that are taken, put back and taken again.
+ghost use Rattle.std.specs.Prelude.{◌≡◌, length};
+ghost use Rattle.up_dispatch.specs.Parts.{IsNamed};
+
+use std::alloc::Global;
+use std::marker::Brand;
+use std::process::Abort;
+use std::sync::Wait;
+use std::test::Fail;
+use up_connections::Seats;
+use up_dispatch::{Board, BoardParts, Naming, Seat};
+use up_events::Id;
+use up_machine::Asked;
+use up_test_board::creation;
+
+/// Creates an upload from the seat.
+fn make<B: Naming, R: Wait>(rt: &R, alloc: Global, board: &Board<B>, seat: &mut Seat<B>) {
+    let request = creation(alloc, Some(1));
+    let _ = board.commit(rt, alloc, seat, request, Id::new(7), &Asked::Allowed);
+}
+
+/// Puts back a seat from which an upload was created, and takes it again before a new one.
+fn taken_again<B: Naming, R: Wait + Abort>(
+    rt: &R,
+    alloc: Global,
+    parts: BoardParts,
+) -> Result<(), Fail>
+    requires named { IsNamed B.name B.parts B.queue B.lanes parts }
+    requires lanes { length parts.queues ≡ 1 }
+    requires sized { B.max_size ≡ 1 }
+{
+    let (board, _takes) = Board::<B>::new(alloc, parts, 1)?;
+    let seats = Seats::new(alloc, 2)?;
+    let Some(mut first) = seats.pop(rt, &board) else {
+        return Err("a first seat".into());
+    };
+    make(rt, alloc, &board, &mut first);
+    seats.put_back(rt, first);
+    let (Some(again), Some(second)) = (seats.pop(rt, &board), seats.pop(rt, &board)) else {
+        return Err("two seats".into());
+    };
+    assert_eq!(rt; (again.count(), second.count()), (1, 0));
+    seats.put_back(rt, second);
+    seats.put_back(rt, again);
+    let mut counts = Vec::new(alloc);
+    for seat in seats.into_inner() {
+        counts.push(seat.count())?;
+    }
+    assert_eq!(rt; counts.as_slice(), [0u64, 1].as_slice());
+    Ok(())
+}
+
+#[test]
+fn takes_the_seat_that_came_back(rt: HostRuntime) -> Result<(), Fail> {
+    let parts = BoardParts::new(rt.alloc(), 1, 4)?;
+    taken_again::<Brand, _>(&rt, rt.alloc(), parts)
+}

@@ -1,0 +1,115 @@
+//! Post-hooks of two lanes that wait for each other: one is handed its event before the other has returned.
+ghost use Rattle.std.specs.Prelude.{IsTrue};
+ghost use Rattle.up_hooks.specs.Recorded.{has_code};
+
+use crate::clients::{ask_each, hold_answer};
+use crate::replaying::replayed;
+use crate::serving::reported;
+use std::net::TcpListener;
+use std::sync::atomic::{AtomicBool, Ordering};
+use std::test::Fail;
+use up_connections::{Patience, Silent, Visits};
+use up_dispatch::AtOnce;
+use up_events::Event;
+use up_hooks::{Outcome, PreHooks};
+use up_test_board::{POST, is_set_in_time};
+use up_wire::Input;
+use up_words::Settings;
+
+/// Two uploads, the first of lane 1 and the second of lane 0.
+const ASKED: &[u8] = b"POST /files/ HTTP/1.1\r\nHost: a\r\nTus-Resumable: 1.0.0\r\n\
+    Upload-Length: 1\r\n\r\n\
+    POST /files/ HTTP/1.1\r\nHost: a\r\nTus-Resumable: 1.0.0\r\nUpload-Length: 1\r\n\r\n";
+
+/// The responses to them.
+const ANSWERS: &str = "HTTP/1.1 201 Created\r\nTus-Resumable: 1.0.0\r\nCache-Control: no-store\r\n\
+    Location: /files/00000000000000000000000000000001\r\nContent-Length: 0\r\n\r\n\
+    HTTP/1.1 201 Created\r\nTus-Resumable: 1.0.0\r\nCache-Control: no-store\r\n\
+    Location: /files/00000000000000000000000000000002\r\nContent-Length: 0\r\n\r\n";
+
+/// The report after them.
+const REPORT: &str = "\naccepted 2\nlane 0 drained 1\n\
+    00000000000000000000000000000002 1 post-create 0/1 done\nlane 1 drained 1\n\
+    00000000000000000000000000000001 1 post-create 0/1 done\n";
+
+/// Notifies the other lane that this one's post-hook was called, and waits until the other's was.
+fn meet(own: &AtomicBool, other: &AtomicBool) -> Outcome
+    ensures { IsTrue (has_code result) }
+{
+    own.store(true, Ordering::SeqCst);
+    if is_set_in_time(other) {
+        Outcome::Done
+    } else {
+        Outcome::Failed(99)
+    }
+}
+
+/// Which of the two lanes' post-hooks were called.
+#[derive(Drop)]
+struct Meeting {
+    zero: AtomicBool,
+    one: AtomicBool,
+}
+
+impl Meeting {
+    fn new() -> Meeting {
+        Meeting {
+            zero: AtomicBool::new(false),
+            one: AtomicBool::new(false),
+        }
+    }
+
+    /// The outcome of a lane's post-hook: `Done` if the other lane's is called in time.
+    fn answer(&self, event: &Event) -> Outcome
+        ensures { IsTrue (has_code result) }
+    {
+        if event.id.lane(2) == 0 {
+            meet(&self.zero, &self.one)
+        } else {
+            meet(&self.one, &self.zero)
+        }
+    }
+}
+
+#[test]
+fn post_hooks_of_two_lanes_meet(rt: HostRuntime) -> Result<(), Fail> {
+    let meeting = Meeting::new();
+    let shared = &meeting;
+    let answer = move |event: &Event| -> Outcome
+        ensures { IsTrue (has_code result) }
+    { shared.answer(event) };
+    let (ended, written) = replayed(&rt, rt.alloc(), answer, &mut Input::new(ASKED));
+    assert_eq!(rt; ended, Ok(()));
+    let text = str::from_utf8(&written)?;
+    assert_eq!(rt; text.strip_prefix(ANSWERS), Some(REPORT));
+    Ok(())
+}
+
+#[test]
+fn post_hooks_meet_by_two_connections(rt: HostRuntime) -> Result<(), Fail> {
+    let listener = TcpListener::bind(&rt, "127.0.0.1:0")?;
+    let address = listener.local_addr()?;
+    let mut clients = ask_each(&rt, address, &[POST, POST])?;
+    let meeting = Meeting::new();
+    let shared = &meeting;
+    let answer = move |event: &Event| -> Outcome
+        ensures { IsTrue (has_code result) }
+    { shared.answer(event) };
+    let hooks = PreHooks::new(Vec::new(rt.alloc()));
+    let settings = Settings::default();
+    let visits = Visits {
+        service: &AtOnce,
+        connections: Some(2),
+        open: 1,
+        patience: Patience::default(),
+        watch: None,
+        ending: None,
+        notices: &Silent,
+    };
+    let report = reported(&rt, rt.alloc(), hooks, answer, &settings, listener, &visits)?;
+    assert_eq!(rt; str::from_utf8(&report)?, REPORT);
+    for client in &mut clients {
+        hold_answer(&rt, rt.alloc(), client, b"HTTP/1.1 201 ", b"")?;
+    }
+    Ok(())
+}

@@ -1,5 +1,0 @@
-use Rattle.std.proofs.Common.{rules}
-use Rattle.up_wire.proofs.body.Stop.into_body.Goals as goal
-
-pub returns-in-Ended : goal.returns-in-Ended
-returns-in-Ended c = search rules
