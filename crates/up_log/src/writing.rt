@@ -2,7 +2,8 @@
 ghost use Rattle.std.specs.Prelude.{◌≡◌, ◌≤◌, ◌++◌, ◌∷◌, [], length, drop, IfOk, OnOk};
 ghost use Rattle.std.specs.Option.{option_map};
 ghost use Rattle.up_log.specs.Blocks.{body};
-ghost use Rattle.up_log.specs.Spelling.{word, id, text, maybe, many, flag, kind, consent, declared_length, pair, new_upload, patch, asked_for, entry, batch};
+ghost use Rattle.up_log.specs.Spelling.{word, id, text, maybe, many, flag, kind, consent, declared_length, pair};
+ghost use Rattle.up_log.specs.Spelling.{new_upload, patch, asked_for, entry, batch};
 
 use crate::entry::{Consent, Entry};
 use crate::spelled::Spelled;
