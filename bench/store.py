@@ -9,14 +9,17 @@ folder next to this repository. Without `--program` it times the program of this
 
 In each of N rounds (by default 7) each work is done in each way, in turn:
 
-- `bodies`: 128 bodies of 1 MiB over one connection, MiB/s.
+- `bodies`: 128 bodies of 1 MiB over one connection, MiB/s. Each waits for its answer, so receiving and writing take
+  turns.
+- `many`: 32 bodies of 1 MiB over each of 16 connections, MiB/s. Some are received while others are written.
 - `small`: 64 connections append 200 times 200 bytes each, changes a second.
 - `reads`: a GET of 1 MiB, 1,024 times over one connection, MiB/s.
 - `restart`: seconds from the start of a server whose log has 1 GiB (or `--mebibytes`) to the first HEAD that is
   answered, if the system has the log in memory, and if it hasn't.
 
 The writes alone are those of a log: a batch after a closed gate, a sync, the gate, a sync. For `small` one writer makes
-them with one change in each batch, and with 64. For `restart` only the file of the log is read.
+them with one change in each batch, and with 64. For `many` it makes them with one body in each batch, and with eight,
+which is what a batch takes. For `restart` only the file of the log is read.
 
 A line of the table is a work done in one way: the median, least and most, and the median as a fraction of that of the
 first way. NAME is a work's name, to do only that one.
@@ -39,6 +42,7 @@ serving.MAX_WAIT = 600
 
 # The numbers of each work.
 BODIES, SMALL, CONNECTIONS, REQUESTS, READS = 128, 200, 64, 200, 1024
+MANY, OF_EACH, OF_BATCH = 16, 32, 8
 
 # The bytes of a block of a log besides its changes, without its gate, and of a change besides the bytes that it
 # appends.
@@ -99,6 +103,25 @@ def written_bodies(bench):
 def held_bodies(bench):
     with bench.served(has_store=False) as client:
         return BODIES / client.timed("append", 1, BODIES, MIB)
+
+
+def stored_many(bench):
+    with bench.served() as client:
+        return MANY * OF_EACH / client.timed("append", MANY, OF_EACH, MIB)
+
+
+def written_many(bench, together=1):
+    batches = MANY * OF_EACH // together
+    return batches * together / bench.written(batches, OF_BLOCK + together * (OF_CHANGE + MIB))
+
+
+def written_by_eight(bench):
+    return written_many(bench, OF_BATCH)
+
+
+def held_many(bench):
+    with bench.served(has_store=False) as client:
+        return MANY * OF_EACH / client.timed("append", MANY, OF_EACH, MIB)
 
 
 def stored_small(bench):
@@ -186,6 +209,10 @@ ALONE = "the writes alone"
 WORKS = {
     "bodies": ("1 MiB over one connection, MiB/s", [
         ("with a store", stored_bodies), (ALONE, written_bodies), ("without a store", held_bodies),
+    ]),
+    "many": ("1 MiB over 16 connections, MiB/s", [
+        ("with a store", stored_many), (f"{ALONE}, one a batch", written_many),
+        (f"{ALONE}, 8 a batch", written_by_eight), ("without a store", held_many),
     ]),
     "small": ("200 bytes over 64 connections, 1/s", [
         ("with a store", stored_small), (f"{ALONE}, one a batch", written_small),
