@@ -255,8 +255,8 @@ impl Line {
         batch
     }
 
-    /// A batch was written, or could not be. If it could not be, none of those that wait are written either. So each of
-    /// them is answered before others are drawn after it.
+    /// A batch was written, or could not be. If it could not be, none of those that wait are written either. Others are
+    /// written only after each of these had its turn.
     pub fn note_written(&mut self, batch: Vec<Spelled>, is_on_disk: bool)
         ensures done { self.new.done ≡ self.old.done }
         ensures known { is_on_disk ≡ true → self.old.is_over ≡ false
