@@ -1,11 +1,11 @@
 -- The answers to messages that are refused.
 use Rattle.std.specs.Prelude.{◌≡◌, ◌⊎◌, ℕ, Bool, true, false, List, [], ◌∷◌, Option, Some, None, codes}
-use Rattle.up_headers.specs.HeaderFaults as header
+use Rattle.up_headers.specs.HeaderFaults.{header_fault_line, header_fault_status}
 use Rattle.up_headers.specs.declared.header_fault.HeaderFault.{HeaderFault}
 use Rattle.up_headers.specs.declared.header_fault.HeaderFault.TheVariants as fault
 use Rattle.up_machine.specs.Responses.{version}
 use Rattle.up_message.specs.Refused.{answered, out_of_memory, plain_text, refused_with}
-use Rattle.up_wire.specs.WireFaults as wire
+use Rattle.up_wire.specs.WireFaults.{wire_fault_line, wire_fault_status}
 use Rattle.up_message.specs.declared.response.Response.{Response}
 use Rattle.up_wire.specs.declared.wire_fault.WireFault.{WireFault}
 use Rattle.up_wire.specs.declared.wire_fault.WireFault.TheVariants as unread
@@ -30,26 +30,26 @@ reply_with (Some status) text = refused_with status text
 
 -- the answer to a message that can't be read
 abbrev pub reply_to_wire_fault : WireFault → Response
-reply_to_wire_fault unread.BadHead = reply_with (wire.status_of unread.BadHead) (wire.line_of unread.BadHead)
-reply_to_wire_fault unread.HeadTooLarge = reply_with (wire.status_of unread.HeadTooLarge) (wire.line_of unread.HeadTooLarge)
-reply_to_wire_fault unread.BadFraming = reply_with (wire.status_of unread.BadFraming) (wire.line_of unread.BadFraming)
-reply_to_wire_fault unread.UnknownCoding = reply_with (wire.status_of unread.UnknownCoding) (wire.line_of unread.UnknownCoding)
-reply_to_wire_fault unread.BodyTooLarge = reply_with (wire.status_of unread.BodyTooLarge) (wire.line_of unread.BodyTooLarge)
-reply_to_wire_fault unread.ReadFailed = reply_with (wire.status_of unread.ReadFailed) (wire.line_of unread.ReadFailed)
+reply_to_wire_fault unread.BadHead = reply_with (wire_fault_status unread.BadHead) (wire_fault_line unread.BadHead)
+reply_to_wire_fault unread.HeadTooLarge = reply_with (wire_fault_status unread.HeadTooLarge) (wire_fault_line unread.HeadTooLarge)
+reply_to_wire_fault unread.BadFraming = reply_with (wire_fault_status unread.BadFraming) (wire_fault_line unread.BadFraming)
+reply_to_wire_fault unread.UnknownCoding = reply_with (wire_fault_status unread.UnknownCoding) (wire_fault_line unread.UnknownCoding)
+reply_to_wire_fault unread.BodyTooLarge = reply_with (wire_fault_status unread.BodyTooLarge) (wire_fault_line unread.BodyTooLarge)
+reply_to_wire_fault unread.ReadFailed = reply_with (wire_fault_status unread.ReadFailed) (wire_fault_line unread.ReadFailed)
 reply_to_wire_fault unread.NoMemory = out_of_memory
-reply_to_wire_fault unread.WriteFailed = reply_with (wire.status_of unread.WriteFailed) (wire.line_of unread.WriteFailed)
+reply_to_wire_fault unread.WriteFailed = reply_with (wire_fault_status unread.WriteFailed) (wire_fault_line unread.WriteFailed)
 
 -- the answer to a message that is not a request
 abbrev pub reply_to_header_fault : HeaderFault → Response
-reply_to_header_fault fault.Version = version_refused_with (header.status_of fault.Version) (header.line_of fault.Version)
-reply_to_header_fault fault.NoSuchPath = refused_with (header.status_of fault.NoSuchPath) (header.line_of fault.NoSuchPath)
+reply_to_header_fault fault.Version = version_refused_with (header_fault_status fault.Version) (header_fault_line fault.Version)
+reply_to_header_fault fault.NoSuchPath = refused_with (header_fault_status fault.NoSuchPath) (header_fault_line fault.NoSuchPath)
 reply_to_header_fault (fault.Method of_upload) =
-    method_refused_with (header.status_of (fault.Method of_upload)) (header.line_of (fault.Method of_upload)) of_upload
-reply_to_header_fault fault.Repeated = refused_with (header.status_of fault.Repeated) (header.line_of fault.Repeated)
-reply_to_header_fault fault.BadLength = refused_with (header.status_of fault.BadLength) (header.line_of fault.BadLength)
-reply_to_header_fault fault.TooLong = refused_with (header.status_of fault.TooLong) (header.line_of fault.TooLong)
-reply_to_header_fault fault.BadConcat = refused_with (header.status_of fault.BadConcat) (header.line_of fault.BadConcat)
-reply_to_header_fault fault.BadMetadata = refused_with (header.status_of fault.BadMetadata) (header.line_of fault.BadMetadata)
+    method_refused_with (header_fault_status (fault.Method of_upload)) (header_fault_line (fault.Method of_upload)) of_upload
+reply_to_header_fault fault.Repeated = refused_with (header_fault_status fault.Repeated) (header_fault_line fault.Repeated)
+reply_to_header_fault fault.BadLength = refused_with (header_fault_status fault.BadLength) (header_fault_line fault.BadLength)
+reply_to_header_fault fault.TooLong = refused_with (header_fault_status fault.TooLong) (header_fault_line fault.TooLong)
+reply_to_header_fault fault.BadConcat = refused_with (header_fault_status fault.BadConcat) (header_fault_line fault.BadConcat)
+reply_to_header_fault fault.BadMetadata = refused_with (header_fault_status fault.BadMetadata) (header_fault_line fault.BadMetadata)
 reply_to_header_fault fault.NoMemory = out_of_memory
 
 -- it is this response, or the answer that memory ran out

@@ -83,7 +83,7 @@ consent_again Skipped rest = refl
 consent_again Allowed rest = refl
 consent_again AllowedFinish rest = refl
 
-declared_again : IsReadAgain spell.declared declared_at
+declared_again : IsReadAgain spell.declared_length declared_at
 unfolding declared_at
 declared_again None rest = refl
 declared_again (Some (Ok n)) rest = rw (word_again n rest) refl
@@ -109,10 +109,10 @@ patch_again : IsReadAgain spell.patch patch_at
 unfolding patch_at
 patch_again p rest =
     let e = spell.text p.bytes ++ rest in
-    let d = spell.declared p.length ++ e in
+    let d = spell.declared_length p.length ++ e in
     let c = spell.maybe word p.offset ++ d in
     let b = spell.flag p.media ++ c in
-    ap patch_at (regroup5 (spell.id p.id) (spell.flag p.media) (spell.maybe word p.offset) (spell.declared p.length) (spell.text p.bytes) rest)
+    ap patch_at (regroup5 (spell.id p.id) (spell.flag p.media) (spell.maybe word p.offset) (spell.declared_length p.length) (spell.text p.bytes) rest)
     ∙ rw (id_again p.id b, flag_again p.media c, maybe_again word word_at word_again p.offset d, declared_again p.length e, text_again p.bytes rest) refl
 
 asked_for_again : IsReadAgain spell.asked_for asked_for_at
