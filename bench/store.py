@@ -18,7 +18,7 @@ In each of N rounds (by default 7) each work is done in each way, in turn:
   answered, if the system has the log in memory, and if it hasn't.
 
 The writes alone are those of a log: a batch after a closed gate, a sync, the gate, a sync. For `small` one writer makes
-them with one change in each batch, and with 64. For `many` it makes them with one body in each batch, and with eight,
+them with one change in each batch, and with 64. For `many` it makes them with one body in each batch, and with four,
 about as many as a batch takes. For `restart` only the file of the log is read.
 
 A line of the table is a work done in one way: the median, least and most, and the median as a fraction of that of the
@@ -42,7 +42,7 @@ serving.MAX_WAIT = 600
 
 # The numbers of each work.
 BODIES, SMALL, CONNECTIONS, REQUESTS, READS = 128, 200, 64, 200, 1024
-MANY, OF_EACH, OF_BATCH = 16, 32, 8
+MANY, OF_EACH, OF_BATCH = 16, 32, 4
 
 # The bytes of a block of a log besides its changes, without its gate, and of a change besides the bytes that it
 # appends.
@@ -115,7 +115,7 @@ def written_many(bench, together=1):
     return batches * together / bench.written(batches, OF_BLOCK + together * (OF_CHANGE + MIB))
 
 
-def written_by_eight(bench):
+def written_by_four(bench):
     return written_many(bench, OF_BATCH)
 
 
@@ -212,7 +212,7 @@ WORKS = {
     ]),
     "many": ("1 MiB over 16 connections, MiB/s", [
         ("with a store", stored_many), (f"{ALONE}, one a batch", written_many),
-        (f"{ALONE}, 8 a batch", written_by_eight), ("without a store", held_many),
+        (f"{ALONE}, 4 a batch", written_by_four), ("without a store", held_many),
     ]),
     "small": ("200 bytes over 64 connections, 1/s", [
         ("with a store", stored_small), (f"{ALONE}, one a batch", written_small),

@@ -15,7 +15,7 @@ use up_log::Spelled;
 const MAX_BATCH_CHANGES: usize = 64;
 
 /// How many bytes a batch takes, at most, unless its first change alone takes more.
-const MAX_BATCH_BYTES: usize = 1 << 23;
+const MAX_BATCH_BYTES: usize = 1 << 22;
 
 /// What comes next for a change that was drawn.
 #[derive(Drop)]
