@@ -1,16 +1,18 @@
 //! A run of the server, once the closures of its rules are made.
-ghost use Rattle.std.specs.Prelude.{◌≡◌, [], All, IsTrue, length};
+ghost use Rattle.std.specs.Prelude.{◌≡◌, [], All, IsTrue, List, length};
 ghost use Rattle.up_hooks.specs.Recorded.{has_code};
+ghost use Rattle.up_log.specs.Logs.{IsReaderAt};
+ghost use Rattle.up_log.specs.declared.entry.Entry.{Entry as Logged};
 
 use crate::fault::Fault;
 use crate::notice_lines::NoticeLines;
 use crate::store_files::StoreFiles;
-use crate::store_folder::EndedNotes;
+use crate::store_folder::{EndedNotes, StoreFile};
 use crate::store_lines::StoreLines;
 use sqlite_disk::Disk;
 use std::alloc::{AllocError, Global};
 use std::io::{self, BufReader, BufWriter};
-use std::marker::{Send, Sync};
+use std::marker::{Brand, Send, Sync};
 use std::net::TcpListener;
 use std::random::RandomSource;
 use std::sync::Wait;
@@ -21,9 +23,11 @@ use up_connections::{Ending, Notices, Patience, RandomIds, Visits, Watch};
 use up_dispatch::{AtOnce, Service};
 use up_events::Event;
 use up_handed::continue_each;
+use up_history::Chronicle;
 use up_hooks::{Outcome, PostHook, PreHooks, Recorder, Teller, new_recorders, new_tellers};
 use up_server::{Connections, EventLines, Hooks, ServerFault, Shown, keep_serving, replay, serve};
-use up_store::{EndedUploads, Folder, Keeping, LogFile, Shortening, StoreNotices};
+use up_store::{EndedUploads, Folder, Histories, Keeping, LogFile, Shortening, StoreNotices};
+use up_tie::Site;
 use up_wire::{Output, Sink};
 use up_words::{Settings, Words};
 
@@ -33,7 +37,7 @@ const STDIN: i32 = 0;
 /// How many bytes a log has, at the least, that is made shorter: 64 MiB.
 const LEAST_LOG: u64 = 1 << 26;
 
-/// Where connections are counted, if the words ask for lines that say how the server stands.
+/// Where connections are counted, if the words ask for lines that say how the server is doing.
 fn watch_of(words: &Words) -> Option<Watch> {
     let seconds = words.serve.as_ref()?.status?;
     Some(Watch::each(seconds))
@@ -47,25 +51,6 @@ fn ending_of(alloc: Global, words: &Words) -> Result<Option<Ending>, AllocError>
             Ok(Some(ending))
         }
         _ => Ok(None),
-    }
-}
-
-/// A store that a thread tends while it is served.
-trait Tended {
-    /// Tends it until `stop_tending` is called.
-    fn tend<R: Wait>(&self, rt: &R, alloc: Global);
-
-    /// Ends `tend`.
-    fn stop_tending(&self);
-}
-
-impl<D: Disk + Drop, N: StoreNotices + LogFile<D>, F: Folder<D>> Tended for Keeping<D, N, F> {
-    fn tend<R: Wait>(&self, rt: &R, alloc: Global) {
-        Keeping::tend(self, rt, alloc);
-    }
-
-    fn stop_tending(&self) {
-        Keeping::stop_tending(self);
     }
 }
 
@@ -225,7 +210,11 @@ fn run_counted<
 fn run_kept<
     'x,
     H: Shown + Drop,
-    S: Service + Tended,
+    D: Disk + Drop + Send + 'x,
+    N: StoreNotices + LogFile<D> + Drop + Send + Sync + 'x,
+    F: Folder<D> + Drop + Sync + 'x,
+    J: Site + Send + 'x,
+    K: Chronicle + Send + 'x,
     R: Print + Eprint + AllocGlobal + Clock + RandomSource + Threads + Wait + Sync,
 >(
     rt: &R,
@@ -233,7 +222,7 @@ fn run_kept<
     listener: TcpListener,
     hooks: PreHooks,
     post_hooks: Vec<H>,
-    keeping: &'x S,
+    keeping: &'x Keeping<D, N, F, J, K>,
 ) -> Result<(), Fault>
     requires one_for_each { length post_hooks.items ≡ beside.now.settings.lanes }
     requires new { All (λ h. H.is_sound h × (H.handed h ≡ [])) post_hooks.items }
@@ -258,26 +247,58 @@ fn run_kept<
     )
 }
 
-/// Like `run_kept`. For the prover: that threads may share a store is shown here for files of any type, before their
-/// types are known.
-fn run_tended<
-    H: Shown + Drop,
-    D: Disk + Drop + Send,
-    N: StoreNotices + LogFile<D> + Drop + Send + Sync,
-    F: Folder<D> + Drop + Sync,
+/// Serves what the listener accepts, over the files of a store, once its histories have names.
+fn run_named<
+    J: Site + Send,
+    K: Chronicle + Send,
+    F: Fn(&Event) -> Outcome + Send + Drop,
     R: Print + Eprint + AllocGlobal + Clock + RandomSource + Threads + Wait + Sync,
 >(
     rt: &R,
     beside: &Beside<'_, R>,
     listener: TcpListener,
     hooks: PreHooks,
-    post_hooks: Vec<H>,
-    keeping: &Keeping<D, N, F>,
+    tellers: Vec<Teller<F>>,
+    files: StoreFiles<'_>,
+    histories: Histories,
 ) -> Result<(), Fault>
-    requires one_for_each { length post_hooks.items ≡ beside.now.settings.lanes }
-    requires new { All (λ h. H.is_sound h × (H.handed h ≡ [])) post_hooks.items }
+    requires written { histories.written ≡ J.history }
+    requires drawn { histories.drawn ≡ K.history }
+    requires reader { J.premise → (batches : List (List Logged))
+        × IsReaderAt ⟦<StoreFile as Disk>⟧ files.changes J.setup [] batches }
+    requires one_for_each { length tellers.items ≡ beside.now.settings.lanes }
+    requires same { files.settings.lanes ≡ beside.now.settings.lanes }
+    requires new { All (λ t. ⟦<Teller<F> as PostHook>⟧.is_sound t
+        × (⟦<Teller<F> as PostHook>⟧.handed t ≡ [])) tellers.items }
 {
-    run_kept(rt, beside, listener, hooks, post_hooks, keeping)
+    let StoreFiles {
+        folder,
+        settings,
+        current,
+        changes,
+        voids,
+        counts,
+        spare,
+    } = files;
+    let host = folder.rt;
+    let lines = StoreLines::new(host, folder.path_of("log")?, spare);
+    let ended = EndedUploads::new(rt.alloc());
+    let shortening = Shortening::new(current, ended, folder, settings.lanes, LEAST_LOG);
+    let keeping: Keeping<_, _, _, J, K> = Keeping::new(
+        rt.alloc(),
+        changes,
+        voids,
+        histories,
+        &lines,
+        shortening,
+    )?;
+    let notes = EndedNotes::new(rt, keeping.ended());
+    let post_hooks = continue_each(rt.alloc(), tellers, counts, notes)?;
+    run_kept(rt, beside, listener, hooks, post_hooks, &keeping)?;
+    if lines.is_unread() {
+        return Err(Fault::AlreadyReported);
+    }
+    Ok(())
 }
 
 /// Serves what the listener accepts, over the files of a store.
@@ -297,27 +318,8 @@ fn run_stored<
     requires new { All (λ t. ⟦<Teller<F> as PostHook>⟧.is_sound t
         × (⟦<Teller<F> as PostHook>⟧.handed t ≡ [])) tellers.items }
 {
-    let StoreFiles {
-        folder,
-        settings,
-        current,
-        changes,
-        voids,
-        counts,
-        spare,
-    } = files;
-    let host = folder.rt;
-    let lines = StoreLines::new(host, folder.path_of("log")?, spare);
-    let ended = EndedUploads::new(rt.alloc());
-    let shortening = Shortening::new(current, ended, folder, settings.lanes, LEAST_LOG);
-    let keeping = Keeping::new(rt.alloc(), changes, voids, &lines, shortening)?;
-    let notes = EndedNotes::new(rt, keeping.ended());
-    let post_hooks = continue_each(rt.alloc(), tellers, counts, notes)?;
-    run_tended(rt, beside, listener, hooks, post_hooks, &keeping)?;
-    if lines.is_unread() {
-        return Err(Fault::AlreadyReported);
-    }
-    Ok(())
+    let histories = Histories::new();
+    run_named::<Brand, Brand, _, _>(rt, beside, listener, hooks, tellers, files, histories)
 }
 
 /// Serves what the listener accepts, or else standard input, with these closures and post-hooks.

@@ -1,65 +1,62 @@
 //! How far a book follows a log.
-ghost use Rattle.std.specs.Prelude.{◌≡◌, ◌<◌, ◌++◌, ◌∷◌, [], length, IsTrue, ◌↔◌};
+ghost use Rattle.std.specs.Prelude.{◌≡◌, ◌++◌, ◌∷◌, [], length, Some, IsTrue, ◌↔◌};
 ghost use Rattle.up_commits.specs.Follows.{following};
+ghost use Rattle.up_log.specs.declared.entry.Entry.{Entry as Logged};
 
 use std::marker::Model;
 use up_events::Trace;
+use up_history::{Chronicle, Receipt, Trail};
 use up_log::Entry;
 
-/// How far a book follows a log. It stores only a count; contracts describe it as the first entries of the log, and
-/// which of them were carried out.
+/// How far a book follows a log, whose entries are those of a history. It stores only a count; contracts describe it as
+/// the first entries of the history, and which of them were carried out.
 #[derive(Drop)]
-pub struct Followed {
-    count: u64,
-    entries: Trace<Entry>,
+pub struct Followed<J: Chronicle> {
+    trail: Trail<Entry, J>,
     carried: Trace<bool>,
 }
 
-impl Model for Followed {
-    ghost use Rattle.std.specs.Prelude.{◌≡◌, length};
+impl<J: Chronicle> Model for Followed<J> {
     ghost use Rattle.up_commits.specs.Follows.{Following, following};
 
     ghost Value = { Following };
 
-    ghost view = { λ f. following f.entries.items f.carried.items };
-
-    ghost invariant = { λ f. f.count ≡ length f.entries.items };
+    ghost view = { λ f. following f.trail f.carried.items };
 }
 
-impl Followed {
+impl<J: Chronicle> Followed<J> {
     /// It follows no entry yet.
-    pub fn new() -> Followed
+    pub fn new() -> Followed<J>
         ensures { result ≡ following [] [] }
     {
         Followed {
-            count: 0,
-            entries: Trace::new(),
+            trail: Trail::new(),
             carried: Trace::new(),
         }
     }
 
-    /// The number of entries that the book follows, which is the place of the next entry in the log.
+    /// The number of entries that the book follows.
     pub fn len(&self) -> u64
         ensures { result ≡ length self.now.entries }
     {
-        self.count
+        self.trail.len()
     }
 
-    /// Whether the entry at this place of the log is the next one, and can be followed. After 2^64 - 1 entries, none
-    /// can.
-    pub fn is_next(&self, place: u64) -> bool
-        ensures { IsTrue result ↔ (place ≡ length self.now.entries) × (place < u64.MAX) }
+    /// Whether the entry of a receipt is the next one.
+    pub fn is_next(&self, receipt: &Receipt<Entry, J>) -> bool
+        ensures { IsTrue result ↔ (receipt.now.number ≡ length self.now.entries) }
     {
-        place == self.count && place < u64::MAX
+        self.trail.is_next(receipt)
     }
 
-    /// Begins to follow one more entry. `end` then says whether it was carried out.
-    pub fn begin(&mut self, entry: &Entry)
-        requires room { length self.old.entries < u64.MAX }
-        ensures { self.new ≡ following (self.old.entries ++ entry.now ∷ []) self.old.carried }
+    /// Begins to follow the entry of a receipt, which is the next one. `end` then says whether it was carried out.
+    pub fn begin(&mut self, receipt: &Receipt<Entry, J>)
+        requires next { receipt.now.number ≡ length self.old.entries }
+        ensures before { self.old.entries ≡ receipt.now.before }
+        ensures begun { (entry : Logged) → receipt.now.entry ≡ Some entry
+            → self.new ≡ following (self.old.entries ++ entry ∷ []) self.old.carried }
     {
-        self.entries.push(entry);
-        self.count += 1;
+        self.trail.follow(receipt);
     }
 
     /// Says whether the entry that was begun last was carried out.

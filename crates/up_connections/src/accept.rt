@@ -1,5 +1,5 @@
 //! Many connections at a time, each in a thread that serves it alone.
-ghost use Rattle.std.specs.Prelude.{◌≤◌, IfSome};
+ghost use Rattle.std.specs.Prelude.{◌≡◌, ◌≤◌, IfSome};
 
 use crate::connection_context::ConnectionContext;
 use crate::connection_limit::ConnectionLimit;
@@ -50,7 +50,9 @@ fn serve_in_turn<B: Naming, I: Ids, S: Service, T: Wait>(
     hooks: &PreHooks,
     service: &S,
     first: TcpStream,
-) {
+)
+    requires same { B.history ≡ S.history }
+{
     let mut next = Some(first);
     for _ in rt.forever() {
         let Some(stream) = next else {
@@ -80,11 +82,15 @@ fn let_in<
     hooks: &'s PreHooks,
     service: &'s S,
     stream: TcpStream,
-) -> Result<(), Failed> {
+) -> Result<(), Failed>
+    requires same { B.history ≡ S.history }
+{
     let Some(stream) = context.pool.hand(rt, stream) else {
         return Ok(());
     };
-    let visit = move || {
+    let visit = move ||
+        requires same { B.history ≡ S.history }
+    {
         serve_in_turn(rt, alloc, context, hooks, service, stream);
     };
     match Builder::new().stack_size(STACK).spawn_scoped(scope, visit) {
@@ -155,7 +161,9 @@ fn accept_all<
     hooks: &'s PreHooks,
     listener: &TcpListener,
     visits: &Visits<'s, N, S>,
-) {
+)
+    requires same { B.history ≡ S.history }
+{
     let mut gate = Gate::new(listener, visits.notices, context.ending.is_some());
     for _ in 0..visits.connections.unwrap_or(u64::MAX) {
         let Some(open_count) = acquire(rt, context, visits.open) else {
@@ -203,10 +211,16 @@ fn serve_in<
     hooks: &'x PreHooks,
     listener: &'x TcpListener,
     visits: &'x Visits<'x, N, S>,
-) {
-    thread::scope(thread::scope_env(), rt, |scope| {
-        accept_all(scope, rt, alloc, context, hooks, listener, visits);
-    });
+)
+    requires same { B.history ≡ S.history }
+{
+    thread::scope(
+        thread::scope_env(),
+        rt,
+        |scope|
+            requires same { B.history ≡ S.history }
+        { accept_all(scope, rt, alloc, context, hooks, listener, visits) },
+    );
 }
 
 /// Makes the board ready for the first conversation. Returns whether it is ready. It isn't if there is no seat for it.
@@ -215,7 +229,9 @@ fn is_ready<B: Naming, I, S: Service, T: Wait>(
     alloc: Global,
     context: &ConnectionContext<'_, B, I>,
     service: &S,
-) -> bool {
+) -> bool
+    requires same { B.history ≡ S.history }
+{
     let Some(seat) = context.seats.pop(rt, context.board) else {
         return false;
     };
@@ -244,7 +260,9 @@ pub fn serve_connections<
     ids: I,
     listener: &TcpListener,
     visits: &Visits<'_, N, S>,
-) -> Result<Vec<Seat<B>>, AllocError> {
+) -> Result<Vec<Seat<B>>, AllocError>
+    requires same { B.history ≡ S.history }
+{
     let context = ConnectionContext {
         board,
         limit: ConnectionLimit::new(),

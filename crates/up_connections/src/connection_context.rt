@@ -10,7 +10,8 @@ use std::os::fd::AsRawFd;
 use std::sync::{Mutex, Wait};
 use up_dispatch::{Board, Naming};
 
-/// What the connections of a server share, besides its closures.
+/// What the connections of a server share, besides its closures. These are a parameter of their own: a struct with a
+/// ghost field over the bound of a parameter can't also contain a `dyn`.
 #[derive(Drop)]
 pub struct ConnectionContext<'a, B: Naming, I> {
     pub board: &'a Board<B>,

@@ -14,7 +14,7 @@ const PAUSE: u64 = 100;
 pub struct ConnectionLimit {
     open: Mutex<u64>,
     ended: Condvar,
-    /// How many connections have ended. A thread in `pause` sleeps on it.
+    /// How many connections have ended. A thread in `back_off` sleeps on it.
     ends: AtomicU64,
 }
 

@@ -1,4 +1,6 @@
 //! One connection.
+ghost use Rattle.std.specs.Prelude.{◌≡◌};
+
 use crate::connection_context::ConnectionContext;
 use crate::patience::{Pace, Reading, Writing, milliseconds};
 use std::alloc::Global;
@@ -38,7 +40,9 @@ fn serve_stream<'x, B: Naming, I: Ids, S: Service, T: Wait>(
     service: &S,
     seat: &mut Seat<B>,
     stream: &'x TcpStream,
-) -> io::Result<Ended> {
+) -> io::Result<Ended>
+    requires same { B.history ≡ S.history }
+{
     stream.set_nodelay(true)?;
     context.patience.set_on(stream)?;
     let pace = &Pace::new(context.patience);
@@ -93,7 +97,9 @@ pub fn serve_connection<B: Naming, I: Ids, S: Service, T: Wait>(
     hooks: &PreHooks,
     service: &S,
     stream: TcpStream,
-) {
+)
+    requires same { B.history ≡ S.history }
+{
     if let Some(mut seat) = context.seats.pop(rt, context.board) {
         context.begin_reading(rt, &stream);
         let ended = serve_stream(&*rt, alloc, &*context, hooks, service, &mut seat, &stream);

@@ -29,15 +29,13 @@ IsTied lanes max_size board follows is_tied =
 abbrev pub IsNewBook : ℕ → ℕ → State → Type 0
 IsNewBook lanes max_size book = (keeps : Bool) × (book ≡ new_book keeps lanes max_size)
 
--- unless the board was closed, its book was the one that the entries before this place define
-abbrev pub IsDecidedAt : ℕ → ℕ → ℕ → State → Type 0
-IsDecidedAt lanes max_size place book =
-    book.closed ≡ false → (before : List Entry) × (length before ≡ place) × IsBookAfter lanes max_size before book
+-- unless the board was closed, its book was the one that these entries define
+abbrev pub IsDecidedAfter : ℕ → ℕ → List Entry → State → Type 0
+IsDecidedAfter lanes max_size before book = book.closed ≡ false → IsBookAfter lanes max_size before book
 
--- the commit of the entry at this place of a log to a lawful board, which has decided on the entries before it, in
--- their order
-abbrev pub CommitsAt : (ℕ → QueueId) → ℕ → ℕ → ℕ → ℕ → Entry → ℕ → Result Done Refusal → Type 0
-CommitsAt queue lanes max_size place count entry after_it result =
+-- the commit of an entry to a lawful board, which has decided on these entries before, in their order
+abbrev pub CommitsAfter : (ℕ → QueueId) → ℕ → ℕ → List Entry → ℕ → Entry → ℕ → Result Done Refusal → Type 0
+CommitsAfter queue lanes max_size before count entry after_it result =
     (old : BoardView) × (new : BoardView)
     × IsCommitOf queue lanes max_size old new count after_it entry.request entry.id (asked_of entry.consent) result
-    × IsDecidedAt lanes max_size place old.book
+    × IsDecidedAfter lanes max_size before old.book

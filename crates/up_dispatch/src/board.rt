@@ -1,11 +1,11 @@
 //! The board: a book that threads share.
-ghost use Rattle.std.specs.Prelude.{◌≡◌, ◌≤◌, ◌<◌, ◌^◌, [], length, vec_len, IfNone, IfOk, IfSome};
+ghost use Rattle.std.specs.Prelude.{◌≡◌, ◌≤◌, ◌<◌, ◌^◌, [], length, vec_len, IfNone, IfOk, IfSome, Some};
 ghost use Rattle.up_events.specs.Limits.{max_upload_bytes};
 ghost use Rattle.up_headers.specs.Table.{FitsWithin};
 ghost use Rattle.up_dispatch.specs.Lists.{EachAt};
 ghost use Rattle.up_dispatch.specs.Parts.{IsNamed, capacities_of};
 ghost use Rattle.up_dispatch.specs.Keepers.{SeatPlans, SeatCommits};
-ghost use Rattle.up_dispatch.specs.Tied.{CommitsAt, IsNewBook};
+ghost use Rattle.up_dispatch.specs.Tied.{CommitsAfter, IsNewBook};
 
 use crate::counts::Counts;
 use crate::inside::Inside;
@@ -14,9 +14,11 @@ use crate::naming::Naming;
 use crate::parts::BoardParts;
 use crate::seat::Seat;
 use std::alloc::Global;
+use std::marker::Send;
 use std::sync::{Condvar, Mutex, Wait};
 use up_events::{Id, MAX_LANES, MAX_UPLOAD_BYTES, NoMemory};
 use up_headers::Request;
+use up_history::Receipt;
 use up_lanes::Refill;
 use up_log::Entry;
 use up_machine::{Asked, Done, Plan, Refusal};
@@ -163,36 +165,44 @@ impl<B: Naming> Board<B> {
         result
     }
 
-    /// Decides on the entry at a place of the log, from a seat. The place is the number of entries that the board was
-    /// given before. Unless the board is closed, its book is then the one that the entries before this place define,
-    /// each of which was carried out in its turn, or passed over because memory ran out. `None` if it is not; nothing
-    /// is done then.
+    /// Decides on the entry of a receipt, from a seat. The receipt is for a place of the history that the board
+    /// follows. Unless the board is closed, its book is then the one that the entries before this place define, each of
+    /// which was carried out in its turn, or passed over because memory ran out. `None` if it is not; nothing is done
+    /// then.
     pub fn commit_at<R: Wait>(
         &self,
         rt: &R,
         alloc: Global,
         seat: &mut Seat<B>,
-        place: u64,
+        receipt: &Receipt<Entry, B>,
         entry: Entry,
     ) -> Option<Result<Done, Refusal>>
         requires bounded { FitsWithin MAX_UPLOAD_BYTES entry.request }
-        ensures some { IfSome result (λ r.
-            CommitsAt B.queue B.lanes B.max_size place seat.old entry seat.new r) }
+        requires claims { receipt.now.entry ≡ Some entry }
+        ensures some { IfSome result (λ r. CommitsAfter B.queue B.lanes B.max_size
+            receipt.now.before seat.old entry seat.new r) }
         ensures none { IfNone result (seat.new ≡ seat.old) }
     {
         let mut locked = self.locked.lock(rt);
         let lanes = locked.inside.lanes();
-        let (result, remains) = locked.commit_at(rt, alloc, seat, place, entry)?;
+        let (result, remains) = locked.commit_at(rt, alloc, seat, receipt, entry)?;
         drop(locked);
         self.tell(lanes, &result);
         remains.release();
         Some(result)
     }
 
-    /// Passes over the entry at a place of the log, which was not carried out because memory ran out. `None` if this is
-    /// not the next place; nothing is done then.
-    pub fn pass_over<R: Wait>(&self, rt: &R, place: u64, entry: &Entry) -> Option<()> {
-        self.locked.lock(rt).pass_over(place, entry)
+    /// Passes over the entry of a receipt, which was not carried out because memory ran out. `None` if it is not the
+    /// next one; nothing is done then.
+    pub fn pass_over<R: Wait>(
+        &self,
+        rt: &R,
+        receipt: &Receipt<Entry, B>,
+        entry: &Entry,
+    ) -> Option<()>
+        requires claims { receipt.now.entry ≡ Some entry.now }
+    {
+        self.locked.lock(rt).pass_over(receipt, entry)
     }
 
     /// Wakes the lane that has events to take after a commit, if the commit changed something.
@@ -240,7 +250,7 @@ impl<B: Naming> Board<B> {
     }
 }
 
-impl<B: Naming> Refill for Board<B> {
+impl<B: Naming + Send> Refill for Board<B> {
     fn refill<R: Wait>(&self, rt: &R, lane: u64) {
         self.locked.lock(rt).fill(rt, lane);
     }

@@ -56,7 +56,8 @@ fn answer_to<K: Keeper, I: Ids>(
     max_size: u64,
 ) -> Response
     requires small { max_size ≤ MAX_UPLOAD_BYTES }
-    ensures turn { IsTurn (Serves (keeping K.plans K.commits (ClosuresMayAnswer hooks.now)) I.draws) message max_size
+    ensures turn { IsTurn
+        (Serves (keeping K.plans K.commits (ClosuresMayAnswer hooks.now)) I.draws) message max_size
         (keeper_state (K.state keeper.old) ids.old) (keeper_state (K.state keeper.new) ids.new)
         result }
     ensures lender { K.lender keeper.new ≡ K.lender keeper.old }
@@ -80,7 +81,8 @@ fn carry_out_cut<K: Keeper, I: Ids>(
     max_size: u64,
 )
     requires small { max_size ≤ MAX_UPLOAD_BYTES }
-    ensures turn { IsCutTurn (Serves (keeping K.plans K.commits (ClosuresMayAnswer hooks.now)) I.draws) message max_size
+    ensures turn { IsCutTurn
+        (Serves (keeping K.plans K.commits (ClosuresMayAnswer hooks.now)) I.draws) message max_size
         (keeper_state (K.state keeper.old) ids.old) (keeper_state (K.state keeper.new) ids.new) }
     ensures lender { K.lender keeper.new ≡ K.lender keeper.old }
 {

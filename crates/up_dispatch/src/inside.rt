@@ -115,6 +115,7 @@ impl<B: Naming> Inside<B> {
             takes,
             blank,
         } = parts;
+        // For the prover: `Book::journal` says that the book is sound.
         let _ = book.journal();
         let (total, rest) = blank.open::<B>();
         let inside = Inside {
@@ -218,6 +219,7 @@ impl<B: Naming> Inside<B> {
     pub fn is_lawful(&self)
         ensures { IsLawfulBoardView B.queue B.lanes B.max_size self.now }
     {
+        // For the prover: using a field brings in the invariant.
         let _ = self.cursors.len();
     }
 
@@ -257,6 +259,7 @@ impl<B: Naming> Inside<B> {
         let Seat { share, count } = seat;
         total.audit(share);
         let done = book.commit(alloc, request, id, asked, remains)?;
+        // For the prover: the book is still sound, and its changes are fewer than 2^64, so the sums do not overflow.
         let _ = book.journal().accepted_count();
         let changes = u64::from(done.change.is_some());
         total.add(share, changes);

@@ -1,11 +1,11 @@
 //! What lies under the board's lock: the board, and how far its book follows a log.
-ghost use Rattle.std.specs.Prelude.{◌≡◌, ◌<◌, IfNone, IfSome, IsTrue, ◌↔◌, Err, false, length};
+ghost use Rattle.std.specs.Prelude.{◌≡◌, IfNone, IfSome, IsTrue, ◌↔◌, Err, Some, false, length};
 ghost use Rattle.up_commits.specs.Follows.{IsBookAfter};
 ghost use Rattle.up_headers.specs.Table.{FitsWithin};
 ghost use Rattle.up_machine.specs.declared.refusal.Refusal.TheVariants.{NoMemory};
 ghost use Rattle.up_replay.specs.Replay.{asked_of};
 ghost use Rattle.up_dispatch.specs.Commits.{IsCommitOf};
-ghost use Rattle.up_dispatch.specs.Tied.{IsDecidedAt, IsNewBook};
+ghost use Rattle.up_dispatch.specs.Tied.{IsDecidedAfter, IsNewBook};
 
 use crate::inside::Inside;
 use crate::naming::Naming;
@@ -16,16 +16,17 @@ use std::sync::Wait;
 use up_commits::{Followed, books_follow};
 use up_events::{Id, MAX_UPLOAD_BYTES};
 use up_headers::Request;
+use up_history::Receipt;
 use up_log::Entry;
 use up_machine::{Asked, Done, Refusal, Remains};
 use up_replay::asked_of;
 
-/// A board, and how far its book follows a log. If a request that is not an entry of the log is carried out, the book
-/// no longer follows the log.
+/// A board, and how far its book follows the history of a log. If a request that is not an entry of the log is carried
+/// out, the book no longer follows it.
 #[derive(Drop)]
 pub struct Locked<B: Naming> {
     pub(crate) inside: Inside<B>,
-    pub(crate) followed: Followed,
+    pub(crate) followed: Followed<B>,
     /// Whether the book still follows the log.
     pub(crate) is_tied: bool,
 }
@@ -82,25 +83,26 @@ impl<B: Naming> Locked<B> {
         (result, remains)
     }
 
-    /// Decides on the next entry of the log that the book follows.
+    /// Decides on the next entry of the history that the book follows.
     fn carry_out<R: Wait>(
         &mut self,
         rt: &R,
         alloc: Global,
         seat: &mut Seat<B>,
+        receipt: &Receipt<Entry, B>,
         entry: Entry,
     ) -> (Result<Done, Refusal>, Remains)
         requires bounded { FitsWithin MAX_UPLOAD_BYTES entry.request }
-        requires room { length self.old.follows.entries < u64.MAX }
+        requires claims { receipt.now.entry ≡ Some entry }
+        requires next { receipt.now.number ≡ length self.old.follows.entries }
         requires tied { IsTrue self.old.is_tied }
         requires going { self.old.board.book.closed ≡ false }
         ensures commits { IsCommitOf B.queue B.lanes B.max_size self.old.board self.new.board
             seat.old seat.new entry.request entry.id (asked_of entry.consent) result.0 }
-        ensures after { IsBookAfter B.lanes B.max_size self.old.follows.entries
-            self.old.board.book }
+        ensures after { IsBookAfter B.lanes B.max_size receipt.now.before self.old.board.book }
     {
         books_follow();
-        self.followed.begin(&entry);
+        self.followed.begin(receipt);
         let Entry {
             id,
             consent,
@@ -114,22 +116,23 @@ impl<B: Naming> Locked<B> {
         (result, remains)
     }
 
-    /// Decides on the entry at a place of the log, from a seat. `None` if the book has not followed exactly the entries
-    /// before this place; nothing is done then. A closed board decides on the entry, but does not follow it.
+    /// Decides on the entry of a receipt, from a seat. `None` if the book has not followed exactly the entries before
+    /// it; nothing is done then. A closed board decides on the entry, but does not follow it.
     pub fn commit_at<R: Wait>(
         &mut self,
         rt: &R,
         alloc: Global,
         seat: &mut Seat<B>,
-        place: u64,
+        receipt: &Receipt<Entry, B>,
         entry: Entry,
     ) -> Option<(Result<Done, Refusal>, Remains)>
         requires bounded { FitsWithin MAX_UPLOAD_BYTES entry.request }
+        requires claims { receipt.now.entry ≡ Some entry }
         ensures commits { IfSome result (λ r. IsCommitOf B.queue B.lanes B.max_size
             self.old.board self.new.board seat.old seat.new
             entry.request entry.id (asked_of entry.consent) r.0) }
         ensures after { IfSome result (λ r.
-            IsDecidedAt B.lanes B.max_size place self.old.board.book) }
+            IsDecidedAfter B.lanes B.max_size receipt.now.before self.old.board.book) }
         ensures none { IfNone result ((self.new ≡ self.old) × (seat.new ≡ seat.old)) }
     {
         if self.inside.is_closed() {
@@ -140,21 +143,24 @@ impl<B: Naming> Locked<B> {
             } = entry;
             return Some(self.commit(rt, alloc, seat, request, id, &asked_of(consent)));
         }
-        if !self.is_tied || !self.followed.is_next(place) {
+        if !self.is_tied || !self.followed.is_next(receipt) {
             return None;
         }
-        Some(self.carry_out(rt, alloc, seat, entry))
+        Some(self.carry_out(rt, alloc, seat, receipt, entry))
     }
 
-    /// Passes over the entry at a place of the log. `None` if this is not the next place; nothing is done then.
-    pub fn pass_over(&mut self, place: u64, entry: &Entry) -> Option<()>
+    /// Passes over the entry of a receipt. `None` if it is not the next one; nothing is done then.
+    pub fn pass_over(&mut self, receipt: &Receipt<Entry, B>, entry: &Entry) -> Option<()>
+        requires claims { receipt.now.entry ≡ Some entry.now }
         ensures { self.new.board ≡ self.old.board }
     {
-        if !self.followed.is_next(place) {
+        if !self.followed.is_next(receipt) {
             return None;
         }
         books_follow();
-        self.followed.begin(entry);
+        self.followed.begin(receipt);
+        // For the prover: the receipt is for this entry.
+        let _ = entry;
         self.followed.end(false);
         Some(())
     }

@@ -28,6 +28,7 @@ impl Model for BoardParts {
 
     ghost view = { λ p. parts_view p.blank.name p.blank.parts p.cursors.items };
 
+    // The ledger has a share for each seat, and one more that stays with the board.
     ghost invariant = { λ p. (p.blank.parts ≡ MAX_SEATS + 1) × AreNew p.cursors.items p.takes.items };
 }
 

@@ -42,6 +42,11 @@ pub fn converse_at<B: Naming, I: Ids, R: Source, W: Sink, T: Wait>(
 
 /// How the conversations of a server are served.
 pub trait Service: Sync {
+    ghost use Rattle.logbook.specs.Pages.{Book};
+
+    // The history that the books of its boards follow.
+    ghost history: { Book };
+
     /// Prepares a new board for the first conversation, from this seat, which is returned. Also returns whether the
     /// board is ready. If it isn't, no conversation is to be served on it.
     fn begin<B: Naming, T: Wait>(
@@ -50,7 +55,8 @@ pub trait Service: Sync {
         alloc: Global,
         board: &Board<B>,
         seat: Seat<B>,
-    ) -> (Seat<B>, bool);
+    ) -> (Seat<B>, bool)
+        requires same { B.history ≡ history };
 
     /// Serves one conversation from a seat of the board.
     fn converse<B: Naming, I: Ids, R: Source, W: Sink, T: Wait>(
@@ -61,7 +67,8 @@ pub trait Service: Sync {
         seat: &mut Seat<B>,
         hooks: &PreHooks,
         exchange: &mut Exchange<'_, I, R, W>,
-    ) -> Ended;
+    ) -> Ended
+        requires same { B.history ≡ history };
 }
 
 /// Makes each change at once, in memory only.
@@ -69,6 +76,8 @@ pub trait Service: Sync {
 pub struct AtOnce;
 
 impl Service for AtOnce {
+    ghost history = { record { number = 0; log_name = 0; cells_name = 0 } };
+
     fn begin<B: Naming, T: Wait>(
         &self,
         _rt: &T,

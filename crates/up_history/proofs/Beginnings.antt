@@ -1,5 +1,5 @@
 -- Beginnings of one list.
-use Rattle.std.proofs.Common.{◌≡◌, ℕ, zero, suc, ◌≤◌, ◌<◌, List, [], ◌∷◌, ◌++◌, length, take, Option, Some, None, slice_get, refl, ap, sym, ◌∙◌, arith, length-append}
+use Rattle.std.proofs.Common.{◌≡◌, ℕ, zero, suc, ◌≤◌, List, [], ◌∷◌, ◌++◌, length, take, Option, Some, None, refl, ap, sym, ◌∙◌, arith, length-append}
 use Rattle.std.proofs.lemmas.List.{append-nil}
 use mathlib.Core.List.{IsPrefix}
 use Rattle.up_history.specs.Rules.{entries_in}
@@ -27,20 +27,6 @@ prefix_whole [] (y ∷ ys) p le = absurd (omega arith)
 prefix_whole (x ∷ xs) [] p le = absurd (cc (p.1))
 prefix_whole (x ∷ xs) (y ∷ ys) p le =
     let rest = prefix_whole xs ys (p.0, cc (p.1)) (omega arith) in cc (p.1, rest)
-
--- what stands in a beginning stands in the whole, at the same place
-pub prefix-get : {E : Type 0} (xs ys : List E) (k : ℕ) (x : E) → IsPrefix xs ys → slice_get xs k ≡ Some x → slice_get ys k ≡ Some x
-prefix-get [] ys k x p h = absurd cc
-prefix-get (y ∷ xs) [] k x p h = absurd (cc (p.1))
-prefix-get (y ∷ xs) (z ∷ ys) zero x p h = cc (p.1, h)
-prefix-get (y ∷ xs) (z ∷ ys) (suc k) x p h = prefix-get xs ys k x (p.0, cc (p.1)) h
-
--- and what stands in the whole stands in each beginning that is long enough
-pub prefix-get_back : {E : Type 0} (xs ys : List E) (k : ℕ) (x : E) → IsPrefix xs ys → k < length xs → slice_get ys k ≡ Some x → slice_get xs k ≡ Some x
-prefix-get_back [] ys k x p lt h = absurd (omega arith)
-prefix-get_back (y ∷ xs) [] k x p lt h = absurd (cc (p.1))
-prefix-get_back (y ∷ xs) (z ∷ ys) zero x p lt h = cc (p.1, h)
-prefix-get_back (y ∷ xs) (z ∷ ys) (suc k) x p lt h = prefix-get_back xs ys k x (p.0, cc (p.1)) (omega arith) h
 
 -- a list has each beginning of a beginning
 pub prefix-take : {E : Type 0} (xs ys : List E) (n : ℕ) → IsPrefix xs ys → n ≤ length xs → take n xs ≡ take n ys

@@ -1,13 +1,8 @@
 -- Two beginnings of one list.
-use Rattle.std.proofs.Common.{◌≡◌, ◌≤◌, ◌<◌, ◌⊎◌, inl, inr, ℕ, zero, suc, List, length, take, Option, Some, slice_get, arith, ◌∙◌, sym}
+use Rattle.std.proofs.Common.{◌≡◌, ◌≤◌, ◌<◌, ℕ, zero, suc, List, [], ◌∷◌, length, take, Option, slice_get, arith, ◌∙◌, sym}
 use mathlib.Core.List.{IsPrefix}
 use Rattle.up_history.specs.Rules.{entries_in}
-use Rattle.up_history.proofs.Beginnings.{prefix_shorter, prefix_whole, prefix-get, prefix-get_back, prefix-take, entries_in-prefix}
-
-order : (m n : ℕ) → (m ≤ n) ⊎ (n ≤ m)
-order zero n = inl (omega arith)
-order (suc m) zero = inr (omega arith)
-order (suc m) (suc n) = elim (order m n) [ inl le ↦ inl (omega arith) | inr ge ↦ inr (omega arith) ]
+use Rattle.up_history.proofs.Beginnings.{prefix_shorter, prefix_whole, prefix-take, entries_in-prefix}
 
 -- one begins with the other
 pub record Meet {E : Type 0} (xs ys : List E) : Type 0 where
@@ -28,10 +23,13 @@ meeting xs ys all p q = record {
 pub entries_meet : {E : Type 0} (xs ys all : List (Option E)) → IsPrefix xs all → IsPrefix ys all → Meet (entries_in xs) (entries_in ys)
 entries_meet xs ys all p q = meeting (entries_in xs) (entries_in ys) (entries_in all) (entries_in-prefix xs all p) (entries_in-prefix ys all q)
 
--- what stands in one of them stands in the other, if that is long enough
-pub stands : {E : Type 0} (xs ys : List E) (k : ℕ) (x : E) → (length xs ≤ length ys → IsPrefix xs ys) → (length ys ≤ length xs → IsPrefix ys xs)
-    → slice_get xs k ≡ Some x → k < length ys → slice_get ys k ≡ Some x
-stands xs ys k x shorter longer here lt = elim (order (length xs) (length ys)) [
-  | inl le ↦ prefix-get xs ys k x (shorter le) here
-  | inr ge ↦ prefix-get_back ys xs k x (longer ge) lt here
-]
+same_take-get : {E : Type 0} (xs ys : List E) (k : ℕ) → take (suc k) xs ≡ take (suc k) ys → k < length xs → k < length ys → slice_get ys k ≡ slice_get xs k
+same_take-get [] ys k is here there = absurd (omega arith)
+same_take-get (x ∷ xs) [] k is here there = absurd (omega arith)
+same_take-get (x ∷ xs) (y ∷ ys) zero is here there = cc (is)
+same_take-get (x ∷ xs) (y ∷ ys) (suc k) is here there = same_take-get xs ys k (cc (is)) (omega arith) (omega arith)
+
+-- what stands at a place that both have is the same
+pub stands : {E : Type 0} (xs ys : List E) (k : ℕ) → ((n : ℕ) → n ≤ length xs → n ≤ length ys → take n xs ≡ take n ys)
+    → k < length xs → k < length ys → slice_get ys k ≡ slice_get xs k
+stands xs ys k alike here there = same_take-get xs ys k (alike (suc k) (omega arith) (omega arith)) here there

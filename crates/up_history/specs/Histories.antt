@@ -1,21 +1,20 @@
 -- Histories and places in them, as contracts describe them.
-use Rattle.std.specs.Prelude.{ℕ, ◌≡◌, ◌≢◌, ◌+◌, ◌<◌, ◌≤◌, List, [], length, take, Option, Some, None, slice_get}
+use Rattle.std.specs.Prelude.{ℕ, ◌≡◌, ◌<◌, ◌≤◌, List, [], length, take, Option, Some, None, slice_get}
 use mathlib.Core.List.{IsPrefix}
 
 -- a place in a history: its number, the entry at the place, and the entries before it
 pub record Place (E : Type 0) : Type 0 where
   pub number : ℕ
-  pub entry : E
+  pub entry : Option E
   pub before : List E
+
+-- the place with this number in a front
+abbrev pub place_in : {E : Type 0} → List E → ℕ → Place E
+place_in front number = record { number = number; entry = slice_get front number; before = take number front }
 
 -- xs is a prefix of ys, and ys is longer
 abbrev pub IsLonger : {E : Type 0} → List E → List E → Type 0
 IsLonger xs ys = IsPrefix xs ys × (length xs < length ys)
-
--- one of the places does not have the next number, counting from `first`
-abbrev pub IsOutOfOrder : {E : Type 0} → List (Place E) → ℕ → Type 0
-IsOutOfOrder {E} places first =
-    (k : ℕ) × (place : Place E) × (slice_get places k ≡ Some place) × (place.number ≢ first + k)
 
 -- the first `count` entries of a front; none if there is no front
 abbrev pub first_entries : {E : Type 0} → Option (List E) → ℕ → List E

@@ -15,10 +15,6 @@ IsCounted cells log = cells ≡ (length (entries_in log), true) ∷ (0, true) �
 abbrev pub word_of : Book → Named
 word_of book = record { tracked = true; key = 0; book = book }
 
--- the log was seen as it is, and its number of entries was found
-abbrev pub Looks : {E : Type 0} → Step (Option E) → View (Option E) ℕ → ℕ → View (Option E) ℕ → Type 0
-Looks step before found after = length (entries_in after.0) ≡ found
-
 -- the entry was added to everything that had been seen; or the history was longer, and was seen
 abbrev pub Adds : {E : Type 0} → Step (Option E) → View (Option E) ℕ → ℕ → View (Option E) ℕ → Type 0
 Adds step before found after =

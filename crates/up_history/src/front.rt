@@ -1,12 +1,12 @@
 //! Prefixes of a history.
-ghost use Rattle.std.specs.Prelude.{◌≡◌, ◌<◌, ◌≤◌, ◌⊎◌, ℕ, ◌++◌, ◌∷◌, [], length, take, MatchBool};
+ghost use Rattle.std.specs.Prelude.{◌≡◌, ◌<◌, ◌≤◌, ◌⊎◌, ℕ, ◌++◌, ◌∷◌, [], length, take, MatchBool, None, Some};
 ghost use mathlib.Core.List.{IsPrefix};
 ghost use Rattle.up_history.specs.Histories.{IsLonger};
 
 use crate::chronicle::Chronicle;
 use crate::history::History;
-use crate::rule::{Add, Counted, Look, Nothing};
-use logbook::{Offer, Seen};
+use crate::rule::{Add, Counted, Nothing};
+use logbook::{Offer, Plain, Seen};
 use std::marker::{Model, PhantomData};
 
 /// A prefix of a history that was seen. Contracts describe it as its entries.
@@ -47,6 +47,18 @@ impl<E, J: Chronicle> Front<E, J> {
         }
     }
 
+    /// The same front, for those who give the history another name.
+    pub fn known_as<K: Chronicle>(&self) -> Front<E, K>
+        requires same { J.history ≡ K.history }
+        ensures { result ≡ self.now }
+    {
+        Front {
+            count: self.count,
+            seen: self.seen.again(),
+            of: PhantomData,
+        }
+    }
+
     /// Of two fronts of one history, one is a prefix of the other. This is a law: the function does nothing.
     pub fn meets(&self, other: &Front<E, J>)
         ensures shorter { length self.now ≤ length other.now → IsPrefix self.now other.now }
@@ -77,18 +89,6 @@ impl<E, J: Chronicle> Front<E, J> {
         }
     }
 
-    /// Sees the current history. It does not wait.
-    pub fn observe(&mut self, history: &History<E, J>)
-        ensures { IsPrefix self.old self.new }
-    {
-        let mut offer: Offer<Option<E>, u64, Counted, Nothing> = self
-            .seen
-            .plain::<Nothing, (), Look>(&());
-        self.count = history
-            .word
-            .load::<Look, Nothing>(&mut self.seen, &mut offer);
-    }
-
     /// Adds an entry after everything that was seen, and returns whether it did. If it did not, the history is longer,
     /// and has now been seen.
     pub fn add(&mut self, history: &History<E, J>, entry: &E) -> bool
@@ -96,9 +96,24 @@ impl<E, J: Chronicle> Front<E, J> {
         ensures { MatchBool result (self.new ≡ self.old ++ entry.now ∷ [])
             (IsLonger self.old self.new) }
     {
+        self.add_by::<E, Add>(history, entry)
+    }
+
+    /// Adds the entry for which something stands, as `A` says.
+    pub fn add_by<X, A: Plain<X, Option<E>, u64>>(
+        &mut self,
+        history: &History<E, J>,
+        about: &X,
+    ) -> bool
+        requires room { length self.old < u64.MAX }
+        requires plain { A.state about.now ≡ None }
+        requires one { (entry : E) × (A.ask about.now ≡ Some entry) }
+        ensures { (entry : E) → A.ask about.now ≡ Some entry
+            → MatchBool result (self.new ≡ self.old ++ entry ∷ []) (IsLonger self.old self.new) }
+    {
         let mut offer: Offer<Option<E>, u64, Counted, Nothing> = self
             .seen
-            .plain::<Nothing, E, Add>(entry);
+            .plain::<Nothing, X, A>(about);
         let mut pen = self.seen.no_pen();
         let count = self.count;
         let found = history

@@ -1,14 +1,12 @@
 //! A thread's receipt for an entry.
-ghost use Rattle.std.specs.Prelude.{◌≡◌, ◌<◌, ◌≤◌, ◌+◌, ◌++◌, ◌∷◌, []};
-ghost use Rattle.std.specs.Prelude.{length, map, take, Some, IfSome, IfNone, OnSome, slice_get};
-ghost use mathlib.Core.List.{IsPrefix};
-ghost use Rattle.up_history.specs.Histories.{IsLonger, IsOutOfOrder};
+ghost use Rattle.std.specs.Prelude.{◌≡◌, ◌<◌, ◌≤◌, ◌++◌, ◌∷◌, []};
+ghost use Rattle.std.specs.Prelude.{length, take, Some, IfSome, IfNone, OnSome, slice_get};
+ghost use Rattle.up_history.specs.Histories.{IsLonger, place_in};
 
 use crate::chronicle::Chronicle;
 use crate::front::Front;
 use crate::history::History;
 use std::marker::Model;
-use std::snapshot::Snapshot;
 
 /// A thread's receipt for an entry of a history: the number of its place, counted from 0. Contracts describe it as the
 /// number, the entry, and the entries before it.
@@ -16,36 +14,28 @@ use std::snapshot::Snapshot;
 pub struct Receipt<E, J: Chronicle> {
     number: u64,
     front: Front<E, J>,
-    entry: Snapshot<E>,
 }
 
 impl<E, J: Chronicle> Model for Receipt<E, J> {
-    ghost use Rattle.std.specs.Prelude.{◌≡◌, Some, slice_get, take};
-    ghost use Rattle.up_history.specs.Histories.{Place};
+    ghost use Rattle.std.specs.Prelude.{◌<◌, length};
+    ghost use Rattle.up_history.specs.Histories.{Place, place_in};
 
     ghost Value = { Place E };
 
-    ghost view = { λ r. record {
-      number = r.number;
-      entry = r.entry.value;
-      before = take r.number r.front;
-    } };
+    ghost view = { λ r. place_in r.front r.number };
 
-    ghost invariant = { λ r. slice_get r.front r.number ≡ Some r.entry.value };
+    ghost invariant = { λ r. r.number < length r.front };
 }
 
 impl<E, J: Chronicle> Receipt<E, J> {
     /// A receipt for the entry at a place of a front.
-    pub fn of(front: &Front<E, J>, number: u64, entry: &E) -> Receipt<E, J>
-        requires there { slice_get front.now number ≡ Some entry.now }
-        ensures number { result.number ≡ number }
-        ensures entry { result.entry ≡ entry.now }
-        ensures before { result.before ≡ take number front.now }
+    pub fn of(front: &Front<E, J>, number: u64) -> Receipt<E, J>
+        requires there { number < length front.now }
+        ensures { result ≡ place_in front.now number }
     {
         Receipt {
             number,
             front: front.again(),
-            entry: Snapshot::of(entry),
         }
     }
 
@@ -59,7 +49,7 @@ impl<E, J: Chronicle> Receipt<E, J> {
         requires room { length front.old < u64.MAX }
         ensures added { OnSome result (front.new ≡ front.old ++ entry.now ∷ []) }
         ensures receipt { IfSome result (λ r.
-            (r.number ≡ length front.old) × (r.entry ≡ entry.now)) }
+            (r.number ≡ length front.old) × (r.entry ≡ Some entry.now)) }
         ensures before { IfSome result (λ r. r.before ≡ front.old) }
         ensures longer { IfNone result (IsLonger front.old front.new) }
     {
@@ -67,7 +57,7 @@ impl<E, J: Chronicle> Receipt<E, J> {
         if !front.add(history, entry) {
             return None;
         }
-        Some(Receipt::of(front, number, entry))
+        Some(Receipt::of(front, number))
     }
 
     /// The number of the entry's place.
@@ -77,10 +67,31 @@ impl<E, J: Chronicle> Receipt<E, J> {
         self.number
     }
 
+    /// A copy.
+    pub fn again(&self) -> Receipt<E, J>
+        ensures { result ≡ self.now }
+    {
+        Receipt {
+            number: self.number,
+            front: self.front.again(),
+        }
+    }
+
+    /// The same receipt, for those who give the history another name.
+    pub fn known_as<K: Chronicle>(&self) -> Receipt<E, K>
+        requires same { J.history ≡ K.history }
+        ensures { result ≡ self.now }
+    {
+        Receipt {
+            number: self.number,
+            front: self.front.known_as(),
+        }
+    }
+
     /// A front that contains the entry.
     pub fn front(&self) -> Front<E, J>
-        ensures there { slice_get result self.now.number ≡ Some self.now.entry }
-        ensures before { take self.now.number result ≡ self.now.before }
+        ensures there { self.now.number < length result }
+        ensures place { place_in result self.now.number ≡ self.now }
     {
         self.front.again()
     }
@@ -89,7 +100,7 @@ impl<E, J: Chronicle> Receipt<E, J> {
     /// does nothing.
     pub fn is_in(&self, front: &Front<E, J>)
         ensures there { self.now.number < length front.now
-            → slice_get front.now self.now.number ≡ Some self.now.entry }
+            → slice_get front.now self.now.number ≡ self.now.entry }
         ensures before { self.now.number ≤ length front.now
             → take self.now.number front.now ≡ self.now.before }
     {
@@ -98,43 +109,12 @@ impl<E, J: Chronicle> Receipt<E, J> {
         self.front.meets(front);
     }
 
-    /// A front that has the receipt's entry after everything before its place.
-    pub fn follow(&self, front: &Front<E, J>) -> Front<E, J>
-        requires there { self.now.number ≤ length front.now }
-        ensures begins { IsPrefix front.now result }
-        ensures goes_on { take (self.now.number + 1) result
-            ≡ take self.now.number front.now ++ self.now.entry ∷ [] }
-        ensures long { self.now.number + 1 ≤ length result }
+    /// Receipts with the same number are for the same place. This is a law: the function does nothing.
+    pub fn is_same(&self, other: &Receipt<E, J>)
+        ensures { self.now.number ≡ other.now.number → self.now ≡ other.now }
     {
         // For the prover: using a field brings in the invariant.
-        let _ = self.number;
-        front.longer(&self.front)
-    }
-
-    /// A front that has the entries of these receipts after its first `count` entries. `None` if one of them does not
-    /// have the next number.
-    pub fn follow_all(
-        receipts: &[Receipt<E, J>],
-        front: &Front<E, J>,
-        count: u64,
-    ) -> Option<Front<E, J>>
-        requires there { count ≤ length front.now }
-        ensures goes_on { IfSome result (λ f. take (count + length receipts.now) f
-            ≡ take count front.now ++ map (λ r. r.entry) receipts.now) }
-        ensures long { IfSome result (λ f. count + length receipts.now ≤ length f) }
-        ensures other { IfNone result (IsOutOfOrder receipts.now count) }
-    {
-        let mut reached = front.again();
-        let mut next = count;
-        for receipt in receipts {
-            if receipt.number() != next {
-                return None;
-            }
-            reached = receipt.follow(&reached);
-            // For the prover: the length of a front is below 2^64, so the sum does not overflow.
-            let _ = reached.len();
-            next += 1;
-        }
-        Some(reached)
+        let _ = other.number;
+        self.is_in(&other.front);
     }
 }

@@ -31,23 +31,6 @@ impl<E> Gain<Option<E>, u64> for Nothing {
     ghost after = { λ names about answer. ftrue };
 }
 
-/// A step that looks.
-pub struct Look;
-
-impl<E> Play<Option<E>, u64> for Look {
-    ghost use Rattle.up_history.specs.Rules.{Looks};
-
-    ghost then = { Looks };
-}
-
-impl<E> Plain<(), Option<E>, u64> for Look {
-    ghost use Rattle.std.specs.Prelude.{None};
-
-    ghost ask = { λ nothing. None };
-
-    ghost state = { λ nothing. None };
-}
-
 /// A step that adds an entry.
 pub struct Add;
 

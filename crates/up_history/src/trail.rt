@@ -1,5 +1,5 @@
 //! How far something follows a history.
-ghost use Rattle.std.specs.Prelude.{◌≡◌, ◌≤◌, ◌++◌, ◌∷◌, [], length, take, IsTrue, ◌↔◌};
+ghost use Rattle.std.specs.Prelude.{◌≡◌, ◌≤◌, ◌++◌, ◌∷◌, [], length, take, Some, IsTrue, ◌↔◌};
 ghost use Rattle.up_history.specs.Histories.{HasFirst, first_entries};
 
 use crate::chronicle::Chronicle;
@@ -77,7 +77,8 @@ impl<E, J: Chronicle> Trail<E, J> {
     pub fn follow(&mut self, receipt: &Receipt<E, J>)
         requires next { receipt.now.number ≡ length self.old }
         ensures before { self.old ≡ receipt.now.before }
-        ensures follows { self.new ≡ self.old ++ receipt.now.entry ∷ [] }
+        ensures follows { (entry : E) → receipt.now.entry ≡ Some entry
+            → self.new ≡ self.old ++ entry ∷ [] }
     {
         let front = receipt.front();
         // For the prover: the length of a front is below 2^64, so the sum does not overflow.

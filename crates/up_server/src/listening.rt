@@ -58,6 +58,7 @@ fn attend_in<
     hooks: &PreHooks,
     connections: Connections<'s, I, N, S>,
 ) -> Result<(Vec<Seat<B>>, Vec<LaneEnd<H>>), AllocError>
+    requires same { B.history ≡ S.history }
     requires lanes { EachAt (λ k l. (l.lane ≡ k) × (l.queue ≡ B.queue k)) lanes.items }
     ensures count { IfOk result (λ r. vec_len r.1 ≡ vec_len lanes) }
     ensures ends { IfOk result (λ r. EachAt (λ k e. H.is_sound e.hook
@@ -69,9 +70,15 @@ fn attend_in<
         ids,
     } = connections;
     start_saying(scope, rt, runner, visits.watch)?;
-    let (seats, ends) = run_beside(rt, alloc, runner, lanes, || {
-        serve_connections(rt, alloc, runner.board, hooks, ids, &listener, visits)
-    })?;
+    let (seats, ends) = run_beside(
+        rt,
+        alloc,
+        runner,
+        lanes,
+        || -> Result<Vec<Seat<B>>, AllocError>
+            requires same { B.history ≡ S.history }
+        { serve_connections(rt, alloc, runner.board, hooks, ids, &listener, visits) },
+    )?;
     Ok((seats?, ends))
 }
 
@@ -92,6 +99,7 @@ fn attend<
     hooks: &PreHooks,
     connections: Connections<'_, I, N, S>,
 ) -> Result<(Vec<Seat<B>>, Vec<LaneEnd<H>>), AllocError>
+    requires same { B.history ≡ S.history }
     requires lanes { EachAt (λ k l. (l.lane ≡ k) × (l.queue ≡ B.queue k)) lanes.items }
     ensures count { IfOk result (λ r. vec_len r.1 ≡ vec_len lanes) }
     ensures ends { IfOk result (λ r. EachAt (λ k e. H.is_sound e.hook
@@ -104,6 +112,7 @@ fn attend<
         thread::scope_env(),
         rt,
         move |scope| -> Result<(Vec<Seat<B>>, Vec<LaneEnd<H>>), AllocError>
+            requires same { B.history ≡ S.history }
             requires lanes { EachAt (λ k l. (l.lane ≡ k) × (l.queue ≡ B.queue k)) lanes.items }
             ensures count { IfOk result (λ r. vec_len r.1 ≡ vec_len lanes) }
             ensures ends { IfOk result (λ r. EachAt (λ k e. H.is_sound e.hook
@@ -131,6 +140,7 @@ fn run<
     connections: Connections<'_, I, N, S>,
 ) -> Result<Report<H>, NoMemory>
     requires named { IsNamed B.name B.parts B.queue B.lanes parts }
+    requires same { B.history ≡ S.history }
     requires lanes { settings.now.lanes ≡ B.lanes }
     requires sized { settings.now.max_size ≡ B.max_size }
     requires one_for_each { vec_len hooks.post ≡ settings.now.lanes }

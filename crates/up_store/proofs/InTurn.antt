@@ -1,5 +1,5 @@
--- What came of a change that has a place in the log.
-use Rattle.std.proofs.Common.{◌≡◌, ℕ, inl, inr, Option, Some, None, IfSome, IfNone, Result, Err, subst, sym}
+-- What came of a change that is an entry of the log.
+use Rattle.std.proofs.Common.{◌≡◌, ℕ, List, inl, inr, Option, Some, None, IfSome, IfNone, Result, Err, subst, sym}
 use Rattle.up_headers.specs.declared.request.Request.{Request}
 use Rattle.up_log.specs.declared.entry.Entry.{Entry}
 use Rattle.up_machine.specs.declared.plan.Asked.{Asked}
@@ -7,12 +7,12 @@ use Rattle.up_machine.specs.declared.plan.Done.{Done}
 use Rattle.up_machine.specs.declared.refusal.Refusal.{Refusal}
 use Rattle.up_machine.specs.declared.refusal.Refusal.TheVariants.{NoMemory}
 use Rattle.up_queue.specs.EndViews.{QueueId}
-use Rattle.up_dispatch.specs.Tied.{CommitsAt}
+use Rattle.up_dispatch.specs.Tied.{CommitsAfter}
 use Rattle.up_store.specs.StoredCommits.{Says, StoredCommits}
 
-pub in_turn : (queue : ℕ → QueueId) (lanes max_size place count after_it : ℕ) (entry : Entry) (request : Request) (id : ℕ) (asked : Asked) (decided : Option (Result Done Refusal)) (answer : Result Done Refusal)
-    → Says entry request id asked → IfSome decided (λ r. CommitsAt queue lanes max_size place count entry after_it r) → IfNone decided (after_it ≡ count)
+pub in_turn : (queue : ℕ → QueueId) (lanes max_size count after_it : ℕ) (before : List Entry) (entry : Entry) (request : Request) (id : ℕ) (asked : Asked) (decided : Option (Result Done Refusal)) (answer : Result Done Refusal)
+    → Says entry request id asked → IfSome decided (λ r. CommitsAfter queue lanes max_size before count entry after_it r) → IfNone decided (after_it ≡ count)
     → IfSome decided (λ r. answer ≡ r) → IfNone decided (answer ≡ Err NoMemory) → StoredCommits queue lanes max_size count request id asked after_it answer
-in_turn queue lanes max_size place count after_it entry request id asked (Some r) answer says some none same refused =
-    inl (entry, place, says, subst (λ (x : Result Done Refusal). CommitsAt queue lanes max_size place count entry after_it x) (sym same) some)
-in_turn queue lanes max_size place count after_it entry request id asked None answer says some none same refused = inr (inr (refused, none))
+in_turn queue lanes max_size count after_it before entry request id asked (Some r) answer says some none same refused =
+    inl (entry, before, says, subst (λ (x : Result Done Refusal). CommitsAfter queue lanes max_size before count entry after_it x) (sym same) some)
+in_turn queue lanes max_size count after_it before entry request id asked None answer says some none same refused = inr (inr (refused, none))

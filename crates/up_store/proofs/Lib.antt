@@ -1,3 +1,4 @@
 -- The lemmas.
 mod Results
 pub mod InTurn
+pub mod Turns

@@ -1,48 +1,61 @@
 -- How far a line of changes has come.
-use Rattle.std.specs.Prelude.{◌≡◌, ◌⊎◌, ℕ, ◌+◌, ◌^◌, ◌-◌, ◌<◌, ◌≤◌, Bool, true, false, List, [], ◌∷◌, ◌++◌, min}
+use Rattle.std.specs.Prelude.{◌≡◌, ℕ, zero, suc, ◌+◌, ◌^◌, ◌-◌, ◌<◌, ◌≤◌, Bool, false, List, [], ◌∷◌, ◌++◌, length, min}
 use Rattle.up_log.specs.declared.entry.Entry.{Entry}
+use Rattle.up_tie.specs.Ties.{Span}
 
--- the number of changes that were drawn, that are known to be on the disk or lost, and that had their turn; the first of
--- those that could not be written, and the first after these; the changes that nobody has begun to write; whether a batch
--- is being written, whether nobody may begin to write, and whether no change is made any more; and the numbers of entries
--- that had their turn, in the current log and in this run
+-- the changes that were drawn, and those of them that nobody has begun to write; the number of the change whose turn
+-- comes next, how many from there on are on the disk, and how many after these could not be written; whether a batch is
+-- being written, whether nobody may begin to write, and whether no change is made any more; and the numbers of entries
+-- that had their turn, in the current log and in the history of what was written
 pub record Progress : Type 0 where
-  pub drawn : ℕ
-  pub known : ℕ
-  pub done : ℕ
-  pub lost : ℕ
-  pub kept : ℕ
+  pub drawn : List Entry
   pub waiting : List Entry
+  pub done : ℕ
+  pub count : ℕ
+  pub lost : ℕ
   pub is_writing : Bool
   pub is_held : Bool
   pub is_over : Bool
   pub place : ℕ
   pub decided : ℕ
 
+-- ys ends with xs
+abbrev pub IsSuffix : List Entry → List Entry → Type 0
+IsSuffix xs ys = (before : List Entry) × (ys ≡ before ++ xs)
+
 -- all changes before it had their turn, and it is known to be on the disk or lost
 abbrev pub HasTurn : Progress → ℕ → Type 0
-HasTurn line number = (line.done ≡ number) × (number < line.known)
+HasTurn line number = (line.done ≡ number) × (0 < line.count + line.lost)
 
 -- it could not be written
 abbrev pub IsLost : Progress → ℕ → Type 0
-IsLost line number = (line.lost ≤ number) × (number < line.kept)
+IsLost line number = (line.done + line.count ≤ number) × (number < line.done + (line.count + line.lost))
 
 -- one more was drawn, and waits after the others
 abbrev pub has_drawn : Progress → Entry → Progress
-has_drawn line change = record line { drawn = line.drawn + 1; waiting = line.waiting ++ change ∷ [] }
+has_drawn line change = record line { drawn = line.drawn ++ change ∷ []; waiting = line.waiting ++ change ∷ [] }
 
 -- one more entry had its turn; a count ends at its maximum
 abbrev pub one_more : ℕ → ℕ
 one_more n = min (2 ^ 64 - 1) (n + 1)
 
--- one more had its turn: an entry of the log, or a change that could not be written
-abbrev pub has_had_turn : Progress → Bool → Progress
-has_had_turn line true = record line { done = line.done + 1; place = one_more line.place; decided = one_more line.decided }
-has_had_turn line false = record line { done = line.done + 1 }
+-- a change that could not be written had its turn, if there is one
+abbrev pub has_passed : Progress → ℕ → Progress
+has_passed line zero = line
+has_passed line (suc lost) = record line { done = one_more line.done; lost = lost }
 
--- all that were drawn are known, and those that were not known before are lost
+-- the next one had its turn: an entry of the log, or else a change that could not be written
+abbrev pub has_taken : Progress → ℕ → Progress
+has_taken line zero = has_passed line line.lost
+has_taken line (suc count) =
+    record line { done = line.done + 1; count = count; place = one_more line.place; decided = line.decided + 1 }
+
+abbrev pub has_had_turn : Progress → Progress
+has_had_turn line = has_taken line line.count
+
+-- none of those that wait is written, and all that were drawn and are not on the disk are lost
 abbrev pub has_lost_rest : Progress → Progress
-has_lost_rest line = record line { known = line.drawn; lost = line.known; kept = line.drawn; waiting = [] }
+has_lost_rest line = record line { waiting = []; lost = length line.drawn - line.done - line.count }
 
 -- a batch was taken from the beginning of those that wait, and is being written
 abbrev pub Takes : Progress → Progress → List Entry → Type 0
@@ -50,4 +63,12 @@ Takes old new batch = old ≡ record new { waiting = batch ++ new.waiting; is_wr
 
 -- somebody may begin to write: nobody writes, nobody holds the line up, and no change that was lost waits for its turn
 abbrev pub MayWrite : Progress → Type 0
-MayWrite line = (line.is_writing ≡ false) × (line.is_held ≡ false) × (line.kept ≤ line.done)
+MayWrite line = (line.is_writing ≡ false) × (line.is_held ≡ false) × (line.lost ≡ 0)
+
+-- what was written comes directly after what is known to be on the disk
+abbrev pub Places : Progress → Span → Type 0
+Places line written = (written.place ≡ line.decided + line.count) × (written.number ≡ line.done + line.count)
+
+-- so many more are on the disk, and nobody writes
+abbrev pub has_written : Progress → ℕ → Progress
+has_written line count = record line { count = line.count + count; is_writing = false }

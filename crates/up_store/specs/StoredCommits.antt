@@ -1,5 +1,5 @@
 -- What the commits of a seat may be if each change is written to a log first.
-use Rattle.std.specs.Prelude.{◌≡◌, ◌⊎◌, ℕ, true, Result, Err}
+use Rattle.std.specs.Prelude.{◌≡◌, ◌⊎◌, ℕ, true, List, Result, Err}
 use Rattle.up_headers.specs.declared.request.Request.{Request}
 use Rattle.up_log.specs.declared.entry.Entry.{Entry}
 use Rattle.up_machine.specs.Decision.{is_refusal}
@@ -11,17 +11,17 @@ use Rattle.up_queue.specs.EndViews.{QueueId}
 use Rattle.up_replay.specs.Replay.{asked_of}
 use Rattle.up_dispatch.specs.Keepers.{SeatCommits, SeatPlans}
 use Rattle.up_dispatch.specs.Keeps.{Committing, ClosureAnswers, Keeping, keeping}
-use Rattle.up_dispatch.specs.Tied.{CommitsAt}
+use Rattle.up_dispatch.specs.Tied.{CommitsAfter}
 
 -- the entry has this request, with its id and with what the closures answered to it
 abbrev pub Says : Entry → Request → ℕ → Asked → Type 0
 Says entry request id asked = (entry.request ≡ request) × (entry.id ≡ id) × (asked_of entry.consent ≡ asked)
 
--- the change has a place in the log, and the board decided on it directly after the entries of the places before
+-- the change is an entry of the log, and the board decided on it directly after the entries before it
 abbrev pub IsInTurn : (ℕ → QueueId) → ℕ → ℕ → Committing ℕ
 IsInTurn queue lanes max_size count request id asked after_it result =
-    (entry : Entry) × (place : ℕ) × Says entry request id asked
-    × CommitsAt queue lanes max_size place count entry after_it result
+    (entry : Entry) × (before : List Entry) × Says entry request id asked
+    × CommitsAfter queue lanes max_size before count entry after_it result
 
 -- a closure refuses the change, so it has no place in the log
 abbrev pub IsRefusedFirst : (ℕ → QueueId) → ℕ → ℕ → Committing ℕ

@@ -1,7 +1,11 @@
 //! The log of the changes, and whether it is open.
+ghost use Rattle.std.specs.Prelude.{◌≡◌, IfOk, length};
+
 use sqlite_disk::Disk;
 use std::mem;
-use up_log::{Log, LogFault, Spelled};
+use up_history::{Chronicle, Front, History};
+use up_log::{Entry, Log, LogFault};
+use up_tie::{Batch, OnDisk, Site, Written};
 
 /// Who opens the file of the changes.
 pub trait LogFile<D> {
@@ -10,51 +14,95 @@ pub trait LogFile<D> {
     fn open_again(&self, generation: u64, failed: Option<D>) -> Result<D, LogFault>;
 }
 
-/// The log of the changes. If a call fails in such a way that the log accepts no more batches, the next call opens the
-/// file again.
+/// Whether a log is open.
 #[derive(Drop)]
-pub(crate) enum Held<D: Disk> {
+enum State<D: Disk, J: Site> {
     /// It was not read yet.
     Unread,
-    Open(Log<D>),
-    /// A call failed, and the file could not be opened again. The next block begins at this place.
-    Closed(usize),
+    Open(Written<D, J>),
+    /// A call failed, and the file could not be opened again. These entries were written to it, and the next block
+    /// begins at this place.
+    Closed(Front<Entry, J>, usize),
 }
 
-impl<D: Disk> Held<D> {
-    /// The log, if it is open.
-    pub(crate) fn into_log(self) -> Option<Log<D>>
+/// The log of the changes, and the history of what is written to it. If a call fails in such a way that the log accepts
+/// no more batches, the next call opens the file again.
+#[derive(Drop)]
+pub(crate) struct Held<D: Disk, J: Site> {
+    /// Only who appends to the log adds to this.
+    history: History<Entry, J>,
+    state: State<D, J>,
+}
+
+impl<D: Disk, J: Site> Held<D, J> {
+    /// A log that was not read yet.
+    pub(crate) fn unread(history: History<Entry, J>) -> Held<D, J> {
+        Held {
+            history,
+            state: State::Unread,
+        }
+    }
+
+    /// What is written to the log.
+    pub(crate) fn history(&self) -> &History<Entry, J> {
+        &self.history
+    }
+
+    /// Uses this log from now on.
+    pub(crate) fn open(&mut self, written: Written<D, J>)
     where
         D: Drop,
     {
-        match self {
-            Held::Open(log) => Some(log),
+        self.state = State::Open(written);
+    }
+
+    /// Uses this log from now on, in place of the log that was used so far.
+    pub(crate) fn switch(&mut self, log: Log<D>)
+    where
+        D: Drop,
+    {
+        let front = match &self.state {
+            State::Unread => return,
+            State::Open(written) => written.front(),
+            State::Closed(front, _) => front.again(),
+        };
+        self.state = State::Open(Written::over(log, front));
+    }
+
+    /// The log, if it is open.
+    pub(crate) fn into_written(self) -> Option<Written<D, J>>
+    where
+        D: Drop,
+    {
+        let Held { state, .. } = self;
+        match state {
+            State::Open(written) => Some(written),
             _ => None,
         }
     }
 
     /// The log, if it is open.
-    pub(crate) fn log(&self) -> Option<&Log<D>> {
-        match self {
-            Held::Open(log) => Some(log),
+    pub(crate) fn written(&self) -> Option<&Written<D, J>> {
+        match &self.state {
+            State::Open(written) => Some(written),
             _ => None,
         }
     }
 
     /// The log to read and write, if it is open.
-    pub(crate) fn log_mut(&mut self) -> Option<&mut Log<D>> {
-        match self {
-            Held::Open(log) => Some(log),
+    pub(crate) fn written_mut(&mut self) -> Option<&mut Written<D, J>> {
+        match &mut self.state {
+            State::Open(written) => Some(written),
             _ => None,
         }
     }
 
     /// Whether a call on it failed, so that the file has to be opened again.
     pub(crate) fn is_failed(&self) -> bool {
-        match self {
-            Held::Unread => false,
-            Held::Open(log) => log.is_broken(),
-            Held::Closed(_) => true,
+        match &self.state {
+            State::Unread => false,
+            State::Open(written) => written.is_broken(),
+            State::Closed(..) => true,
         }
     }
 
@@ -67,36 +115,41 @@ impl<D: Disk> Held<D> {
     where
         D: Drop,
     {
-        let (place, failed) = match mem::replace(self, Held::Unread) {
-            Held::Open(log) if log.is_broken() => (log.end_place(), Some(log.into_device())),
-            Held::Closed(place) => (place, None),
+        let (front, place, failed) = match mem::replace(&mut self.state, State::Unread) {
+            State::Open(written) if written.is_broken() => {
+                let (front, place) = (written.front(), written.end_place());
+                (front, place, Some(written.into_log().into_device()))
+            }
+            State::Closed(front, place) => (front, place, None),
             other => {
-                *self = other;
+                self.state = other;
                 return Ok(());
             }
         };
-        *self = Held::Closed(place);
+        self.state = State::Closed(front.again(), place);
         let device = file.open_again(generation, failed)?;
-        let (log, resumed) = Log::resume(device, place);
-        *self = Held::Open(log);
+        let (written, resumed) = Written::resume(device, place, front);
+        self.state = State::Open(written);
         resumed
     }
 
     /// Appends a batch, and returns once it is on the disk. After an error, the batch may be appended again. `NotRead`
     /// if the log was not read yet.
-    pub(crate) fn append<F: LogFile<D>>(
+    pub(crate) fn append<F: LogFile<D>, K: Chronicle>(
         &mut self,
         room: &mut Vec<u8>,
         file: &F,
         generation: u64,
-        batch: &[Spelled],
-    ) -> Result<(), LogFault>
+        batch: &Batch<K>,
+    ) -> Result<OnDisk<J, K>, LogFault>
     where
         D: Drop,
+        ensures { IfOk result (λ on_disk. (on_disk.number ≡ batch.now.first)
+            × (on_disk.count ≡ length batch.now.entries)) }
     {
         self.open_again(file, generation)?;
-        match self {
-            Held::Open(log) => log.append(room, batch),
+        match &mut self.state {
+            State::Open(written) => written.append(room, &self.history, batch),
             _ => Err(LogFault::NotRead),
         }
     }

@@ -5,14 +5,16 @@ use std::alloc::Global;
 use std::collections::BTreeSet;
 use std::sync::Wait;
 use std::sync::atomic::Ordering;
+use up_history::Chronicle;
 use up_log::{Entry, LogFault};
 use up_message::Sequence;
+use up_tie::Site;
 
-impl<D: Disk, N> Store<D, N> {
+impl<D: Disk, N, J: Site, K: Chronicle> Store<D, N, J, K> {
     /// The size of the log in bytes, or 0 if it is not open.
     pub(crate) fn size<R: Wait>(&self, rt: &R) -> usize {
-        match self.log.lock(rt).log() {
-            Some(log) => log.end_place(),
+        match self.log.lock(rt).written() {
+            Some(written) => written.end_place(),
             None => 0,
         }
     }
@@ -30,8 +32,8 @@ impl<D: Disk, N> Store<D, N> {
         alloc: Global,
         place: usize,
     ) -> Result<Option<(Sequence<Entry>, usize)>, LogFault> {
-        match self.log.lock(rt).log_mut() {
-            Some(log) => log.batch_at(alloc, place),
+        match self.log.lock(rt).written_mut() {
+            Some(written) => written.batch_at(alloc, place),
             None => Err(LogFault::NotRead),
         }
     }

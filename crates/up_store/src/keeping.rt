@@ -1,5 +1,7 @@
 //! Conversations whose changes are written to a log before they are made.
-ghost use Rattle.std.specs.Prelude.{◌≡◌};
+ghost use Rattle.std.specs.Prelude.{◌≡◌, [], List};
+ghost use Rattle.up_log.specs.Logs.{IsReaderAt};
+ghost use Rattle.up_log.specs.declared.entry.Entry.{Entry as Logged};
 ghost use Rattle.up_hooks.specs.MayAnswer.{ClosuresMayAnswer};
 ghost use Rattle.up_dispatch.specs.Answering.{Serves};
 ghost use Rattle.up_dispatch.specs.Exchanges.{KeepsBorrows, stand_in};
@@ -10,9 +12,8 @@ use crate::ended::EndedUploads;
 use crate::folder::Folder;
 use crate::held::LogFile;
 use crate::notices::StoreNotices;
-use crate::restoring::restore_all_on;
 use crate::shortening::Shortening;
-use crate::store::Store;
+use crate::store::{Histories, Store};
 use crate::stored::Stored;
 use sqlite_disk::Disk;
 use std::alloc::{AllocError, Global};
@@ -20,39 +21,49 @@ use std::marker::{Send, Sync};
 use std::sync::atomic::AtomicU64;
 use std::sync::{Mutex, Wait};
 use up_dispatch::{Board, Ended, Exchange, Ids, Naming, Seat, Service, converse};
+use up_history::Chronicle;
 use up_hooks::PreHooks;
 use up_log::LogReader;
+use up_tie::{Reading, Site};
 use up_wire::{Sink, Source};
 
-/// A store, from before its logs are read on.
+/// A store, from before its logs are read on. What is written to the log is the history `J`; the changes, in the order
+/// in which they are drawn, are the history `K`.
 #[derive(Drop)]
-pub struct Keeping<D: Disk, N, F> {
+pub struct Keeping<D: Disk, N, F, J: Site, K: Chronicle> {
     /// The log of the changes, and that of the voids, until they are read.
-    readers: Mutex<Option<(LogReader<D>, LogReader<D>)>>,
-    pub(crate) store: Store<D, N>,
+    readers: Mutex<Option<(Reading<D, J>, LogReader<D>)>>,
+    pub(crate) store: Store<D, N, J, K>,
     pub(crate) shortening: Shortening<D, F>,
     /// 1 once nobody tends the store any more. Who tends it sleeps on this.
     pub(crate) is_over: AtomicU64,
 }
 
-impl<D: Disk, N, F> Keeping<D, N, F> {
+impl<D: Disk, N, F, J: Site, K: Chronicle> Keeping<D, N, F, J, K> {
     /// Over the log of the changes and that of the voids, of which nothing is read yet, and with what makes it shorter.
-    /// An error is want of memory.
+    /// The error is that memory ran out.
     pub fn new(
         alloc: Global,
         changes: LogReader<D>,
         voids: LogReader<D>,
+        histories: Histories,
         notices: N,
         shortening: Shortening<D, F>,
-    ) -> Result<Keeping<D, N, F>, AllocError>
+    ) -> Result<Keeping<D, N, F, J, K>, AllocError>
     where
         D: Drop,
         N: Drop,
         F: Drop,
+        requires written { histories.written ≡ J.history }
+        requires drawn { histories.drawn ≡ K.history }
+        requires reader { J.premise
+            → (batches : List (List Logged)) × IsReaderAt D.Disk changes J.setup [] batches }
     {
+        let (store, front) = Store::unread(alloc, notices, histories)?;
+        let reading = Reading::new(changes, front);
         Ok(Keeping {
-            store: Store::unread(alloc, notices)?,
-            readers: Mutex::new(Some((changes, voids))),
+            store,
+            readers: Mutex::new(Some((reading, voids))),
             shortening,
             is_over: AtomicU64::new(0),
         })
@@ -69,6 +80,8 @@ pub fn converse_stored<
     B: Naming,
     D: Disk + Drop,
     N: StoreNotices + LogFile<D>,
+    J: Site,
+    K: Chronicle,
     I: Ids,
     R: Source,
     W: Sink,
@@ -77,11 +90,12 @@ pub fn converse_stored<
     rt: &T,
     alloc: Global,
     board: &Board<B>,
-    store: &Store<D, N>,
+    store: &Store<D, N, J, K>,
     seat: &mut Seat<B>,
     hooks: &PreHooks,
     exchange: &mut Exchange<'_, I, R, W>,
 ) -> Ended
+    requires same { J.history ≡ B.history }
     ensures served { Converses
         (Serves (by_stored_seat B.queue B.lanes B.max_size (ClosuresMayAnswer hooks.now)) I.draws)
         B.max_size
@@ -98,7 +112,11 @@ impl<
     D: Disk + Drop + Send,
     N: StoreNotices + LogFile<D> + Drop + Send + Sync,
     F: Folder<D> + Drop + Sync,
-> Service for Keeping<D, N, F> {
+    J: Site + Send,
+    K: Chronicle + Send,
+> Service for Keeping<D, N, F, J, K> {
+    ghost history = { J.history };
+
     /// Carries out the changes of the log again, and opens the store. If that fails the notices are told why.
     fn begin<B: Naming, T: Wait>(
         &self,
@@ -108,11 +126,14 @@ impl<
         seat: Seat<B>,
     ) -> (Seat<B>, bool) {
         let mut seat = seat;
-        let Some((changes, voids)) = self.readers.lock(rt).take() else {
+        let Some(readers) = self.readers.lock(rt).take() else {
             return (seat, false);
         };
         let least = self.shortening.entries(rt);
-        match restore_all_on(rt, alloc, board, &mut seat, changes, voids, least) {
+        match self
+            .store
+            .restore(rt, alloc, board, &mut seat, readers, least)
+        {
             Ok(logs) => {
                 let entries = logs.count;
                 self.store.open(rt, logs);

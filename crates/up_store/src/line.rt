@@ -1,15 +1,17 @@
 //! The order of changes.
-ghost use Rattle.std.specs.Prelude.{◌≡◌, ◌⊎◌, ◌<◌, ◌↔◌, ◌++◌, [], IfOk, IsErr, OnErr, IsTrue, true, false, min};
-ghost use Rattle.std.specs.Prelude.{vec_len, ◌+◌};
-ghost use Rattle.up_store.specs.Lines.{IsLost, HasTurn, MayWrite, Takes};
-ghost use Rattle.up_store.specs.Lines.{has_drawn, has_had_turn, has_lost_rest};
+ghost use Rattle.std.specs.Prelude.{◌≡◌, ◌⊎◌, ◌<◌, ◌↔◌, ◌++◌, [], IfOk, IsErr, OnErr, IsTrue, Some, true, false};
+ghost use Rattle.std.specs.Prelude.{length, ◌+◌};
+ghost use Rattle.up_store.specs.Lines.{IsLost, HasTurn, MayWrite, Takes, Places};
+ghost use Rattle.up_store.specs.Lines.{has_drawn, has_had_turn, has_lost_rest, has_written};
 ghost use Rattle.up_store.specs.declared.line.Next.TheVariants.{Commit, Refuse, Wait, Write};
 
 use std::alloc::{AllocError, Global};
 use std::collections::VecDeque;
 use std::marker::Model;
 use std::mem;
-use up_log::Spelled;
+use up_history::{Chronicle, Front, History, Opened, Receipt};
+use up_log::{Entry, Spelled};
+use up_tie::{Batch, OnDisk};
 
 /// How many changes a batch has, at most.
 const MAX_BATCH_CHANGES: usize = 64;
@@ -19,20 +21,24 @@ const MAX_BATCH_BYTES: usize = 1 << 22;
 
 /// What comes next for a change that was drawn.
 #[derive(Drop)]
-pub enum Next {
+pub enum Next<J: Chronicle, K: Chronicle> {
     /// Other changes come first.
     Wait,
-    /// These changes are to be written to the log. `note_written` then takes them back, with how that ended.
-    Write(Vec<Spelled>),
-    /// It is on the disk, and all changes before it had their turn.
-    Commit,
+    /// These changes are to be written to the log. `note_written` or `note_lost` then takes them back.
+    Write(Batch<K>),
+    /// It is on the disk, as the receipt says, and all changes before it had their turn.
+    Commit(Receipt<Entry, J>),
     /// It could not be written, or no change is made any more. All changes before it had their turn.
     Refuse,
 }
 
-/// The changes in the order in which they were drawn. In this order they are written to the log, and then made.
+/// The changes in the order in which they were drawn. In this order they are written to the log, and then made. What
+/// was written to the log is the history `J`; what was drawn is the history `K`.
 #[derive(Drop)]
-pub struct Line {
+pub struct Line<J: Chronicle, K: Chronicle> {
+    /// What was drawn.
+    history: History<Entry, K>,
+    drawn: Front<Entry, K>,
     /// The changes that nobody has begun to write.
     waiting: VecDeque<Spelled>,
     /// Room for a batch, while none is being written.
@@ -42,42 +48,34 @@ pub struct Line {
     is_held: bool,
     /// Whether no change is made any more.
     is_over: bool,
-    /// The number of changes that were drawn.
-    drawn: u64,
-    /// The number of changes that are known to be on the disk or lost.
-    known: u64,
-    /// The number of changes that had their turn.
-    done: u64,
-    /// The first of the changes that could not be written, and the first after these.
+    /// The changes that are on the disk and had no turn yet.
+    on_disk: OnDisk<J, K>,
+    /// How many changes after these could not be written and had no turn yet.
     lost: u64,
-    kept: u64,
     /// The number of entries of the log that had their turn, which is the place of the next.
     place: u64,
-    /// The number of entries that had their turn in this run, with those that were read at its start.
-    decided: u64,
 }
 
-impl Model for Line {
-    ghost use Rattle.std.specs.Prelude.{◌≤◌};
-    ghost use Rattle.up_store.specs.Lines.{Progress};
+impl<J: Chronicle, K: Chronicle> Model for Line<J, K> {
+    ghost use Rattle.std.specs.Prelude.{length};
+    ghost use Rattle.up_store.specs.Lines.{IsSuffix, Progress};
 
     ghost Value = { Progress };
 
     ghost view = { λ l. record {
       drawn = l.drawn;
-      known = l.known;
-      done = l.done;
-      lost = l.lost;
-      kept = l.kept;
       waiting = l.waiting.items;
+      done = l.on_disk.number;
+      count = l.on_disk.count;
+      lost = l.lost;
       is_writing = l.is_writing;
       is_held = l.is_held;
       is_over = l.is_over;
       place = l.place;
-      decided = l.decided;
+      decided = l.on_disk.place;
     } };
 
-    ghost invariant = { λ l. (l.done ≤ l.known) × (l.known ≤ l.drawn) };
+    ghost invariant = { λ l. IsSuffix l.waiting.items l.drawn };
 }
 
 /// Moves the first of those that wait to the end of the batch, as long as it has room.
@@ -104,37 +102,52 @@ fn fill(waiting: &mut VecDeque<Spelled>, batch: &mut Vec<Spelled>)
     }
 }
 
-impl Line {
-    /// A line from which no change was drawn, over a log with `place` entries. `AllocError` if memory runs out.
-    pub fn new(alloc: Global, place: u64) -> Result<Line, AllocError>
-        ensures empty { IfOk result (λ l. (l.drawn ≡ 0) × (l.known ≡ 0) × (l.done ≡ 0)
-            × (l.waiting ≡ [])) }
+impl<J: Chronicle, K: Chronicle> Line<J, K> {
+    /// A line from which no change was drawn, over a log with these entries. `AllocError` if memory runs out.
+    pub fn new(
+        alloc: Global,
+        opened: Opened<Entry>,
+        written: Front<Entry, J>,
+    ) -> Result<Line<J, K>, AllocError>
+        requires named { opened ≡ K.history }
+        ensures empty { IfOk result (λ l. (l.drawn ≡ []) × (l.waiting ≡ []) × (l.done ≡ 0)
+            × (l.count ≡ 0) × (l.lost ≡ 0)) }
         ensures open { IfOk result (λ l. (l.is_writing ≡ false) × (l.is_held ≡ false)
             × (l.is_over ≡ false)) }
-        ensures place { IfOk result (λ l. (l.place ≡ place) × (l.decided ≡ place)) }
+        ensures place { IfOk result (λ l. (l.place ≡ length written)
+            × (l.decided ≡ length written)) }
     {
+        let room = Vec::with_capacity(alloc, MAX_BATCH_CHANGES)?;
+        let (history, drawn) = opened.named();
         Ok(Line {
+            history,
             waiting: VecDeque::new(alloc),
-            room: Vec::with_capacity(alloc, MAX_BATCH_CHANGES)?,
+            room,
             is_writing: false,
             is_held: false,
             is_over: false,
-            drawn: 0,
-            known: 0,
-            done: 0,
             lost: 0,
-            kept: 0,
-            place,
-            decided: place,
+            place: written.len(),
+            on_disk: OnDisk::none(written.len(), 0, written, drawn.again()),
+            drawn,
         })
     }
 
-    /// The log has `place` entries, which were read and had their turn before any change was drawn here.
-    pub fn begin_at(&mut self, place: u64)
-        ensures { self.new ≡ record self.old { place = place; decided = place } }
+    /// The log has these entries, which were read and had their turn before any change was drawn here.
+    pub fn begin_after(&mut self, written: Front<Entry, J>)
+        ensures { self.new ≡ record self.old {
+          place = length written;
+          decided = length written;
+          count = 0;
+        } }
     {
-        self.place = place;
-        self.decided = place;
+        self.place = written.len();
+        self.on_disk = OnDisk::none(
+            written.len(),
+            self.on_disk.number(),
+            written,
+            self.drawn.again(),
+        );
     }
 
     /// A shorter log took the place of the log, and has `place` entries.
@@ -144,41 +157,54 @@ impl Line {
         self.place = place;
     }
 
-    /// Draws the next number for a change. `AllocError` if memory runs out, or if no change is made any more. No number
-    /// was drawn then.
-    pub fn draw(&mut self, change: Spelled) -> Result<u64, AllocError>
-        ensures drawn { IfOk result (λ number. (number ≡ self.old.drawn)
-            × (self.new ≡ has_drawn self.old change)) }
+    /// Draws the next number for a change, and returns a receipt for it. `AllocError` if memory or the numbers run out,
+    /// or if no change is made any more. No number was drawn then.
+    pub fn draw(&mut self, change: Spelled, entry: &Entry) -> Result<Receipt<Entry, K>, AllocError>
+        requires same { change ≡ entry.now }
+        ensures drawn { IfOk result (λ r. (r.number ≡ length self.old.drawn)
+            × (r.entry ≡ Some entry.now) × (self.new ≡ has_drawn self.old entry.now)) }
         ensures over { self.old.is_over ≡ true → IsErr result }
         ensures none { OnErr result (self.new ≡ self.old) }
     {
-        if self.is_over {
+        if self.is_over || self.drawn.len() == u64::MAX {
             return Err(AllocError);
         }
-        let number = self.drawn;
-        let Some(drawn) = number.checked_add(1) else {
+        let mut drawn = self.drawn.again();
+        self.waiting.push_back(change)?;
+        let Some(receipt) = Receipt::draw(&mut drawn, &self.history, entry) else {
+            self.waiting.pop_back();
             return Err(AllocError);
         };
-        self.waiting.push_back(change)?;
         self.drawn = drawn;
-        Ok(number)
+        Ok(receipt)
     }
 
-    /// What comes next for the change of this number.
-    pub fn next(&mut self, alloc: Global, number: u64) -> Next
-        ensures wait { result ≡ Wait → self.new ≡ self.old }
-        ensures write { (batch : _) → result ≡ Write batch → Takes self.old self.new batch.items
-            × MayWrite self.old }
-        ensures commit { result ≡ Commit → (self.new ≡ self.old) × HasTurn self.old number
-            × (¬ IsLost self.old number) × (self.old.is_over ≡ false) }
-        ensures refuse { result ≡ Refuse → (self.new ≡ self.old) × HasTurn self.old number
-            × ((self.old.is_over ≡ true) ⊎ IsLost self.old number) }
+    /// Whether it is known of some change that had no turn yet that it is on the disk, or that it could not be written.
+    fn is_known(&self) -> bool
+        ensures { IsTrue result ↔ (0 < self.now.count + self.now.lost) }
     {
-        if self.done == number && number < self.known {
-            if self.is_over || (self.lost <= number && number < self.kept) {
-                return Next::Refuse;
-            }
-            return Next::Commit;
+        self.on_disk.count() > 0 || self.lost > 0
+    }
+
+    /// What comes next for the change with this receipt.
+    pub fn next(&mut self, alloc: Global, change: &Receipt<Entry, K>) -> Next<J, K>
+        ensures wait { result ≡ Wait → self.new ≡ self.old }
+        ensures write { (batch : _) → result ≡ Write batch
+            → Takes self.old self.new batch.entries × MayWrite self.old }
+        ensures commit { (receipt : _) → result ≡ Commit receipt → (self.new ≡ self.old)
+            × HasTurn self.old change.now.number × (¬ IsLost self.old change.now.number)
+            × (self.old.is_over ≡ false) }
+        ensures entry { (receipt : _) → result ≡ Commit receipt
+            → (receipt.number ≡ self.old.decided) × (receipt.entry ≡ change.now.entry) }
+        ensures refuse { result ≡ Refuse → (self.new ≡ self.old)
+            × HasTurn self.old change.now.number
+            × ((self.old.is_over ≡ true) ⊎ IsLost self.old change.now.number) }
+    {
+        if self.on_disk.number() == change.number() && self.is_known() {
+            return match self.on_disk.receipt(change) {
+                Some(receipt) if !self.is_over => Next::Commit(receipt),
+                _ => Next::Refuse,
+            };
         }
         if self.may_write() {
             return Next::Write(self.begin_batch(alloc));
@@ -190,14 +216,14 @@ impl Line {
     pub fn is_waiting(&self, number: u64) -> bool
         ensures { HasTurn self.now number → result ≡ false }
     {
-        !(self.done == number && number < self.known) && !self.may_write()
+        !(self.on_disk.number() == number && self.is_known()) && !self.may_write()
     }
 
     /// Whether there is something to write, somebody may begin to, and no change that was lost waits for its turn.
     fn may_write(&self) -> bool
         ensures { IsTrue result → MayWrite self.now }
     {
-        !self.is_writing && !self.is_held && !self.waiting.is_empty() && self.kept <= self.done
+        !self.is_writing && !self.is_held && !self.waiting.is_empty() && self.lost == 0
     }
 
     /// Nobody may begin to write until `let_go` is called.
@@ -216,10 +242,10 @@ impl Line {
 
     /// Whether nothing is being written, and all changes that are known to be on the disk or lost had their turn.
     pub fn is_still(&self) -> bool
-        ensures { IsTrue result
-            ↔ (self.now.is_writing ≡ false) × (self.now.done ≡ self.now.known) }
+        ensures { IsTrue result ↔ (self.now.is_writing ≡ false)
+            × ((self.now.count ≡ 0) × (self.now.lost ≡ 0)) }
     {
-        !self.is_writing && self.done == self.known
+        !self.is_writing && self.on_disk.count() == 0 && self.lost == 0
     }
 
     /// No change is made from now on: those that were drawn are refused, and no other is drawn.
@@ -238,58 +264,71 @@ impl Line {
         ensures { self.new ≡ has_lost_rest self.old }
     {
         self.waiting.clear();
-        self.lost = self.known;
-        self.kept = self.drawn;
-        self.known = self.drawn;
+        self.lost = self
+            .drawn
+            .len()
+            .saturating_sub(self.on_disk.number())
+            .saturating_sub(self.on_disk.count());
     }
 
     /// Takes the first of those that wait, and notes that they are being written.
-    fn begin_batch(&mut self, alloc: Global) -> Vec<Spelled>
+    fn begin_batch(&mut self, alloc: Global) -> Batch<K>
         requires { MayWrite self.old }
-        ensures { Takes self.old self.new result.items }
+        ensures { Takes self.old self.new result.entries }
     {
-        let mut batch = mem::replace(&mut self.room, Vec::new(alloc));
-        batch.clear();
-        fill(&mut self.waiting, &mut batch);
+        let first = self.drawn.len() - self.waiting.len() as u64;
+        let mut changes = mem::replace(&mut self.room, Vec::new(alloc));
+        changes.clear();
+        fill(&mut self.waiting, &mut changes);
         self.is_writing = true;
-        batch
+        Batch::new(changes, first, self.drawn.again())
     }
 
-    /// A batch was written, or could not be. If it could not be, none of those that wait are written either. Others are
-    /// written only after each of these had its turn.
-    pub fn note_written(&mut self, batch: Vec<Spelled>, is_on_disk: bool)
+    /// A batch was written: its changes are on the disk. If these are not the next ones, which cannot be, no change is
+    /// made from now on.
+    pub fn note_written(&mut self, batch: Batch<K>, written: &OnDisk<J, K>)
+        ensures known { Places self.old written.now → self.old.is_over ≡ false
+            → self.new ≡ has_written self.old written.now.count }
+        ensures other { (¬ Places self.old written.now) → self.new.is_over ≡ true }
         ensures done { self.new.done ≡ self.old.done }
-        ensures known { is_on_disk ≡ true → self.old.is_over ≡ false
-            → self.new ≡ record self.old {
-              known = min self.old.drawn (self.old.known + vec_len batch);
-              is_writing = false;
-            } }
-        ensures lost { is_on_disk ≡ false
-            → self.new ≡ record (has_lost_rest self.old) { is_writing = false } }
     {
-        let mut batch = batch;
-        if is_on_disk {
-            let count = batch.len() as u64;
-            self.known = self.known.saturating_add(count).min(self.drawn);
+        if !self.on_disk.join(written) {
+            self.is_over = true;
         }
-        if !is_on_disk || self.is_over {
+        if self.is_over {
             self.lose_rest();
         }
-        batch.clear();
-        self.room = batch;
+        self.end_writing(batch);
+    }
+
+    /// A batch could not be written. None of those that wait are written either. Others are written only after each of
+    /// these had its turn.
+    pub fn note_lost(&mut self, batch: Batch<K>)
+        ensures { self.new ≡ record (has_lost_rest self.old) { is_writing = false } }
+    {
+        self.lose_rest();
+        self.end_writing(batch);
+    }
+
+    /// Nobody writes any more. The memory of the batch is kept for the next one.
+    fn end_writing(&mut self, batch: Batch<K>)
+        ensures { self.new ≡ record self.old { is_writing = false } }
+    {
+        self.room = batch.into_changes();
+        self.room.clear();
         self.is_writing = false;
     }
 
-    /// The turn of the change whose turn it was is over. The change has a place in the log, or it could not be written.
-    pub fn end_turn(&mut self, is_on_disk: bool)
-        ensures { self.old.done < self.old.known → self.new ≡ has_had_turn self.old is_on_disk }
+    /// The turn of the change whose turn it was is over.
+    pub fn end_turn(&mut self)
+        ensures { self.new ≡ has_had_turn self.old }
     {
-        if self.done < self.known {
-            self.done += 1;
-        }
-        if is_on_disk {
+        if self.on_disk.count() > 0 {
+            self.on_disk.advance();
             self.place = self.place.saturating_add(1);
-            self.decided = self.decided.saturating_add(1);
+        } else if self.lost > 0 {
+            self.on_disk.skip();
+            self.lost -= 1;
         }
     }
 
@@ -300,18 +339,12 @@ impl Line {
         self.place
     }
 
-    /// The number of entries that had their turn in this run, with those that were read at its start. A shorter log
-    /// changes the places, but not this number.
-    pub fn decided(&self) -> u64
-        ensures { result ≡ self.now.decided }
-    {
-        self.decided
-    }
-
     /// The number of the change whose turn comes next, and of the first that isn't known to be on the disk or lost.
     pub fn first_two(&self) -> (u64, u64)
-        ensures { result ≡ (self.now.done, self.now.known) }
+        ensures { result.0 ≡ self.now.done }
     {
-        (self.done, self.known)
+        let first = self.on_disk.number();
+        let known = self.on_disk.count().saturating_add(self.lost);
+        (first, first.saturating_add(known))
     }
 }

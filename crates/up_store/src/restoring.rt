@@ -1,46 +1,51 @@
 //! Carrying out the entries of a log again, on a board.
-ghost use Rattle.std.specs.Prelude.{◌≡◌, OnOk, Result};
-ghost use Rattle.up_dispatch.specs.Tied.{CommitsAt};
+ghost use Rattle.std.specs.Prelude.{◌≡◌, ◌++◌, OnOk, List, Result, Some, length};
+ghost use Rattle.up_dispatch.specs.Tied.{CommitsAfter};
+ghost use Rattle.up_log.specs.declared.entry.Entry.{Entry as Logged};
 ghost use Rattle.up_machine.specs.declared.plan.Done.{Done as Carried};
 ghost use Rattle.up_machine.specs.declared.refusal.Refusal.{Refusal as Refused};
 
+use crate::store::Store;
 use crate::voids::Voids;
 use sqlite_disk::Disk;
 use std::alloc::Global;
 use std::collections::BTreeSet;
 use std::sync::Wait;
 use up_dispatch::{Board, Naming, Seat};
-use up_log::{Entry, Log, LogFault, LogReader};
+use up_history::{Chronicle, Front, History, Receipt};
+use up_log::{Entry, LogFault, LogReader};
 use up_machine::Refusal;
 use up_message::Sequence;
 use up_replay::{Unreplayed, Unrestored, fits};
+use up_tie::{Reading, Site, Written};
 
 /// The open logs of a store.
 #[derive(Drop)]
-pub struct Logs<D: Disk> {
-    pub changes: Log<D>,
+pub struct Logs<D: Disk, J: Site> {
+    pub changes: Written<D, J>,
     pub voids: Voids<D>,
     /// How many entries the log of the changes has.
     pub count: u64,
 }
 
-/// Carries out the entry at a place of the log again. If it is refused, it was refused before, too. The error is that
-/// it is too long for a request, or that memory ran out.
+/// Carries out the entry of a receipt again. If it is refused, it was refused before, too. The error is that it is too
+/// long for a request, or that memory ran out.
 fn carry_out<B: Naming, R: Wait>(
     rt: &R,
     alloc: Global,
     board: &Board<B>,
     seat: &mut Seat<B>,
-    place: u64,
+    receipt: &Receipt<Entry, B>,
     entry: Entry,
 ) -> Result<(), Unreplayed>
-    ensures { OnOk result ((done : Result Carried Refused)
-        × CommitsAt B.queue B.lanes B.max_size place seat.old entry seat.new done) }
+    requires claims { receipt.now.entry ≡ Some entry }
+    ensures { OnOk result ((done : Result Carried Refused) × CommitsAfter B.queue B.lanes
+        B.max_size receipt.now.before seat.old entry seat.new done) }
 {
     if !fits(&entry.request) {
         return Err(Unreplayed::TooLong);
     }
-    let Some(done) = board.commit_at(rt, alloc, seat, place, entry) else {
+    let Some(done) = board.commit_at(rt, alloc, seat, receipt, entry) else {
         return Err(Unreplayed::Memory);
     };
     match done {
@@ -49,78 +54,107 @@ fn carry_out<B: Naming, R: Wait>(
     }
 }
 
-/// Carries out the entries of a batch again, except for those that are void. The first of them has the place `first` in
-/// the log. Returns the place after the batch.
-fn carry_out_all<B: Naming, R: Wait>(
+/// Carries out the entry of a receipt again, or passes over it if it is void.
+fn take_in<B: Naming, R: Wait>(
+    rt: &R,
+    alloc: Global,
+    board: &Board<B>,
+    seat: &mut Seat<B>,
+    receipt: &Receipt<Entry, B>,
+    entry: Entry,
+    voids: &BTreeSet<u64>,
+) -> Result<(), Unreplayed>
+    requires claims { receipt.now.entry ≡ Some entry }
+{
+    if !voids.contains(&receipt.number()) {
+        return carry_out(rt, alloc, board, seat, receipt, entry);
+    }
+    match board.pass_over(rt, receipt, &entry) {
+        Some(()) => Ok(()),
+        None => Err(Unreplayed::Memory),
+    }
+}
+
+/// Carries out the last entries of a front again, except for those that are void.
+fn take_in_all<B: Naming, R: Wait>(
     rt: &R,
     alloc: Global,
     board: &Board<B>,
     seat: &mut Seat<B>,
     entries: Sequence<Entry>,
     voids: &BTreeSet<u64>,
-    first: u64,
-) -> Result<u64, Unreplayed> {
-    let mut place = first;
+    front: &Front<Entry, B>,
+) -> Result<(), Unreplayed>
+    requires last { (before : List Logged) × (front.now ≡ before ++ entries) }
+{
+    let mut place = front.len() - entries.len() as u64;
     for entry in entries.into_vec() {
-        if !voids.contains(&place) {
-            carry_out(rt, alloc, board, seat, place, entry)?;
-        } else if board.pass_over(rt, place, &entry).is_none() {
-            return Err(Unreplayed::Memory);
-        }
-        place = place.saturating_add(1);
+        let receipt = Receipt::of(front, place);
+        take_in(rt, alloc, board, seat, &receipt, entry, voids)?;
+        place += 1;
     }
-    Ok(place)
+    Ok(())
 }
 
 /// Reads the logs of a store to their ends, and carries out the changes again in their order, from this seat of a new
-/// board. Its book is then the one that the changes define. At most one batch is in memory at a time. The error says
-/// why a log can't be read, or why an entry can't be carried out.
-pub fn restore_on<B: Naming, D: Disk, R: Wait>(
+/// board. What is read is added to the history.
+fn restore_on<B: Naming, D: Disk, J: Site, R: Wait>(
     rt: &R,
     alloc: Global,
     board: &Board<B>,
     seat: &mut Seat<B>,
-    changes: LogReader<D>,
+    changes: Reading<D, J>,
     voids: LogReader<D>,
-) -> Result<Logs<D>, Unrestored>
+    history: &History<Entry, J>,
+) -> Result<Logs<D, J>, Unrestored>
 where
     D: Drop,
+    requires same { J.history ≡ B.history }
 {
     let (voids, places) = Voids::read(alloc, voids)?;
-    let mut reader = changes;
-    let mut count = 0;
+    let mut reading = changes;
     for _ in 0..u64::MAX {
-        let Some(entries) = reader.next_batch(alloc)? else {
+        let (next, batch) = reading.next_batch(alloc, history)?;
+        reading = next;
+        let Some(entries) = batch else {
             break;
         };
-        count = carry_out_all(rt, alloc, board, seat, entries, &places, count)?;
+        let front = reading.front().known_as();
+        take_in_all(rt, alloc, board, seat, entries, &places, &front)?;
     }
-    match reader.finish() {
-        Ok(changes) => Ok(Logs {
-            changes,
-            voids,
-            count,
-        }),
-        Err(refused) => Err(Unrestored::Log(refused.fault)),
-    }
+    let changes = reading.finish()?;
+    let count = changes.len();
+    Ok(Logs {
+        changes,
+        voids,
+        count,
+    })
 }
 
-/// As `restore_on`, for a log that has at least `least` entries. `Damaged` if it has fewer.
-pub(crate) fn restore_all_on<B: Naming, D: Disk, R: Wait>(
-    rt: &R,
-    alloc: Global,
-    board: &Board<B>,
-    seat: &mut Seat<B>,
-    changes: LogReader<D>,
-    voids: LogReader<D>,
-    least: u64,
-) -> Result<Logs<D>, Unrestored>
-where
-    D: Drop,
-{
-    let logs = restore_on(rt, alloc, board, seat, changes, voids)?;
-    if logs.count < least {
-        return Err(Unrestored::Log(LogFault::Damaged));
+impl<D: Disk, N, J: Site, K: Chronicle> Store<D, N, J, K> {
+    /// Reads the log of the changes and that of the voids to their ends, and carries out the changes again in their
+    /// order, from this seat of a new board. Its book is then the one that the changes define. At most one batch is in
+    /// memory at a time. The error says why a log can't be read, or why an entry can't be carried out. `Damaged` if the
+    /// log has fewer entries than `least`.
+    pub fn restore<B: Naming, R: Wait>(
+        &self,
+        rt: &R,
+        alloc: Global,
+        board: &Board<B>,
+        seat: &mut Seat<B>,
+        readers: (Reading<D, J>, LogReader<D>),
+        least: u64,
+    ) -> Result<Logs<D, J>, Unrestored>
+    where
+        D: Drop,
+        requires same { J.history ≡ B.history }
+    {
+        let (changes, voids) = readers;
+        let held = self.log.lock(rt);
+        let logs = restore_on(rt, alloc, board, seat, changes, voids, held.history())?;
+        if logs.count < least {
+            return Err(Unrestored::Log(LogFault::Damaged));
+        }
+        Ok(logs)
     }
-    Ok(logs)
 }

@@ -2,7 +2,6 @@
 use crate::ended::EndedUploads;
 use crate::folder::Folder;
 use crate::notices::StoreNotices;
-use crate::restoring::Logs;
 use crate::shorter::{Kept, Shorter, left_out_events};
 use crate::store::Store;
 use sqlite_disk::Disk;
@@ -10,7 +9,9 @@ use std::alloc::Global;
 use std::sync::atomic::{AtomicU64, Ordering};
 use std::sync::{Mutex, Wait};
 use up_compact::{Head, Heads};
+use up_history::Chronicle;
 use up_log::LogFault;
+use up_tie::Site;
 
 /// How many times at most a shorter log catches up with entries that were added meanwhile, before changes are held up
 /// for the rest.
@@ -86,7 +87,7 @@ impl<D: Disk, F> Shortening<D, F> {
     }
 
     /// Whether the log of the store is long and works, and more than half of it may be left out.
-    fn is_due<N, R: Wait>(&self, rt: &R, store: &Store<D, N>) -> bool {
+    fn is_due<N, J: Site, K: Chronicle, R: Wait>(&self, rt: &R, store: &Store<D, N, J, K>) -> bool {
         let less = self.ended.bytes(rt);
         if less <= self.least / 2 {
             return false;
@@ -100,7 +101,12 @@ impl<D: Disk + Drop, F: Folder<D>> Shortening<D, F> {
     /// Replaces the log of a store by a shorter one, if that is due and nobody else does it. Changes are made
     /// meanwhile, except for a moment at the end. If it fails, the store keeps the log that it has. If it is then not
     /// known which log the next start finds, no more changes are made.
-    pub fn shorten<N: StoreNotices, R: Wait>(&self, rt: &R, alloc: Global, store: &Store<D, N>) {
+    pub fn shorten<N: StoreNotices, J: Site, K: Chronicle, R: Wait>(
+        &self,
+        rt: &R,
+        alloc: Global,
+        store: &Store<D, N, J, K>,
+    ) {
         if !self.is_due(rt, store) {
             return;
         }
@@ -123,7 +129,7 @@ impl<D: Disk + Drop, F: Folder<D>> Shortening<D, F> {
     }
 
     /// Reports why the log was not replaced.
-    fn tell<N: StoreNotices>(&self, store: &Store<D, N>, kept: Kept) {
+    fn tell<N: StoreNotices, J: Site, K: Chronicle>(&self, store: &Store<D, N, J, K>, kept: Kept) {
         match kept {
             Kept::Long => {}
             Kept::Fault(fault) => store.notices.is_not_shorter(fault),
@@ -132,11 +138,11 @@ impl<D: Disk + Drop, F: Folder<D>> Shortening<D, F> {
     }
 
     /// Writes a shorter log, and replaces the log of the store by it. Removes the log that is not used.
-    fn replace<N: StoreNotices, R: Wait>(
+    fn replace<N: StoreNotices, J: Site, K: Chronicle, R: Wait>(
         &self,
         rt: &R,
         alloc: Global,
-        store: &Store<D, N>,
+        store: &Store<D, N, J, K>,
         current: &mut Current<D>,
     ) -> Result<(), Kept> {
         let old = current.head.generation;
@@ -157,11 +163,11 @@ impl<D: Disk + Drop, F: Folder<D>> Shortening<D, F> {
     }
 
     /// Writes the log of this generation, and switches to it.
-    fn write<N: StoreNotices, R: Wait>(
+    fn write<N: StoreNotices, J: Site, K: Chronicle, R: Wait>(
         &self,
         rt: &R,
         alloc: Global,
-        store: &Store<D, N>,
+        store: &Store<D, N, J, K>,
         current: &mut Current<D>,
         generation: u64,
     ) -> Result<(), Kept> {
@@ -188,11 +194,11 @@ impl<D: Disk + Drop, F: Folder<D>> Shortening<D, F> {
     }
 
     /// Adds what is left to a shorter log, while the changes of the store are held up, and switches to it.
-    fn switch<N, R: Wait>(
+    fn switch<N, J: Site, K: Chronicle, R: Wait>(
         &self,
         rt: &R,
         alloc: Global,
-        store: &Store<D, N>,
+        store: &Store<D, N, J, K>,
         current: &mut Current<D>,
         shorter: Shorter<D>,
         head: Head,
@@ -212,14 +218,7 @@ impl<D: Disk + Drop, F: Folder<D>> Shortening<D, F> {
             progress,
             ..
         } = shorter;
-        store.switch(
-            rt,
-            Logs {
-                changes,
-                voids,
-                count: progress.stayed,
-            },
-        );
+        store.switch(rt, changes, voids, progress.stayed);
         Ok(())
     }
 }

@@ -9,8 +9,10 @@ use std::sync::Wait;
 use up_compact::{Head, LeftOut, Progress, Survey, add_staying};
 use up_events::Id;
 use up_handed::EndedUpload;
+use up_history::Chronicle;
 use up_log::{Log, LogFault, LogReader};
 use up_message::Sequence;
+use up_tie::Site;
 
 /// Why a log was not replaced by a shorter one.
 #[derive(Clone, Copy)]
@@ -71,10 +73,10 @@ where
 }
 
 /// The uploads that a shorter log of this store leaves out completely.
-fn survey<D: Disk, N, R: Wait>(
+fn survey<D: Disk, N, J: Site, K: Chronicle, R: Wait>(
     rt: &R,
     alloc: Global,
-    store: &Store<D, N>,
+    store: &Store<D, N, J, K>,
     ended: &[EndedUpload],
 ) -> Result<BTreeSet<Id>, LogFault> {
     let mut survey = Survey::new(alloc);
@@ -124,10 +126,10 @@ where
 {
     /// Makes an empty log that is to replace the log of a store. It leaves out those of these uploads of which nothing
     /// has to stay. `Long` if there are none.
-    pub(crate) fn begin<N, F: Folder<D>, R: Wait>(
+    pub(crate) fn begin<N, F: Folder<D>, J: Site, K: Chronicle, R: Wait>(
         rt: &R,
         alloc: Global,
-        store: &Store<D, N>,
+        store: &Store<D, N, J, K>,
         folder: &F,
         generation: u64,
         ended: &[EndedUpload],
@@ -152,11 +154,11 @@ where
 
     /// Adds the next batch of the store's log, if all of its entries come before the place `end`. Returns whether they
     /// do. `Long` if the new log has become too long.
-    fn add_next<N, R: Wait>(
+    fn add_next<N, J: Site, K: Chronicle, R: Wait>(
         &mut self,
         rt: &R,
         alloc: Global,
-        store: &Store<D, N>,
+        store: &Store<D, N, J, K>,
         end: u64,
     ) -> Result<bool, Kept> {
         let Some((entries, next)) = store.batch_at(rt, alloc, self.progress.place)? else {
@@ -182,11 +184,11 @@ where
 
     /// Adds the batches of the store's log whose entries have all had their turn by now. Returns how many entries these
     /// are.
-    pub(crate) fn add_settled<N, R: Wait>(
+    pub(crate) fn add_settled<N, J: Site, K: Chronicle, R: Wait>(
         &mut self,
         rt: &R,
         alloc: Global,
-        store: &Store<D, N>,
+        store: &Store<D, N, J, K>,
     ) -> Result<u64, Kept> {
         let before = self.progress.count;
         let end = store.place(rt);

@@ -1,4 +1,7 @@
 //! What the seats of a store share.
+ghost use Rattle.std.specs.Prelude.{◌≡◌, [], IfOk, IfSome, Some};
+ghost use Rattle.up_store.specs.declared.line.Next.TheVariants.{Commit};
+
 use crate::held::{Held, LogFile};
 use crate::line::{Line, Next};
 use crate::notices::StoreNotices;
@@ -8,7 +11,9 @@ use sqlite_disk::Disk;
 use std::alloc::{AllocError, Global};
 use std::sync::atomic::{AtomicBool, AtomicU64, Ordering};
 use std::sync::{Condvar, Mutex, Wait};
-use up_log::{Log, LogFault, Spelled};
+use up_history::{Chronicle, Front, Opened, Receipt};
+use up_log::{Entry, Log, LogFault, Spelled};
+use up_tie::{Batch, OnDisk, Site};
 
 /// The number of bells. If there are more connections, they share them.
 const BELLS: u64 = 64;
@@ -16,23 +21,31 @@ const BELLS: u64 = 64;
 /// How much of the memory in which a batch was put together is kept for the next one, at most, in bytes: 16 MiB.
 const MAX_ROOM: usize = 1 << 24;
 
-/// What became of a change whose turn it was.
-#[derive(Clone, Copy, PartialEq, Eq)]
-pub(crate) enum Turn {
-    /// It is on the disk, and the board decided on it.
-    Decided,
-    /// It is on the disk, and the board did not decide on it: memory ran out, or the board was closed before.
-    Void,
-    /// It could not be written.
-    Lost,
+/// The histories of a store, before they have names.
+#[derive(Drop)]
+pub struct Histories {
+    /// What is written to the log.
+    pub written: Opened<Entry>,
+    /// The changes in the order in which they are drawn.
+    pub drawn: Opened<Entry>,
+}
+
+impl Histories {
+    /// New histories. Takes no memory.
+    pub fn new() -> Histories {
+        Histories {
+            written: Opened::new(),
+            drawn: Opened::new(),
+        }
+    }
 }
 
 /// A log, and the line of the changes that wait to be written to it and to be made. A thread that waits for its change
 /// writes the changes that wait, if no other thread does. Only the lock of the log is held meanwhile.
 #[derive(Drop)]
-pub struct Store<D: Disk, N> {
-    pub(crate) line: Mutex<Line>,
-    pub(crate) log: Mutex<Held<D>>,
+pub struct Store<D: Disk, N, J: Site, K: Chronicle> {
+    pub(crate) line: Mutex<Line<J, K>>,
+    pub(crate) log: Mutex<Held<D, J>>,
     /// The memory in which whoever writes puts a batch together.
     room: Mutex<Vec<u8>>,
     pub(crate) voids: Mutex<Option<Voids<D>>>,
@@ -47,21 +60,31 @@ pub struct Store<D: Disk, N> {
     pub(crate) notices: N,
 }
 
-impl<D: Disk, N> Store<D, N> {
-    /// A store whose logs were not read yet, so that nothing can be written. The error is that memory ran out.
-    pub fn unread(alloc: Global, notices: N) -> Result<Store<D, N>, AllocError>
+impl<D: Disk, N, J: Site, K: Chronicle> Store<D, N, J, K> {
+    /// A store whose logs were not read yet, so that nothing can be written. Also returns the front of what is in the
+    /// log, of which nothing was seen. The error is that memory ran out.
+    pub fn unread(
+        alloc: Global,
+        notices: N,
+        histories: Histories,
+    ) -> Result<(Store<D, N, J, K>, Front<Entry, J>), AllocError>
     where
         D: Drop,
         N: Drop,
+        requires written { histories.written ≡ J.history }
+        requires drawn { histories.drawn ≡ K.history }
+        ensures { IfOk result (λ r. r.1 ≡ []) }
     {
         let mut bells = Vec::new(alloc);
         for _ in 0..BELLS {
             bells.push(Condvar::new())?;
         }
-        let line = Line::new(alloc, 0)?;
-        Ok(Store {
+        let Histories { written, drawn } = histories;
+        let (history, front) = written.named();
+        let line = Line::new(alloc, drawn, front.again())?;
+        let store = Store {
             line: Mutex::new(line),
-            log: Mutex::new(Held::Unread),
+            log: Mutex::new(Held::unread(history)),
             room: Mutex::new(Vec::new(alloc)),
             voids: Mutex::new(None),
             bells,
@@ -69,44 +92,30 @@ impl<D: Disk, N> Store<D, N> {
             generation: AtomicU64::new(0),
             is_failing: AtomicBool::new(false),
             notices,
-        })
+        };
+        Ok((store, front))
     }
 
     /// Opens the store with logs that were read to their ends, and to which nobody else writes.
-    pub fn open<R: Wait>(&self, rt: &R, logs: Logs<D>)
+    pub fn open<R: Wait>(&self, rt: &R, logs: Logs<D, J>)
     where
         D: Drop,
     {
-        let Logs {
-            changes,
-            voids,
-            count,
-        } = logs;
-        self.line.lock(rt).begin_at(count);
-        self.hold_logs(rt, changes, voids);
-    }
-
-    /// Goes on with these shorter logs. It is called while the line is held up.
-    pub(crate) fn switch<R: Wait>(&self, rt: &R, logs: Logs<D>)
-    where
-        D: Drop,
-    {
-        let Logs {
-            changes,
-            voids,
-            count,
-        } = logs;
-        self.line.lock(rt).go_over(count);
-        self.hold_logs(rt, changes, voids);
-    }
-
-    /// Uses these logs from now on.
-    fn hold_logs<R: Wait>(&self, rt: &R, changes: Log<D>, voids: Voids<D>)
-    where
-        D: Drop,
-    {
+        let Logs { changes, voids, .. } = logs;
+        self.line.lock(rt).begin_after(changes.front());
         *self.voids.lock(rt) = Some(voids);
-        *self.log.lock(rt) = Held::Open(changes);
+        self.log.lock(rt).open(changes);
+    }
+
+    /// Goes on with these shorter logs, of which that of the changes has `count` entries. It is called while the line
+    /// is held up.
+    pub(crate) fn switch<R: Wait>(&self, rt: &R, changes: Log<D>, voids: Voids<D>, count: u64)
+    where
+        D: Drop,
+    {
+        self.line.lock(rt).go_over(count);
+        *self.voids.lock(rt) = Some(voids);
+        self.log.lock(rt).switch(changes);
     }
 
     /// How many times a shorter log replaced the log.
@@ -121,13 +130,16 @@ impl<D: Disk, N> Store<D, N> {
 
     /// The logs, with everything that was written to them. `None` if the store was never opened, or if the log of the
     /// changes is not open.
-    pub fn into_logs(self) -> Option<Logs<D>>
+    pub fn into_logs(self) -> Option<Logs<D, J>>
     where
         D: Drop,
         N: Drop,
     {
         let count = self.line.into_inner().place();
-        let (changes, voids) = (self.log.into_inner().into_log(), self.voids.into_inner());
+        let (changes, voids) = (
+            self.log.into_inner().into_written(),
+            self.voids.into_inner(),
+        );
         Some(Logs {
             changes: changes?,
             voids: voids?,
@@ -135,20 +147,23 @@ impl<D: Disk, N> Store<D, N> {
         })
     }
 
-    /// Draws the next number for a change. The error is that memory or the numbers ran out, or that no change is made
-    /// any more.
-    pub(crate) fn draw<R: Wait>(&self, rt: &R, change: Spelled) -> Result<u64, AllocError> {
-        self.line.lock(rt).draw(change)
+    /// Draws the next number for a change, and returns a receipt for it. The error is that memory or the numbers ran
+    /// out, or that no change is made any more.
+    pub(crate) fn draw<R: Wait>(
+        &self,
+        rt: &R,
+        change: Spelled,
+        entry: &Entry,
+    ) -> Result<Receipt<Entry, K>, AllocError>
+        requires same { change ≡ entry.now }
+        ensures { IfOk result (λ r. r.entry ≡ Some entry.now) }
+    {
+        self.line.lock(rt).draw(change, entry)
     }
 
     /// The place in the log of the change whose turn it is, which is the number of entries that had their turn before.
     pub(crate) fn place<R: Wait>(&self, rt: &R) -> u64 {
         self.line.lock(rt).place()
-    }
-
-    /// How many entries had their turn in this run before the change whose turn it is.
-    pub(crate) fn decided<R: Wait>(&self, rt: &R) -> u64 {
-        self.line.lock(rt).decided()
     }
 
     /// Wakes the threads that wait at the bell of this number.
@@ -165,20 +180,35 @@ impl<D: Disk, N> Store<D, N> {
         self.stillness.notify_all();
     }
 
-    /// Waits until there is something to do for the change with this number, and returns what.
-    fn next<R: Wait>(&self, rt: &R, alloc: Global, number: u64) -> Next {
+    /// Waits until there is something to do for the change with this receipt, and returns what.
+    fn next<R: Wait>(&self, rt: &R, alloc: Global, change: &Receipt<Entry, K>) -> Next<J, K>
+        ensures { (receipt : _) → result ≡ Commit receipt → receipt.entry ≡ change.now.entry }
+    {
+        let number = change.number();
         let line = self.line.lock(rt);
         let Some(bell) = self.bells.get((number % BELLS) as usize) else {
             return Next::Refuse;
         };
         let mut line = bell.wait_while(rt, line, |line| line.is_waiting(number));
-        line.next(alloc, number)
+        line.next(alloc, change)
+    }
+
+    /// The change whose turn it was has had it.
+    pub(crate) fn end_turn<R: Wait>(&self, rt: &R) {
+        let mut line = self.line.lock(rt);
+        line.end_turn();
+        self.go_on(line.first_two());
     }
 }
 
-impl<D: Disk + Drop, N: StoreNotices + LogFile<D>> Store<D, N> {
+impl<D: Disk + Drop, N: StoreNotices + LogFile<D>, J: Site, K: Chronicle> Store<D, N, J, K> {
     /// Appends a batch to the log.
-    fn append<R: Wait>(&self, rt: &R, alloc: Global, batch: &[Spelled]) -> Result<(), LogFault> {
+    fn append<R: Wait>(
+        &self,
+        rt: &R,
+        alloc: Global,
+        batch: &Batch<K>,
+    ) -> Result<OnDisk<J, K>, LogFault> {
         let mut room = self.room.lock(rt);
         let generation = self.generation();
         let written = self
@@ -191,18 +221,25 @@ impl<D: Disk + Drop, N: StoreNotices + LogFile<D>> Store<D, N> {
         written
     }
 
-    /// Writes a batch, reports it if writing has begun to fail or works again, and notes the result in the line.
-    fn write<R: Wait>(&self, rt: &R, alloc: Global, batch: Vec<Spelled>) {
-        let written = self.append(rt, alloc, &batch);
-        let is_failing = written.is_err();
-        let was_failing = self.is_failing.swap(is_failing, Ordering::SeqCst);
+    /// Reports it if writing has begun to fail or works again.
+    fn tell(&self, written: &Result<OnDisk<J, K>, LogFault>) {
+        let was_failing = self.is_failing.swap(written.is_err(), Ordering::SeqCst);
         match written {
-            Ok(()) if was_failing => self.notices.works(),
-            Err(fault) if !was_failing => self.notices.fails(fault),
+            Ok(_) if was_failing => self.notices.works(),
+            Err(fault) if !was_failing => self.notices.fails(*fault),
             _ => {}
         }
+    }
+
+    /// Writes a batch, and notes the result in the line.
+    fn write<R: Wait>(&self, rt: &R, alloc: Global, batch: Batch<K>) {
+        let written = self.append(rt, alloc, &batch);
+        self.tell(&written);
         let mut line = self.line.lock(rt);
-        line.note_written(batch, !is_failing);
+        match &written {
+            Ok(on_disk) => line.note_written(batch, on_disk),
+            Err(_) => line.note_lost(batch),
+        }
         self.go_on(line.first_two());
     }
 
@@ -211,23 +248,30 @@ impl<D: Disk + Drop, N: StoreNotices + LogFile<D>> Store<D, N> {
         self.notices.makes_room()
     }
 
-    /// Waits for the turn of the change with this number, and writes batches meanwhile if nobody else does. Returns
-    /// whether the change is on the disk and may be made.
-    pub(crate) fn await_turn<R: Wait>(&self, rt: &R, alloc: Global, number: u64) -> bool {
+    /// Waits for the turn of the change with this receipt, and writes batches meanwhile if nobody else does. Returns a
+    /// receipt for its entry in the log, or `None` if it isn't on the disk or may not be made.
+    pub(crate) fn await_turn<R: Wait>(
+        &self,
+        rt: &R,
+        alloc: Global,
+        change: &Receipt<Entry, K>,
+    ) -> Option<Receipt<Entry, J>>
+        ensures { IfSome result (λ r. r.entry ≡ change.now.entry) }
+    {
         for _ in rt.forever() {
-            match self.next(rt, alloc, number) {
+            match self.next(rt, alloc, change) {
                 Next::Wait => {}
                 Next::Write(batch) => self.write(rt, alloc, batch),
-                Next::Commit => return true,
+                Next::Commit(receipt) => return Some(receipt),
                 Next::Refuse => break,
             }
         }
-        false
+        None
     }
 
     /// Writes down that the change whose turn it is was not made. If that can't be written, no other change can be
     /// made, because it might be decided differently when the log is read again.
-    fn note_void<R: Wait>(&self, rt: &R, alloc: Global) {
+    pub(crate) fn note_void<R: Wait>(&self, rt: &R, alloc: Global) {
         let place = self.place(rt);
         let written = match self.voids.lock(rt).as_mut() {
             Some(voids) => voids.add(alloc, place),
@@ -237,15 +281,5 @@ impl<D: Disk + Drop, N: StoreNotices + LogFile<D>> Store<D, N> {
             self.line.lock(rt).stop();
             self.notices.stops(fault);
         }
-    }
-
-    /// The change whose turn it was has had it.
-    pub(crate) fn end_turn<R: Wait>(&self, rt: &R, alloc: Global, turn: Turn) {
-        if turn == Turn::Void {
-            self.note_void(rt, alloc);
-        }
-        let mut line = self.line.lock(rt);
-        line.end_turn(turn != Turn::Lost);
-        self.go_on(line.first_two());
     }
 }

@@ -1,28 +1,32 @@
 //! A seat of a board whose changes are written to a log before they are made.
-ghost use Rattle.std.specs.Prelude.{◌≡◌, true, IfNone, IfSome, Err};
+ghost use Rattle.std.specs.Prelude.{◌≡◌, true, IfNone, IfOk, IfSome, Err, Some};
 ghost use Rattle.up_machine.specs.Decision.{is_refusal};
 ghost use Rattle.up_machine.specs.declared.refusal.Refusal.TheVariants.{NoMemory};
 ghost use Rattle.up_replay.specs.Replay.{asked_of};
 
 use crate::held::LogFile;
 use crate::notices::StoreNotices;
-use crate::store::{Store, Turn};
+use crate::store::Store;
 use sqlite_disk::Disk;
 use std::alloc::{AllocError, Global};
 use std::sync::Wait;
 use up_dispatch::{Board, Keeper, Naming, Seat};
 use up_events::Id;
 use up_headers::Request;
+use up_history::{Chronicle, Receipt};
 use up_log::{Consent, Entry, Spelled};
 use up_machine::{Asked, Done, Plan, Refusal};
+use up_tie::Site;
 
-/// A board, through one of its seats, and a log. Each change is on the disk before the board makes it.
+/// A board, through one of its seats, and a log. Each change is on the disk before the board makes it. The board
+/// follows the history of what was written to the log.
 #[derive(Drop)]
-pub struct Stored<'a, B: Naming, D: Disk, N, R: Wait> {
+pub struct Stored<'a, B: Naming, D: Disk, N, J: Site, K: Chronicle, R: Wait> {
     rt: &'a R,
     board: &'a Board<B>,
-    store: &'a Store<D, N>,
+    store: &'a Store<D, N, J, K>,
     seat: &'a mut Seat<B>,
+    ghost same: { J.history ≡ B.history },
 }
 
 /// What the closures answered. `None` if one of them refuses.
@@ -49,16 +53,25 @@ fn answer_of(decided: Option<Result<Done, Refusal>>) -> Result<Done, Refusal>
     }
 }
 
-impl<'a, B: Naming, D: Disk + Drop, N: StoreNotices + LogFile<D>, R: Wait> Stored<'a, B, D, N, R> {
+impl<
+    'a,
+    B: Naming,
+    D: Disk + Drop,
+    N: StoreNotices + LogFile<D>,
+    J: Site,
+    K: Chronicle,
+    R: Wait,
+> Stored<'a, B, D, N, J, K, R> {
     /// Borrows the seat.
     pub fn new(
         rt: &'a R,
         board: &'a Board<B>,
-        store: &'a Store<D, N>,
+        store: &'a Store<D, N, J, K>,
         seat: &'a mut Seat<B>,
-    ) -> Stored<'a, B, D, N, R>
-        ensures state { ⟦<Stored<'a, B, D, N, R> as Keeper>⟧.state result ≡ seat.old }
-        ensures lender { ⟦<Stored<'a, B, D, N, R> as Keeper>⟧.lender result
+    ) -> Stored<'a, B, D, N, J, K, R>
+        requires same { J.history ≡ B.history }
+        ensures state { ⟦<Stored<'a, B, D, N, J, K, R> as Keeper>⟧.state result ≡ seat.old }
+        ensures lender { ⟦<Stored<'a, B, D, N, J, K, R> as Keeper>⟧.lender result
             ≡ seat.entry.ghost_name }
     {
         Stored {
@@ -70,33 +83,46 @@ impl<'a, B: Naming, D: Disk + Drop, N: StoreNotices + LogFile<D>, R: Wait> Store
     }
 }
 
-impl<B: Naming, D: Disk + Drop, N: StoreNotices + LogFile<D>, R: Wait> Stored<'_, B, D, N, R> {
-    /// Writes a change and waits for its turn. Returns whether it is on the disk and may be made; if not, its turn is
-    /// over. The error is that memory ran out, or that no change is made any more; it has no turn then.
-    fn write(&self, alloc: Global, entry: &Entry) -> Result<bool, AllocError> {
+impl<
+    B: Naming,
+    D: Disk + Drop,
+    N: StoreNotices + LogFile<D>,
+    J: Site,
+    K: Chronicle,
+    R: Wait,
+> Stored<'_, B, D, N, J, K, R> {
+    /// Writes a change and waits for its turn. Returns a receipt for its entry if it is on the disk and may be made; if
+    /// not, its turn is over. The error is that memory ran out, or that no change is made any more; it has no turn
+    /// then.
+    fn write(&self, alloc: Global, entry: &Entry) -> Result<Option<Receipt<Entry, J>>, AllocError>
+        ensures { IfOk result (λ r. IfSome r (λ receipt. receipt.entry ≡ Some entry.now)) }
+    {
         let change = Spelled::new(alloc, entry)?;
-        let number = self.store.draw(self.rt, change)?;
-        let is_on_disk = self.store.await_turn(self.rt, alloc, number);
-        if !is_on_disk {
-            self.store.end_turn(self.rt, alloc, Turn::Lost);
+        let drawn = self.store.draw(self.rt, change, entry)?;
+        let receipt = self.store.await_turn(self.rt, alloc, &drawn);
+        if receipt.is_none() {
+            self.store.end_turn(self.rt);
         }
-        Ok(is_on_disk)
+        Ok(receipt)
     }
 
     /// As `write`. If a removal can't be written, frees the room that is kept for removals, and tries once more.
-    fn keep(&self, alloc: Global, entry: &Entry) -> Result<bool, AllocError> {
-        if self.write(alloc, entry)? {
-            return Ok(true);
-        }
-        if matches!(entry.request, Request::Delete(_)) && self.store.makes_room() {
+    fn keep(&self, alloc: Global, entry: &Entry) -> Result<Option<Receipt<Entry, J>>, AllocError>
+        ensures { IfOk result (λ r. IfSome r (λ receipt. receipt.entry ≡ Some entry.now)) }
+    {
+        let receipt = self.write(alloc, entry)?;
+        if receipt.is_none()
+            && matches!(entry.request, Request::Delete(_))
+            && self.store.makes_room()
+        {
             return self.write(alloc, entry);
         }
-        Ok(false)
+        Ok(receipt)
     }
 }
 
-impl<B: Naming, D: Disk + Drop, N: StoreNotices + LogFile<D>, R: Wait> Keeper
-    for Stored<'_, B, D, N, R> {
+impl<B: Naming, D: Disk + Drop, N: StoreNotices + LogFile<D>, J: Site, K: Chronicle, R: Wait> Keeper
+    for Stored<'_, B, D, N, J, K, R> {
     ghost use Rattle.std.specs.Prelude.{◌≡◌, ℕ};
     ghost use Rattle.up_dispatch.specs.Keepers.{SeatPlans};
     ghost use Rattle.up_store.specs.StoredCommits.{StoredCommits};
@@ -132,19 +158,18 @@ impl<B: Naming, D: Disk + Drop, N: StoreNotices + LogFile<D>, R: Wait> Keeper
             consent,
             request,
         };
-        let Ok(true) = self.keep(alloc, &entry) else {
+        let Ok(Some(receipt)) = self.keep(alloc, &entry) else {
             return Err(Refusal::NoMemory);
         };
-        let place = self.store.decided(self.rt);
+        let receipt: Receipt<Entry, B> = receipt.known_as();
         let decided = self
             .board
-            .commit_at(self.rt, alloc, self.seat, place, entry);
+            .commit_at(self.rt, alloc, self.seat, &receipt, entry);
         let answer = answer_of(decided);
-        let turn = match &answer {
-            Err(Refusal::NoMemory | Refusal::Closed) => Turn::Void,
-            _ => Turn::Decided,
-        };
-        self.store.end_turn(self.rt, alloc, turn);
+        if matches!(answer, Err(Refusal::NoMemory | Refusal::Closed)) {
+            self.store.note_void(self.rt, alloc);
+        }
+        self.store.end_turn(self.rt);
         answer
     }
 }

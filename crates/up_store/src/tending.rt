@@ -9,11 +9,13 @@ use std::alloc::Global;
 use std::sync::Wait;
 use std::sync::atomic::Ordering;
 use std::time::Duration;
+use up_history::Chronicle;
+use up_tie::Site;
 
 /// How many seconds pass before the store is checked again.
 const PAUSE: u64 = 1;
 
-impl<D: Disk + Drop, N: StoreNotices + LogFile<D>> Store<D, N> {
+impl<D: Disk + Drop, N: StoreNotices + LogFile<D>, J: Site, K: Chronicle> Store<D, N, J, K> {
     /// Opens the log again if a call on it failed, and reports that it works again.
     pub fn tend<R: Wait>(&self, rt: &R) {
         let mut held = self.log.lock(rt);
@@ -26,7 +28,13 @@ impl<D: Disk + Drop, N: StoreNotices + LogFile<D>> Store<D, N> {
     }
 }
 
-impl<D: Disk + Drop, N: StoreNotices + LogFile<D>, F: Folder<D>> Keeping<D, N, F> {
+impl<D: Disk + Drop, N: StoreNotices + LogFile<D>, F: Folder<D>, J: Site, K: Chronicle> Keeping<
+    D,
+    N,
+    F,
+    J,
+    K,
+> {
     /// Tends the store every second, until `stop_tending` is called: opens its log again if a call on it failed, and
     /// makes it shorter if that is due.
     pub fn tend<R: Wait>(&self, rt: &R, alloc: Global) {

@@ -6,7 +6,7 @@ use crate::conversations::talk;
 use crate::fifteen::status_of;
 use crate::requests::{append, creation};
 use std::alloc::Global;
-use std::marker::Brand;
+use std::marker::{Brand, Send};
 use std::process::Abort;
 use std::sync::Wait;
 use std::test::Fail;
@@ -38,7 +38,7 @@ pub fn makes<B: Naming, R: Wait>(
 
 /// Checks that the lane is handed the first of two events, and the other one after its queue is refilled. Closes the
 /// board.
-fn step_each<B: Naming, H: PostHook + Drop, R: Wait + Abort>(
+fn step_each<B: Naming + Send, H: PostHook + Drop, R: Wait + Abort>(
     rt: &R,
     board: &Board<B>,
     mut lane: Lane<H>,
@@ -60,7 +60,7 @@ fn step_each<B: Naming, H: PostHook + Drop, R: Wait + Abort>(
 }
 
 /// One lane with a queue that has one place.
-fn stepped<B: Naming, H: PostHook + Drop, R: Wait + Abort>(
+fn stepped<B: Naming + Send, H: PostHook + Drop, R: Wait + Abort>(
     rt: &R,
     alloc: Global,
     parts: BoardParts,

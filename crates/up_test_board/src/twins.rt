@@ -246,18 +246,18 @@ fn text_of(alloc: Global, talk: &[Asked]) -> Result<String, AllocError> {
 /// How a conversation ended, and what was written.
 type Told = (Ended, Vec<u8>);
 
-/// Serves the conversation from the seat.
+/// Serves the conversation from a seat of the board. `None` if it has none.
 fn told_from<B: Naming, R: Wait>(
     rt: &R,
     alloc: Global,
     board: &Board<B>,
-    mut seat: Seat<B>,
     hooks: &PreHooks,
     asked: &[u8],
-) -> (Seat<B>, Told) {
+) -> Option<(Seat<B>, Told)> {
+    let mut seat = board.seat(rt)?;
     let mut keeper = Seated::new(rt, board, &mut seat);
     let told = talk(alloc, &mut keeper, hooks, &mut Counting::new(), asked);
-    (seat, told)
+    Some((seat, told))
 }
 
 /// Serves the conversation from a seat of a new board whose two lanes run meanwhile.
@@ -277,18 +277,18 @@ fn on_board<B: Naming + Send + Sync, H: PostHook + Drop, R: Threads + Wait + Abo
     requires second { H.is_sound recorders.1 × (H.handed recorders.1 ≡ []) }
 {
     let (board, lanes) = open_board::<B, _>(alloc, parts, recorders, keeps)?;
-    let Some(seat) = board.seat(rt) else {
-        return Err("a seat".into());
-    };
     let shared = &board;
-    let ((seat, told), ends) = run_beside(
+    let (outcome, ends) = run_beside(
         rt,
         shared,
         shared,
         lanes,
-        || told_from(rt, alloc, shared, seat, hooks, asked),
+        || told_from(rt, alloc, shared, hooks, asked),
     );
     let ends = ends?;
+    let Some((seat, told)) = outcome else {
+        return Err("a seat".into());
+    };
     let mut seats = Vec::new(alloc);
     seats.push(seat)?;
     Ok((finished(alloc, board, seats, ends)?, told))

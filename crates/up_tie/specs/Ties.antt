@@ -1,16 +1,12 @@
--- What ties a log and a book, which are protected by two locks, to one history.
-use Rattle.std.specs.Prelude.{◌≡◌, ◌⊎◌, List, IsTrue}
+-- What ties a log, and what is on its disk, to histories.
+use Rattle.std.specs.Prelude.{◌≡◌, ◌⊎◌, ◌<◌, ◌+◌, ℕ, Bool, List, IsTrue, Some, slice_get}
 use Rattle.sqlite_disk.specs.declared.Disk.{Ghosts}
-use Rattle.up_log.specs.Logs.{IsCleanLog, IsSettled}
+use Rattle.up_log.specs.Logs.{IsCleanLog, IsCleanReader, IsReaderAt, IsSettled}
 use Rattle.up_log.specs.declared.appending.Log.{Log}
 use Rattle.up_log.specs.declared.entry.Entry.{Entry}
+use Rattle.up_log.specs.declared.reader.LogReader.{LogReader}
 use Rattle.up_log.specs.declared.setup.Setup.{Setup}
-use Rattle.up_machine.specs.State.{State, empty_state}
-use Rattle.up_replay.specs.Replay.{entries_of, replayed}
-
--- the book that these entries define
-abbrev pub book_of : Setup → List Entry → State
-book_of setup entries = replayed (empty_state setup.lanes setup.max_size) entries
+use Rattle.up_replay.specs.Replay.{entries_of}
 
 -- all of the log is on the disk, in batches that satisfy P; or a call of the log failed, and it accepts no more
 -- batches. This depends on a premise, and on a disk that returned no wrong data
@@ -22,6 +18,37 @@ IsSettledAs g log setup premise P =
 abbrev pub LogContains : {D : Type 0} → Ghosts D → Log D → Setup → Type 0 → List Entry → Type 0
 LogContains g log setup premise entries = IsSettledAs g log setup premise (λ batches. entries_of batches ≡ entries)
 
--- the book is the one that the batches of the log define
-abbrev pub IsBookOfLog : {D : Type 0} → Ghosts D → Log D → Setup → Type 0 → State → Type 0
-IsBookOfLog g log setup premise book = IsSettledAs g log setup premise (λ batches. book ≡ book_of setup (entries_of batches))
+-- of a log that is being read, these entries were read
+abbrev pub HasRead : {D : Type 0} → Ghosts D → LogReader D → Setup → Type 0 → List Entry → Type 0
+HasRead g reader setup premise entries =
+    premise → IsCleanReader g reader → (read : List (List Entry)) × (left : List (List Entry)) × IsReaderAt g reader setup read left × (entries_of read ≡ entries)
+
+-- the entries that were written to a log, and whether the log is known to contain them
+pub record Contents : Type 0 where
+  pub entries : List Entry
+  pub is_tied : Bool
+
+-- the entries that were read from a log, and how many of its bytes were not
+pub record Progress : Type 0 where
+  pub entries : List Entry
+  pub unread : ℕ
+
+-- changes that are written together, and the number of the first
+pub record Changes : Type 0 where
+  pub entries : List Entry
+  pub first : ℕ
+
+-- so many changes, with the numbers from `number` on, are so many entries, from `place` on
+pub record Span : Type 0 where
+  pub place : ℕ
+  pub number : ℕ
+  pub count : ℕ
+
+-- the front has these entries from this number on
+abbrev pub HasFrom : List Entry → ℕ → List Entry → Type 0
+HasFrom front first entries = (i : ℕ) (e : Entry) → slice_get entries i ≡ Some e → slice_get front (first + i) ≡ Some e
+
+-- for each number of the span, the two fronts have the same entry: at the place, and at the number
+abbrev pub AreSame : Span → List Entry → List Entry → Type 0
+AreSame span entries changes =
+    (i : ℕ) → i < span.count → (e : Entry) × (slice_get entries (span.place + i) ≡ Some e) × (slice_get changes (span.number + i) ≡ Some e)

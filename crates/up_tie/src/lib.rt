@@ -1,16 +1,14 @@
-//! A log and a book under two locks, which follow one order of entries.
+//! What ties a log's bytes, and the order in which changes were drawn, to histories.
 #![tactic(auto)]
 
-mod committed;
-mod fault;
-mod law;
-mod reopening;
+mod batch;
+mod on_disk;
+mod reading;
 mod site;
 mod written;
 
-pub use committed::Committed;
-pub use fault::{Unopened, Unwritten};
-pub use law::{agree, taken_apart};
-pub use reopening::reopen;
+pub use batch::Batch;
+pub use on_disk::OnDisk;
+pub use reading::Reading;
 pub use site::Site;
-pub use written::Written;
+pub use written::{OfSpelled, Written};

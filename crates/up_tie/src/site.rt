@@ -1,9 +1,9 @@
-//! The identity of a log and a book.
+//! The identity of a log.
 use std::marker::Brand;
 use up_history::Chronicle;
 
-/// The history that a log and a book follow, and the numbers that they depend on. Each call of a program chooses it, so
-/// a `Written` and a `Committed` with the same `Site` follow the same history.
+/// The history of what is written to a log, and the numbers that the log depends on. Each call of a program chooses it,
+/// so all values with the same `Site` are about the same log.
 pub trait Site: Chronicle {
     ghost use Rattle.up_log.specs.declared.setup.Setup.{Setup};
 
@@ -16,5 +16,5 @@ pub trait Site: Chronicle {
 impl Site for Brand {
     ghost setup = { record { lanes = 0; max_size = 0 } };
 
-    ghost premise = { Unit {0} };
+    ghost premise = { ⊥ };
 }

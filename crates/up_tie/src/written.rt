@@ -1,86 +1,177 @@
-//! The data that the lock of the log's writer protects.
-ghost use Rattle.std.specs.Prelude.{◌≡◌, ◌++◌, length, map, Err, OnOk, OnErr};
-ghost use Rattle.up_history.specs.Histories.{IsOutOfOrder};
+//! A log that is written.
+ghost use Rattle.std.specs.Prelude.{◌≡◌, ◌++◌, length, true, false, IfOk, OnErr, IsTrue};
 ghost use Rattle.up_tie.specs.Ties.{LogContains};
-ghost use Rattle.up_tie.specs.declared.fault.Unwritten.TheVariants.{OutOfOrder};
 
-use crate::fault::Unwritten;
+use crate::batch::Batch;
+use crate::on_disk::OnDisk;
 use crate::site::Site;
+use logbook::Plain;
 use sqlite_disk::Disk;
 use std::alloc::Global;
 use std::marker::Model;
-use up_history::{Front, Receipt};
-use up_log::{Entry, Log, Spelled};
+use up_history::{Chronicle, Front, History};
+use up_log::{Entry, Log, LogFault, Spelled};
+use up_message::Sequence;
 
-/// A log, and how far its batches follow a history. Contracts describe it as the entries that were written.
+/// Entries are added to a history by what is encoded of them.
+pub struct OfSpelled;
+
+impl Plain<Spelled, Option<Entry>, u64> for OfSpelled {
+    ghost use Rattle.std.specs.Prelude.{Some, None};
+
+    ghost ask = { λ spelled. Some spelled };
+
+    ghost state = { λ spelled. None };
+}
+
+/// A log, and the history of what was written to it. Contracts describe it as the entries that were written, and
+/// whether it is tied: whether the log is known to contain exactly these entries. It is not after its file was opened
+/// again, or after another log took its place, since no contract says that the file is still the same.
 #[derive(Drop)]
 pub struct Written<D: Disk, J: Site> {
     log: Log<D>,
-    pub(crate) front: Front<Entry, J>,
-    pub(crate) count: u64,
+    front: Front<Entry, J>,
+    is_tied: bool,
 }
 
 impl<D: Disk, J: Site> Model for Written<D, J> {
-    ghost use Rattle.std.specs.Prelude.{◌≤◌, List, length, take};
-    ghost use Rattle.up_log.specs.declared.entry.Entry.{Entry};
-    ghost use Rattle.up_tie.specs.Ties.{LogContains};
+    ghost use Rattle.std.specs.Prelude.{◌≡◌, true};
+    ghost use Rattle.up_tie.specs.Ties.{Contents, LogContains};
 
-    ghost Value = { List Entry };
+    ghost Value = { Contents };
 
-    ghost view = { λ w. take w.count w.front };
+    ghost view = { λ w. record { entries = w.front; is_tied = w.is_tied } };
 
-    ghost invariant = { λ w. (w.count ≤ length w.front)
-        × LogContains D.Disk w.log J.setup J.premise (take w.count w.front) };
+    ghost invariant = { λ w. w.is_tied ≡ true → LogContains D.Disk w.log J.setup J.premise w.front };
+}
+
+/// Adds changes after everything that the front has seen, and returns whether it did. If it did not, the history is
+/// longer, or accepts no more entries; the first of the changes may then have been added.
+fn add_changes<J: Site>(
+    front: &mut Front<Entry, J>,
+    history: &History<Entry, J>,
+    changes: &[Spelled],
+) -> bool
+    ensures { IsTrue result → front.new ≡ front.old ++ changes.now }
+{
+    for change in changes {
+        if front.len() == u64::MAX || !front.add_by::<Spelled, OfSpelled>(history, change) {
+            return false;
+        }
+    }
+    true
 }
 
 impl<D: Disk, J: Site> Written<D, J> {
-    /// A log with the entries that the front has seen.
-    pub fn new(log: Log<D>, front: Front<Entry, J>) -> Written<D, J>
+    /// A log that was read to its end: it contains the entries that the front has seen.
+    pub(crate) fn tied(log: Log<D>, front: Front<Entry, J>) -> Written<D, J>
         requires { LogContains D.Disk log J.setup J.premise front }
-        ensures { result ≡ front }
+        ensures { result ≡ record { entries = front; is_tied = true } }
     {
         Written {
             log,
-            count: front.len(),
             front,
+            is_tied: true,
         }
+    }
+
+    /// A log that takes the place of the one with these entries.
+    pub fn over(log: Log<D>, front: Front<Entry, J>) -> Written<D, J>
+        ensures { result ≡ record { entries = front; is_tied = false } }
+    {
+        Written {
+            log,
+            front,
+            is_tied: false,
+        }
+    }
+
+    /// Continues with the log with these entries after a call that failed, as `Log::resume` does. `device` is its file,
+    /// which was opened again, and `place` is where the next batch begins (`end_place`).
+    pub fn resume(
+        device: D,
+        place: usize,
+        front: Front<Entry, J>,
+    ) -> (Written<D, J>, Result<(), LogFault>)
+        ensures { result.0 ≡ record { entries = front; is_tied = false } }
+    {
+        let (log, result) = Log::resume(device, place);
+        (Written::over(log, front), result)
     }
 
     /// The number of entries that were written.
     pub fn len(&self) -> u64
-        ensures { result ≡ length self.now }
+        ensures { result ≡ length self.now.entries }
     {
-        self.count
+        self.front.len()
     }
 
-    /// Appends the entries of the next receipts as one batch, and returns once the batch is on the disk. `OutOfOrder`
-    /// if the receipts are not those of the next places. After an error of the log, its state is that after the same
-    /// error of `Log::append`.
-    pub fn append(
+    /// The entries that were written.
+    pub fn front(&self) -> Front<Entry, J>
+        ensures { result ≡ self.now.entries }
+    {
+        self.front.again()
+    }
+
+    /// The number of bytes of the log, which is the place of the next batch.
+    pub fn end_place(&self) -> usize {
+        self.log.end_place()
+    }
+
+    /// Whether a call failed in such a way that the log accepts no more batches until it is opened again.
+    pub fn is_broken(&self) -> bool {
+        self.log.is_broken()
+    }
+
+    /// The batch at a place of the file, and the place after it; `None` at the end.
+    pub fn batch_at(
         &mut self,
         alloc: Global,
-        entries: &[Spelled],
-        receipts: &[Receipt<Entry, J>],
-    ) -> Result<(), Unwritten>
-        requires claims { map (λ r. r.entry) receipts.now ≡ entries.now }
-        ensures ok { OnOk result (self.new ≡ self.old ++ entries.now) }
-        ensures err { OnErr result (self.new ≡ self.old) }
-        ensures order { result ≡ Err OutOfOrder → IsOutOfOrder receipts.now (length self.old) }
+        place: usize,
+    ) -> Result<Option<(Sequence<Entry>, usize)>, LogFault>
+        ensures { self.new ≡ self.old }
     {
-        let Some(front) = Receipt::follow_all(receipts, &self.front, self.count) else {
-            return Err(Unwritten::OutOfOrder);
-        };
-        // For the prover: the length of a front is below 2^64, so the sum does not overflow.
-        let _ = front.len();
-        self.log.append(&mut Vec::new(alloc), entries)?;
-        self.count += receipts.len() as u64;
-        self.front = front;
-        Ok(())
+        self.log.batch_at(alloc, place)
     }
 
-    /// The log, which contains the entries that were written.
+    /// Appends changes to the log as one batch, and returns once the batch is on the disk. Then adds them to the
+    /// history. `Broken` before anything is written if the history has no room for them. After another error, the log's
+    /// state is that after the same error of `Log::append`. The batch is put together in `room`.
+    pub fn append<K: Chronicle>(
+        &mut self,
+        room: &mut Vec<u8>,
+        history: &History<Entry, J>,
+        batch: &Batch<K>,
+    ) -> Result<OnDisk<J, K>, LogFault>
+        ensures ok { IfOk result (λ _. self.new ≡ record {
+          entries = self.old.entries ++ batch.now.entries;
+          is_tied = self.old.is_tied;
+        }) }
+        ensures on_disk { IfOk result (λ r. r ≡ record {
+          place = length self.old.entries;
+          number = batch.now.first;
+          count = length batch.now.entries;
+        }) }
+        ensures err { OnErr result (self.new.entries ≡ self.old.entries) }
+    {
+        let place = self.front.len();
+        if place.checked_add(batch.len() as u64).is_none() {
+            return Err(LogFault::Broken);
+        }
+        self.log.append(room, batch.changes())?;
+        let mut front = self.front.again();
+        if !add_changes(&mut front, history, batch.changes()) {
+            // Nobody else adds to this history, so this does not happen.
+            self.is_tied = false;
+            return Err(LogFault::Broken);
+        }
+        self.front = front.again();
+        Ok(batch.on_disk(place, front))
+    }
+
+    /// The log. If it is tied, it contains the entries that were written.
     pub fn into_log(self) -> Log<D>
-        ensures { LogContains D.Disk result J.setup J.premise self }
+        ensures { self.is_tied ≡ true → LogContains D.Disk result J.setup J.premise self.entries }
     {
         self.log
     }

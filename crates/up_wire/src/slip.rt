@@ -66,7 +66,8 @@ impl Sink for Slip {
     ghost device = { slip_device };
 
     fn write_some(&mut self, bytes: &[u8]) -> WriteSome
-        ensures bytes { Appends (Some self.old.bytes) (Some self.new.bytes) (taken result bytes.now) }
+        ensures bytes { Appends (Some self.old.bytes) (Some self.new.bytes)
+            (taken result bytes.now) }
         ensures some { TakesSome result bytes.now }
         ensures failed { self.new.has_failed ≡ is_failed_write result }
         ensures stays_failed { IsTrue self.old.has_failed → IsTrue self.new.has_failed }

@@ -2,7 +2,9 @@
 ghost use Rattle.std.specs.Prelude.{◌≡◌, length};
 ghost use Rattle.up_dispatch.specs.Parts.{IsNamed};
 
-use super::running::{CommitResult, Tally, board_of, change, count_in, logs_on, result_of};
+use super::running::{
+    CommitResult, Tally, board_of, change, count_in, files_of, result_of, store_on,
+};
 use crate::logs::{What, entries_of};
 use sqlite_disk::Memory;
 use std::alloc::Global;
@@ -11,9 +13,11 @@ use std::sync::Wait;
 use std::test::Fail;
 use up_dispatch::{BoardParts, Keeper, Naming, Seated};
 use up_events::{Accepted, Id, Kind, NoMemory};
+use up_history::Chronicle;
 use up_machine::{Asked, Reason, Refusal};
 use up_replay::fits;
-use up_store::{Store, Stored};
+use up_store::{Histories, Store, Stored};
+use up_tie::Site;
 
 /// The results of changes that a closure refuses, after the upload 1 of four bytes was created.
 fn refuse<K: Keeper>(
@@ -52,28 +56,30 @@ fn refused_plainly<B: Naming, R: Wait>(
 }
 
 /// Their results through a store, and the number of entries of its log after them.
-fn refused_by_store<B: Naming, R: Wait>(
+fn refused_by_store<B: Naming, J: Site, K: Chronicle, R: Wait>(
     rt: &R,
     alloc: Global,
     parts: BoardParts,
     refused: &Asked,
+    histories: Histories,
 ) -> Result<(Vec<CommitResult>, u64), Fail>
     requires named { IsNamed B.name B.parts B.queue B.lanes parts }
     requires lanes { length parts.queues ≡ 2 }
     requires sized { B.max_size ≡ 1000 }
+    requires written { histories.written ≡ J.history }
+    requires drawn { histories.drawn ≡ K.history }
+    requires nothing { J.premise → ⊥ }
+    requires same { J.history ≡ B.history }
 {
     let (board, mut seat) = board_of::<B, R>(rt, alloc, parts)?;
     let disks = (Memory::new(alloc), Memory::new(alloc));
-    let logs = logs_on(rt, alloc, &board, &mut seat, disks)?;
     let tally = Tally::new();
-    let store = Store::unread(alloc, &tally)?;
-    store.open(rt, logs);
+    let store: Store<Memory, &Tally, J, K> = store_on(
+        rt, alloc, &board, &mut seat, disks, &tally, histories,
+    )?;
     let mut keeper = Stored::new(rt, &board, &store, &mut seat);
     let told = refuse(alloc, &mut keeper, refused)?;
-    let Some(logs) = store.into_logs() else {
-        return Err("a store that is open".into());
-    };
-    let (count, _) = count_in(alloc, logs.changes.into_device())?;
+    let (count, _) = count_in(alloc, files_of(store)?.changes.into_device())?;
     Ok((told, count))
 }
 
@@ -110,7 +116,10 @@ fn what_a_closure_refuses_is_not_written(rt: HostRuntime) -> Result<(), Fail> {
     let plain = refused_plainly::<Brand, _>(&rt, alloc, parts, &refused)?;
     assert_eq!(rt; plain.as_slice(), want.as_slice());
     let parts = BoardParts::new(alloc, 2, 4)?;
-    let (told, count) = refused_by_store::<Brand, _>(&rt, alloc, parts, &refused)?;
+    let histories = Histories::new();
+    let (told, count) = refused_by_store::<Brand, Brand, Brand, _>(
+        &rt, alloc, parts, &refused, histories,
+    )?;
     assert_eq!(rt; told.as_slice(), want.as_slice());
     assert_eq!(rt; count, 1);
     Ok(())

@@ -17,12 +17,14 @@ use std::thread::Threads;
 use up_dispatch::{Board, BoardParts, Counts, Keeper, Naming, Seat, Seated, answer};
 use up_events::{Accepted, Id, NoMemory};
 use up_headers::Request;
+use up_history::Chronicle;
 use up_hooks::PreHooks;
-use up_log::{LogFault, LogReader};
+use up_log::{Log, LogFault, LogReader};
 use up_machine::{Asked, Done, Refusal};
 use up_replay::{Unrestored, asked_of, fits};
-use up_store::{LogFile, Logs, Store, StoreNotices, Stored, restore_on};
+use up_store::{Histories, LogFile, Logs, Store, StoreNotices, Stored, Voids};
 use up_test_board::append;
+use up_tie::{Reading, Site};
 use up_wire::{Output, write_response};
 
 /// The number of uploads that are compared.
@@ -296,38 +298,107 @@ pub fn count_in(alloc: Global, file: Memory) -> Result<(u64, Memory), LogFault> 
     }
 }
 
-/// The logs of a store on these disks, whose changes are made again on a board.
-pub fn logs_on<B: Naming, D: Disk, R: Wait>(
+/// A store on these disks that was not read yet, and who reads them.
+type Unread<'a, D, J, K> = (Store<D, &'a Tally, J, K>, (Reading<D, J>, LogReader<D>));
+
+/// A store on these disks that was not read yet, and who reads them.
+fn unread_on<'a, D: Disk, J: Site, K: Chronicle>(
+    alloc: Global,
+    disks: (D, D),
+    tally: &'a Tally,
+    histories: Histories,
+) -> Result<Unread<'a, D, J, K>, LogFault>
+where
+    D: Drop,
+    requires written { histories.written ≡ J.history }
+    requires drawn { histories.drawn ≡ K.history }
+    requires nothing { J.premise → ⊥ }
+{
+    let changes = reader_of(alloc, disks.0)?;
+    let voids = reader_of(alloc, disks.1)?;
+    let (store, front) = Store::unread(alloc, tally, histories)?;
+    Ok((store, (Reading::new(changes, front), voids)))
+}
+
+/// A store on these disks, whose changes are made again on a board.
+pub fn store_on<'a, B: Naming, D: Disk, J: Site, K: Chronicle, R: Wait>(
     rt: &R,
     alloc: Global,
     board: &Board<B>,
     seat: &mut Seat<B>,
     disks: (D, D),
-) -> Result<Logs<D>, Unrestored>
+    tally: &'a Tally,
+    histories: Histories,
+) -> Result<Store<D, &'a Tally, J, K>, Unrestored>
+where
+    D: Drop,
+    requires written { histories.written ≡ J.history }
+    requires drawn { histories.drawn ≡ K.history }
+    requires nothing { J.premise → ⊥ }
+    requires same { J.history ≡ B.history }
+{
+    let (store, readers) = unread_on(alloc, disks, tally, histories)?;
+    let logs = store.restore(rt, alloc, board, seat, readers, 0)?;
+    store.open(rt, logs);
+    Ok(store)
+}
+
+/// The open files of a store.
+#[derive(Drop)]
+pub struct Files<D: Disk> {
+    pub changes: Log<D>,
+    pub voids: Voids<D>,
+    /// The number of entries of the log of the changes.
+    pub count: u64,
+}
+
+/// The files of a store that is open.
+pub fn files_of<D: Disk, J: Site, K: Chronicle>(
+    store: Store<D, &Tally, J, K>,
+) -> Result<Files<D>, Fail>
 where
     D: Drop,
 {
-    let changes = reader_of(alloc, disks.0)?;
-    let voids = reader_of(alloc, disks.1)?;
-    restore_on(rt, alloc, board, seat, changes, voids)
+    let Some(logs) = store.into_logs() else {
+        return Err("a store that is open".into());
+    };
+    let Logs {
+        changes,
+        voids,
+        count,
+    } = logs;
+    Ok(Files {
+        changes: changes.into_log(),
+        voids,
+        count,
+    })
 }
 
 /// The state of a board with these parts that is restored from the logs on these disks, and the logs.
-fn made_again<B: Naming, D: Disk, R: Wait>(
+fn made_again<B: Naming, J: Site, K: Chronicle, D: Disk, R: Wait>(
     rt: &R,
     alloc: Global,
     parts: BoardParts,
     disks: (D, D),
-) -> Result<(Seen, Logs<D>), Fail>
+    histories: Histories,
+) -> Result<(Seen, Files<D>), Fail>
 where
     D: Drop,
     requires named { IsNamed B.name B.parts B.queue B.lanes parts }
     requires lanes { length parts.queues ≡ 2 }
     requires sized { B.max_size ≡ 1000 }
+    requires written { histories.written ≡ J.history }
+    requires drawn { histories.drawn ≡ K.history }
+    requires nothing { J.premise → ⊥ }
+    requires same { J.history ≡ B.history }
 {
     let (board, mut seat) = board_of::<B, R>(rt, alloc, parts)?;
-    let logs = logs_on(rt, alloc, &board, &mut seat, disks)?;
-    Ok((seen(rt, alloc, &board, &mut seat)?, logs))
+    let tally = Tally::new();
+    let store: Store<D, &Tally, J, K> = store_on(
+        rt, alloc, &board, &mut seat, disks, &tally, histories,
+    )?;
+    let seen = seen(rt, alloc, &board, &mut seat)?;
+    Ok((seen, files_of(store)?))
 }
 
 /// The results of each job, the state of the board after them, and the logs.
@@ -335,21 +406,31 @@ where
 pub struct Ran<D: Disk> {
     pub outcomes: Vec<Outcome>,
     pub seen: Seen,
-    pub logs: Logs<D>,
+    pub logs: Files<D>,
 }
 
 /// Does each job in a thread of its own, from a seat of its own, through a store whose logs are on these disks.
-fn work_each<B: Naming + Send + Sync, D: Again + Send + Drop, R: Threads + Wait + Sync>(
+fn work_each<
+    B: Naming + Send + Sync,
+    D: Again + Send + Drop,
+    J: Site + Send,
+    K: Chronicle + Send,
+    R: Threads + Wait + Sync,
+>(
     rt: &R,
     alloc: Global,
     board: &Board<B>,
-    store: &Store<D, &Tally>,
+    store: &Store<D, &Tally, J, K>,
     jobs: Vec<Job>,
-) -> Result<Vec<Outcome>, Fail> {
+) -> Result<Vec<Outcome>, Fail>
+    requires same { J.history ≡ B.history }
+{
     let given = thread::map_vec(
         rt,
         jobs,
-        &|job: Job| -> Result<Outcome, NoMemory> {
+        &|job: Job| -> Result<Outcome, NoMemory>
+            requires same { J.history ≡ B.history }
+        {
             let Some(mut seat) = board.seat(rt) else {
                 return Err(NoMemory);
             };
@@ -365,33 +446,42 @@ fn work_each<B: Naming + Send + Sync, D: Again + Send + Drop, R: Threads + Wait 
 
 /// Does each job in a thread of its own, from a seat of its own, through a store whose logs are on these disks. `None`
 /// if the logs are not opened.
-fn run_by<B: Naming + Send + Sync, D: Again + Send + Drop, R: Threads + Wait + Sync>(
+fn run_by<
+    B: Naming + Send + Sync,
+    J: Site + Send,
+    K: Chronicle + Send,
+    D: Again + Send + Drop,
+    R: Threads + Wait + Sync,
+>(
     rt: &R,
     alloc: Global,
     parts: BoardParts,
     disks: (D, D),
     tally: &Tally,
     jobs: Vec<Job>,
+    histories: Histories,
 ) -> Result<Option<Ran<D>>, Fail>
     requires named { IsNamed B.name B.parts B.queue B.lanes parts }
     requires lanes { length parts.queues ≡ 2 }
     requires sized { B.max_size ≡ 1000 }
+    requires written { histories.written ≡ J.history }
+    requires drawn { histories.drawn ≡ K.history }
+    requires nothing { J.premise → ⊥ }
+    requires same { J.history ≡ B.history }
 {
     let (board, mut seat) = board_of::<B, R>(rt, alloc, parts)?;
-    let Ok(logs) = logs_on(rt, alloc, &board, &mut seat, disks) else {
+    let opened: Result<Store<D, &Tally, J, K>, Unrestored> = store_on(
+        rt, alloc, &board, &mut seat, disks, tally, histories,
+    );
+    let Ok(store) = opened else {
         return Ok(None);
     };
-    let store = Store::unread(alloc, tally)?;
-    store.open(rt, logs);
     let outcomes = work_each(rt, alloc, &board, &store, jobs)?;
     let seen = seen(rt, alloc, &board, &mut seat)?;
-    let Some(logs) = store.into_logs() else {
-        return Err("a store that is open".into());
-    };
     Ok(Some(Ran {
         outcomes,
         seen,
-        logs,
+        logs: files_of(store)?,
     }))
 }
 
@@ -406,12 +496,13 @@ pub fn restored<D: Disk, R: Wait>(
     rt: &R,
     alloc: Global,
     disks: (D, D),
-) -> Result<(Seen, Logs<D>), Fail>
+) -> Result<(Seen, Files<D>), Fail>
 where
     D: Drop,
 {
     let parts = BoardParts::new(alloc, 2, 4)?;
-    made_again::<Brand, D, R>(rt, alloc, parts, disks)
+    let histories = Histories::new();
+    made_again::<Brand, Brand, Brand, D, R>(rt, alloc, parts, disks, histories)
 }
 
 /// Does each job in a thread of its own, through a store whose logs are on these disks. `None` if the logs are not
@@ -424,5 +515,6 @@ pub fn run_on<D: Again + Send + Drop, R: Threads + Wait + Sync>(
     jobs: Vec<Job>,
 ) -> Result<Option<Ran<D>>, Fail> {
     let parts = BoardParts::new(alloc, 2, 4)?;
-    run_by::<Brand, D, R>(rt, alloc, parts, disks, tally, jobs)
+    let histories = Histories::new();
+    run_by::<Brand, Brand, Brand, D, R>(rt, alloc, parts, disks, tally, jobs, histories)
 }

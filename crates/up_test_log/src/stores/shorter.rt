@@ -2,7 +2,9 @@
 ghost use Rattle.std.specs.Prelude.{◌≡◌, length};
 ghost use Rattle.up_dispatch.specs.Parts.{IsNamed};
 
-use super::running::{CommitResult, Tally, board_of, change, logs_on, reader_of, restored, seen};
+use super::running::{
+    CommitResult, Files, Tally, board_of, change, files_of, reader_of, restored, seen, store_on,
+};
 use crate::logs::{Row, What};
 use sqlite_disk::{Crash, Fuse, Memory};
 use std::alloc::Global;
@@ -14,8 +16,10 @@ use up_compact::{Head, Heads};
 use up_dispatch::{BoardParts, Naming};
 use up_events::Id;
 use up_handed::EndedUpload;
+use up_history::Chronicle;
 use up_log::{LogFault, LogReader};
-use up_store::{Current, EndedUploads, Folder, Logs, Shortening, Store, Stored};
+use up_store::{Current, EndedUploads, Folder, Histories, Shortening, Store, Stored};
+use up_tie::Site;
 
 type File = Fuse<Memory>;
 
@@ -70,7 +74,7 @@ struct After {
     told: Vec<CommitResult>,
     /// The responses of the board about each upload.
     seen: Vec<u8>,
-    logs: Logs<File>,
+    logs: Files<File>,
     current: Current<File>,
 }
 
@@ -96,22 +100,27 @@ fn current(alloc: Global, calls: u64) -> Result<Current<File>, LogFault> {
 }
 
 /// Makes changes in a new store, makes its log shorter, and makes more changes.
-fn shorten_by<B: Naming, R: Wait>(
+fn shorten_by<B: Naming, J: Site, K: Chronicle, R: Wait>(
     rt: &R,
     alloc: Global,
     parts: BoardParts,
     calls: Calls,
     tally: &Tally,
+    histories: Histories,
 ) -> Result<After, Fail>
     requires named { IsNamed B.name B.parts B.queue B.lanes parts }
     requires lanes { length parts.queues ≡ 2 }
     requires sized { B.max_size ≡ 1000 }
+    requires written { histories.written ≡ J.history }
+    requires drawn { histories.drawn ≡ K.history }
+    requires nothing { J.premise → ⊥ }
+    requires same { J.history ≡ B.history }
 {
     let (board, mut seat) = board_of::<B, R>(rt, alloc, parts)?;
     let disks = (disk(alloc, u64::MAX), disk(alloc, u64::MAX));
-    let logs = logs_on(rt, alloc, &board, &mut seat, disks)?;
-    let store = Store::unread(alloc, tally)?;
-    store.open(rt, logs);
+    let store: Store<File, &Tally, J, K> = store_on(
+        rt, alloc, &board, &mut seat, disks, tally, histories,
+    )?;
     change(
         alloc,
         &mut Stored::new(rt, &board, &store, &mut seat),
@@ -130,20 +139,21 @@ fn shorten_by<B: Naming, R: Wait>(
         &SECOND,
     )?;
     let seen = seen(rt, alloc, &board, &mut seat)?.1;
-    let (Some(logs), Some(current)) = (store.into_logs(), shortening.into_current()) else {
+    let Some(current) = shortening.into_current() else {
         return Err("a store that is open".into());
     };
     Ok(After {
         told,
         seen,
-        logs,
+        logs: files_of(store)?,
         current,
     })
 }
 
 fn shorten<R: Wait>(rt: &R, alloc: Global, calls: Calls, tally: &Tally) -> Result<After, Fail> {
     let parts = BoardParts::new(alloc, 2, 4)?;
-    shorten_by::<Brand, R>(rt, alloc, parts, calls, tally)
+    let histories = Histories::new();
+    shorten_by::<Brand, Brand, Brand, R>(rt, alloc, parts, calls, tally, histories)
 }
 
 /// The head that a crash leaves.
@@ -155,7 +165,7 @@ fn head_left(alloc: Global, heads: Heads<File>) -> Result<Head, LogFault> {
 
 /// The responses about each upload of a board that is restored from these logs after a crash, and the number of entries
 /// of the logs.
-fn left<R: Wait>(rt: &R, alloc: Global, logs: Logs<File>) -> Result<(Vec<u8>, u64), Fail> {
+fn left<R: Wait>(rt: &R, alloc: Global, logs: Files<File>) -> Result<(Vec<u8>, u64), Fail> {
     let (mut changes, mut voids) = (logs.changes.into_device(), logs.voids.into_device());
     changes.crash();
     voids.crash();

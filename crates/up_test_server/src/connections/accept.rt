@@ -12,7 +12,7 @@ use std::sync::Wait;
 use std::test::Fail;
 use std::thread::Threads;
 use up_connections::{Entrance, Notices, Patience, Silent, Visits, serve_connections};
-use up_dispatch::{AtOnce, Board, BoardParts, Counting, Naming};
+use up_dispatch::{AtOnce, Board, BoardParts, Counting, Naming, Service};
 use up_hooks::PreHooks;
 
 const ASKED: &[u8] = b"POST /files/ HTTP/1.1\r\nHost: a\r\nTus-Resumable: 1.0.0\r\n\
@@ -40,6 +40,7 @@ fn counts<B: Naming + Send + Sync, N: Notices, T: Threads + Wait + Sync>(
     requires named { IsNamed B.name B.parts B.queue B.lanes parts }
     requires lanes { length parts.queues ≡ 1 }
     requires sized { B.max_size ≡ 1024 }
+    requires same { B.history ≡ ⟦<AtOnce as Service>⟧.history }
 {
     let (board, _takes) = Board::<B>::new(alloc, parts, 1_024)?;
     let hooks = PreHooks::new(Vec::new(alloc));

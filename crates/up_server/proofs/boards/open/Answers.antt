@@ -9,3 +9,6 @@ returns-clause-lanes g c = λ k d within.
     let is = c.in_ok-lanes.ensures.lanes k d within e d.hook in
     let end = c.in_ok-board.ensures.ends.1 k e (omega (arith, within, c.in_ok-lanes.ensures.count, c.in_ok-lanes.lanes.ok.0, c.in_ok-board.takes.ok.0)) in
     (ap (λ (l : LaneView g.row.H.Denot). l.lane) is, ap (λ (l : LaneView g.row.H.Denot). l.queue) is ∙ end.1)
+
+pub lanes_over-requires-clause-taken : goal.lanes_over-requires-clause-taken
+lanes_over-requires-clause-taken g c κs within = λ k d inside. (c.in_ok-board.ensures.ends.1 k d inside).0

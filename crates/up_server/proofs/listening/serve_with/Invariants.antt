@@ -11,3 +11,6 @@ ghosts-run-B-Naming g a = record {
   lanes = length a.parts.queues;
   max_size = a.settings.now.max_size;
 }
+
+abbrev pub ghosts-run-B-Chronicle : goal.ghosts-run-B-Chronicle
+ghosts-run-B-Chronicle g a = record { history = g.S.Service.history }

@@ -11,3 +11,12 @@ ghosts-closed_by_store-B-Naming g a = record {
   lanes = length a.parts.queues;
   max_size = 1000;
 }
+
+abbrev pub ghosts-closed_by_store-B-Chronicle : goal.ghosts-closed_by_store-B-Chronicle
+ghosts-closed_by_store-B-Chronicle g a = record { history = a.histories.written }
+
+abbrev pub ghosts-closed_by_store-J-Chronicle : goal.ghosts-closed_by_store-J-Chronicle
+ghosts-closed_by_store-J-Chronicle g a = record { history = a.histories.written }
+
+abbrev pub ghosts-closed_by_store-K-Chronicle : goal.ghosts-closed_by_store-K-Chronicle
+ghosts-closed_by_store-K-Chronicle g a = record { history = a.histories.drawn }

@@ -21,3 +21,12 @@ ghosts-refused_by_store-B-Naming g a = record {
   lanes = length a.parts.queues;
   max_size = 1000;
 }
+
+abbrev pub ghosts-refused_by_store-B-Chronicle : goal.ghosts-refused_by_store-B-Chronicle
+ghosts-refused_by_store-B-Chronicle g a = record { history = a.histories.written }
+
+abbrev pub ghosts-refused_by_store-J-Chronicle : goal.ghosts-refused_by_store-J-Chronicle
+ghosts-refused_by_store-J-Chronicle g a = record { history = a.histories.written }
+
+abbrev pub ghosts-refused_by_store-K-Chronicle : goal.ghosts-refused_by_store-K-Chronicle
+ghosts-refused_by_store-K-Chronicle g a = record { history = a.histories.drawn }

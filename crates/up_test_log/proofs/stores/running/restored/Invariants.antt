@@ -11,3 +11,12 @@ ghosts-made_again-B-Naming g a = record {
   lanes = length a.parts.queues;
   max_size = 1000;
 }
+
+abbrev pub ghosts-made_again-B-Chronicle : goal.ghosts-made_again-B-Chronicle
+ghosts-made_again-B-Chronicle g a = record { history = a.histories.written }
+
+abbrev pub ghosts-made_again-J-Chronicle : goal.ghosts-made_again-J-Chronicle
+ghosts-made_again-J-Chronicle g a = record { history = a.histories.written }
+
+abbrev pub ghosts-made_again-K-Chronicle : goal.ghosts-made_again-K-Chronicle
+ghosts-made_again-K-Chronicle g a = record { history = a.histories.drawn }

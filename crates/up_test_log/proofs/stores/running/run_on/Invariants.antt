@@ -11,3 +11,12 @@ ghosts-run_by-B-Naming g a = record {
   lanes = length a.parts.queues;
   max_size = 1000;
 }
+
+abbrev pub ghosts-run_by-B-Chronicle : goal.ghosts-run_by-B-Chronicle
+ghosts-run_by-B-Chronicle g a = record { history = a.histories.written }
+
+abbrev pub ghosts-run_by-J-Chronicle : goal.ghosts-run_by-J-Chronicle
+ghosts-run_by-J-Chronicle g a = record { history = a.histories.written }
+
+abbrev pub ghosts-run_by-K-Chronicle : goal.ghosts-run_by-K-Chronicle
+ghosts-run_by-K-Chronicle g a = record { history = a.histories.drawn }

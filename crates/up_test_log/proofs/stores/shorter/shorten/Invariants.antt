@@ -11,3 +11,12 @@ ghosts-shorten_by-B-Naming g a = record {
   lanes = length a.parts.queues;
   max_size = 1000;
 }
+
+abbrev pub ghosts-shorten_by-B-Chronicle : goal.ghosts-shorten_by-B-Chronicle
+ghosts-shorten_by-B-Chronicle g a = record { history = a.histories.written }
+
+abbrev pub ghosts-shorten_by-J-Chronicle : goal.ghosts-shorten_by-J-Chronicle
+ghosts-shorten_by-J-Chronicle g a = record { history = a.histories.written }
+
+abbrev pub ghosts-shorten_by-K-Chronicle : goal.ghosts-shorten_by-K-Chronicle
+ghosts-shorten_by-K-Chronicle g a = record { history = a.histories.drawn }

@@ -1,0 +1,90 @@
+//! A log that is being read.
+ghost use Rattle.std.specs.Prelude.{◌≡◌, ◌++◌, ◌<◌, [], List, true, IfOk, IfSome, IfNone};
+ghost use Rattle.up_log.specs.Logs.{IsReaderAt, unread};
+ghost use Rattle.up_log.specs.declared.entry.Entry.{Entry as Logged};
+
+use crate::site::Site;
+use crate::written::Written;
+use sqlite_disk::Disk;
+use std::alloc::Global;
+use std::marker::Model;
+use up_history::{Front, History};
+use up_log::{Entry, LogFault, LogReader};
+use up_message::Sequence;
+
+/// A log that is being read, and the history of what was read. Contracts describe it as the entries that were read, and
+/// how many bytes of the file were not.
+#[derive(Drop)]
+pub struct Reading<D: Disk, J: Site> {
+    reader: LogReader<D>,
+    front: Front<Entry, J>,
+}
+
+impl<D: Disk, J: Site> Model for Reading<D, J> {
+    ghost use Rattle.up_log.specs.Logs.{unread};
+    ghost use Rattle.up_tie.specs.Ties.{Progress, HasRead};
+
+    ghost Value = { Progress };
+
+    ghost view = { λ r. record { entries = r.front; unread = unread r.reader } };
+
+    ghost invariant = { λ r. HasRead D.Disk r.reader J.setup J.premise r.front };
+}
+
+impl<D: Disk, J: Site> Reading<D, J> {
+    /// A log of which no batch was read, and a history of which no entry was seen.
+    pub fn new(reader: LogReader<D>, front: Front<Entry, J>) -> Reading<D, J>
+        requires reader { J.premise
+            → (batches : List (List Logged)) × IsReaderAt D.Disk reader J.setup [] batches }
+        requires front { front ≡ [] }
+        ensures { result ≡ record { entries = []; unread = unread reader } }
+    {
+        Reading { reader, front }
+    }
+
+    /// Reads the next batch and adds it to the history; `None` at the end. `Broken` if the history has entries that
+    /// were not seen, or accepts no more.
+    pub fn next_batch(
+        self,
+        alloc: Global,
+        history: &History<Entry, J>,
+    ) -> Result<(Reading<D, J>, Option<Sequence<Entry>>), LogFault>
+    where
+        D: Drop,
+        ensures some { IfOk result (λ r. IfSome r.1 (λ entries.
+            r.0.entries ≡ self.entries ++ entries)) }
+        ensures further { IfOk result (λ r. IfSome r.1 (λ _. r.0.unread < self.unread)) }
+        ensures end { IfOk result (λ r. IfNone r.1 (r.0.entries ≡ self.entries)) }
+    {
+        let Reading { reader, front } = self;
+        let mut reader = reader;
+        let mut front = front;
+        let found = reader.next_batch(alloc)?;
+        if let Some(entries) = &found {
+            if !front.add_all(history, entries.as_slice()) {
+                return Err(LogFault::Broken);
+            }
+        }
+        Ok((Reading { reader, front }, found))
+    }
+
+    /// The entries that were read.
+    pub fn front(&self) -> Front<Entry, J>
+        ensures { result ≡ self.now.entries }
+    {
+        self.front.again()
+    }
+
+    /// The log, if all of its batches were read. `NotRead` if some were not.
+    pub fn finish(self) -> Result<Written<D, J>, LogFault>
+    where
+        D: Drop,
+        ensures { IfOk result (λ w. w ≡ record { entries = self.entries; is_tied = true }) }
+    {
+        let Reading { reader, front } = self;
+        match reader.finish() {
+            Ok(log) => Ok(Written::tied(log, front)),
+            Err(refused) => Err(refused.fault),
+        }
+    }
+}
