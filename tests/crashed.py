@@ -37,7 +37,7 @@ class Upload:
         complete."""
         is_whole = is_there and len(body) == length
         at = f"{len(body)}/{'-' if length is None else length}"
-        hooks = [*hooks, *["post-finish"] * is_whole]
+        hooks = [*hooks, *(["post-finish"] if is_whole else [])]
         events = [f"{number} {hook} {at} done" for number, hook in enumerate(hooks, 1 + len(self.events))]
         return Upload(self.mark, self.concat, length, body, is_there, self.changes + 1, (*self.events, *events))
 

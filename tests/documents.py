@@ -1,8 +1,8 @@
 #!/usr/bin/env python3
 """Compares the documents with the sources: the tables of crates and modules and the list of definitions in
-docs/ARCHITECTURE.md, the words and their limits in docs/RUNNING.md, and the refusals in docs/PROTOCOL.md. It checks the
-links and the length of lines in all documents. It also compares the drawn data of the crates with what the generators
-draw.
+docs/ARCHITECTURE.md, the words with their limits and defaults in docs/RUNNING.md, and the refusals in docs/PROTOCOL.md.
+It checks that the help of the program names the limits in its code. It checks the links and the length of lines in all
+documents. It also compares the drawn data of the crates with what the generators draw.
 
     tests/documents.py [NAME..]
 
@@ -99,13 +99,46 @@ def words():
     return re.findall(r'name: "([\w-]+)",.*?help: "([^"]+)"', source, re.DOTALL)
 
 
-def each_word():
-    """RUNNING's tables have each word of the command line with its limits, and no other."""
-    page = text_of("docs/RUNNING.md")
+def constants():
+    """The constants that limit the numbers of the command line."""
+    found = {"u64::MAX": 2**64 - 1}
+    for path in ("crates/up_events/src/limits.rt", "crates/up_words/src/settings.rt"):
+        for name, number, shift in re.findall(r"^pub const (\w+): u64 = ([\d_]+)(?: << (\d+))?;", text_of(path), re.MULTILINE):
+            found[name] = int(number) << int(shift or 0)
+    return found
+
+
+def each_limit():
+    """The help of each word that names limits names those that the code checks."""
+    source = text_of("crates/up_words/src/command_line.rt")
+    limits = constants()
+    rows = re.findall(r'name: "([\w-]+)",\s+kind: Kind::Number\((\d+), ([\w:]+)\),.*?help: "([^"]+)"', source, re.DOTALL)
+    for name, least, most, help_text in rows:
+        if said := re.search(r"from (\d+) to (\d+)", help_text):
+            same((int(said[1]), int(said[2])), (int(least), limits[most]), f"the limits in the help of --{name}")
+
+
+def rows_of_words():
+    """The rows of RUNNING's tables, by the word of the command line that each begins with."""
     rows = {}
-    for line in page.splitlines():
+    for line in text_of("docs/RUNNING.md").splitlines():
         if found := re.match(r"\| `--([\w-]+)", line):
             rows[found[1]] = line
+    return rows
+
+
+def each_default():
+    """RUNNING's tables have the default of each word that has one."""
+    source = text_of("crates/up_words/src/command_line.rt")
+    rows = rows_of_words()
+    for name, default in re.findall(r'name: "([\w-]+)",[^}]*?default: Some\("([^"]+)"\)', source):
+        wanted = f"{int(default):,}" if default.isdigit() else f"`{default}`"
+        same(rows[name].split("|")[3].strip(), wanted, f"the default in the row of --{name}")
+
+
+def each_word():
+    """RUNNING's tables have each word of the command line with its limits, and no other."""
+    rows = rows_of_words()
     same(sorted(rows), sorted(name for name, _ in words()), "the words with a row")
     for name, help_text in words():
         if (limits := re.search(r"from (\d+) to (\d+)", help_text)) and name not in ENDLESS:
@@ -163,7 +196,10 @@ def each_drawn():
 
 
 if __name__ == "__main__":
-    CASES = [each_crate, each_module, each_definition, each_word, each_refusal, each_link, each_line, each_drawn]
+    CASES = [
+        each_crate, each_module, each_definition, each_word, each_limit, each_default, each_refusal, each_link, each_line,
+        each_drawn,
+    ]
     given = argparse.ArgumentParser(description=__doc__, formatter_class=argparse.RawDescriptionHelpFormatter)
     given.add_argument("names", nargs="*", metavar="NAME", help="the cases to be tried, instead of all")
     sys.exit(try_all(CASES, given.parse_args().names))

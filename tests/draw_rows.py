@@ -51,7 +51,7 @@ def read(data, fails):
             return READ_FAILED, None
         return ("end" if data == CRLF * (len(data) // 2) else broken.text), None
     except Refused as refused:
-        return refused.text + (marks_of(refused.message) if hasattr(refused, "message") else ""), None
+        return refused.text + (marks_of(refused.message) if refused.message else ""), None
     return words_of(message), None if message.cut else rest
 
 

@@ -4,6 +4,7 @@ checked one after another, how an answer is written, and how bytes are escaped. 
 """
 import base64
 import re
+import types
 
 CRLF = b"\r\n"
 HEAD_END = CRLF + CRLF
@@ -69,9 +70,14 @@ class Refused(Exception):
 
     def __init__(self, number, said=None, fields=()):
         super().__init__(number)
-        name, self.status = said[::-1] if said else REFUSALS[number]
-        self.text = name if said else f"{number} {name}"
+        if said:
+            self.status, self.text = said
+        else:
+            name, self.status = REFUSALS[number]
+            self.text = f"{number} {name}"
         self.fields = [*fields, TEXT]
+        # The message, if its head could be read and its body is refused.
+        self.message = None
 
 
 class BrokenOff(Refused):
@@ -290,12 +296,11 @@ def unescaped(text):
 # What a message asks for.
 
 
-class Request:
+class Request(types.SimpleNamespace):
     """What a message asks for: a name, and the parts of this kind of request."""
 
     def __init__(self, name, **parts):
-        self.name = name
-        self.__dict__.update(parts)
+        super().__init__(name=name, **parts)
 
 
 def id_text(number):

@@ -103,7 +103,7 @@ class Server:
         except Refused as refused:
             status, fields, body = refused.status, refused.fields, refused.text.encode() + b"\n"
             self.kinds[refused.text] += 1
-            if hasattr(refused, "message"):
+            if refused.message:
                 bare = refused.message.bare
                 written = self.go_on() if refused.message.continues else b""
         self.closed = closes
@@ -163,7 +163,7 @@ class Server:
         if upload.is_whole:
             self.rules.ask_to_finish(upload.length)
         self.uploads.append(upload)
-        self.accept(upload, "post-create", *["post-finish"][: upload.is_whole])
+        self.accept(upload, "post-create", *(["post-finish"] if upload.is_whole else []))
         self.kinds[f"POST of a {upload.kind} upload"] += 1
         self.kinds["POST without a length"] += upload.length is None
         self.kinds["POST of a complete upload"] += upload.is_whole
