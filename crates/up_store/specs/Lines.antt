@@ -35,9 +35,16 @@ IsLost line number = (line.done + line.count ≤ number) × (number < line.done 
 abbrev pub has_drawn : Progress → Entry → Progress
 has_drawn line change = record line { drawn = line.drawn ++ change ∷ []; waiting = line.waiting ++ change ∷ [] }
 
--- one more entry had its turn; a count ends at its maximum
+-- a sum that ends at the maximum of a count
+abbrev pub sum_within : ℕ → ℕ → ℕ
+sum_within m n = min (2 ^ 64 - 1) (m + n)
+
 abbrev pub one_more : ℕ → ℕ
-one_more n = min (2 ^ 64 - 1) (n + 1)
+one_more n = sum_within n 1
+
+-- the number of the first change that isn't known to be on the disk or lost
+abbrev pub first_unknown : Progress → ℕ
+first_unknown line = sum_within line.done (sum_within line.count line.lost)
 
 -- a change that could not be written had its turn, if there is one
 abbrev pub has_passed : Progress → ℕ → Progress

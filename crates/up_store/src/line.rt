@@ -2,7 +2,7 @@
 ghost use Rattle.std.specs.Prelude.{◌≡◌, ◌⊎◌, ◌<◌, ◌↔◌, ◌++◌, [], IfOk, IsErr, OnErr, IsTrue, Some, true, false};
 ghost use Rattle.std.specs.Prelude.{length, ◌+◌};
 ghost use Rattle.up_store.specs.Lines.{IsLost, HasTurn, MayWrite, Takes, Places};
-ghost use Rattle.up_store.specs.Lines.{has_drawn, has_had_turn, has_lost_rest, has_written};
+ghost use Rattle.up_store.specs.Lines.{first_unknown, has_drawn, has_had_turn, has_lost_rest, has_written};
 ghost use Rattle.up_store.specs.declared.line.Next.TheVariants.{Commit, Refuse, Wait, Write};
 
 use std::alloc::{AllocError, Global};
@@ -341,7 +341,7 @@ impl<J: Chronicle, K: Chronicle> Line<J, K> {
 
     /// The number of the change whose turn comes next, and of the first that isn't known to be on the disk or lost.
     pub fn first_two(&self) -> (u64, u64)
-        ensures { result.0 ≡ self.now.done }
+        ensures { result ≡ (self.now.done, first_unknown self.now) }
     {
         let first = self.on_disk.number();
         let known = self.on_disk.count().saturating_add(self.lost);

@@ -1,5 +1,5 @@
 //! Carrying out the entries of a log again, on a board.
-ghost use Rattle.std.specs.Prelude.{◌≡◌, ◌++◌, OnOk, List, Result, Some, length};
+ghost use Rattle.std.specs.Prelude.{◌≡◌, ◌++◌, OnOk, List, Result, Some, true, false};
 ghost use Rattle.up_dispatch.specs.Tied.{CommitsAfter};
 ghost use Rattle.up_log.specs.declared.entry.Entry.{Entry as Logged};
 ghost use Rattle.up_machine.specs.declared.plan.Done.{Done as Carried};
@@ -28,33 +28,8 @@ pub struct Logs<D: Disk, J: Site> {
     pub count: u64,
 }
 
-/// Carries out the entry of a receipt again. If it is refused, it was refused before, too. The error is that it is too
-/// long for a request, or that memory ran out.
-fn carry_out<B: Naming, R: Wait>(
-    rt: &R,
-    alloc: Global,
-    board: &Board<B>,
-    seat: &mut Seat<B>,
-    receipt: &Receipt<Entry, B>,
-    entry: Entry,
-) -> Result<(), Unreplayed>
-    requires claims { receipt.now.entry ≡ Some entry }
-    ensures { OnOk result ((done : Result Carried Refused) × CommitsAfter B.queue B.lanes
-        B.max_size receipt.now.before seat.old entry seat.new done) }
-{
-    if !fits(&entry.request) {
-        return Err(Unreplayed::TooLong);
-    }
-    let Some(done) = board.commit_at(rt, alloc, seat, receipt, entry) else {
-        return Err(Unreplayed::Memory);
-    };
-    match done {
-        Err(Refusal::NoMemory) => Err(Unreplayed::Memory),
-        _ => Ok(()),
-    }
-}
-
-/// Carries out the entry of a receipt again, or passes over it if it is void.
+/// Carries out the entry of a receipt again, or passes over it if it is void. If it is refused, it was refused before,
+/// too. The error is that it is too long for a request, or that memory ran out.
 fn take_in<B: Naming, R: Wait>(
     rt: &R,
     alloc: Global,
@@ -62,16 +37,25 @@ fn take_in<B: Naming, R: Wait>(
     seat: &mut Seat<B>,
     receipt: &Receipt<Entry, B>,
     entry: Entry,
-    voids: &BTreeSet<u64>,
+    is_void: bool,
 ) -> Result<(), Unreplayed>
     requires claims { receipt.now.entry ≡ Some entry }
+    ensures void { is_void ≡ true → seat.new ≡ seat.old }
+    ensures carried { is_void ≡ false → OnOk result ((done : Result Carried Refused)
+        × CommitsAfter B.queue B.lanes B.max_size receipt.now.before seat.old entry seat.new done) }
 {
-    if !voids.contains(&receipt.number()) {
-        return carry_out(rt, alloc, board, seat, receipt, entry);
+    if is_void {
+        return match board.pass_over(rt, receipt, &entry) {
+            Some(()) => Ok(()),
+            None => Err(Unreplayed::Memory),
+        };
     }
-    match board.pass_over(rt, receipt, &entry) {
-        Some(()) => Ok(()),
-        None => Err(Unreplayed::Memory),
+    if !fits(&entry.request) {
+        return Err(Unreplayed::TooLong);
+    }
+    match board.commit_at(rt, alloc, seat, receipt, entry) {
+        None | Some(Err(Refusal::NoMemory)) => Err(Unreplayed::Memory),
+        Some(_) => Ok(()),
     }
 }
 
@@ -90,7 +74,8 @@ fn take_in_all<B: Naming, R: Wait>(
     let mut place = front.len() - entries.len() as u64;
     for entry in entries.into_vec() {
         let receipt = Receipt::of(front, place);
-        take_in(rt, alloc, board, seat, &receipt, entry, voids)?;
+        let is_void = voids.contains(&place);
+        take_in(rt, alloc, board, seat, &receipt, entry, is_void)?;
         place += 1;
     }
     Ok(())

@@ -81,16 +81,7 @@ impl<
             seat,
         }
     }
-}
 
-impl<
-    B: Naming,
-    D: Disk + Drop,
-    N: StoreNotices + LogFile<D>,
-    J: Site,
-    K: Chronicle,
-    R: Wait,
-> Stored<'_, B, D, N, J, K, R> {
     /// Writes a change and waits for its turn. Returns a receipt for its entry if it is on the disk and may be made; if
     /// not, its turn is over. The error is that memory ran out, or that no change is made any more; it has no turn
     /// then.

@@ -1,5 +1,5 @@
 -- What ties a log, and what is on its disk, to histories.
-use Rattle.std.specs.Prelude.{◌≡◌, ◌⊎◌, ◌<◌, ◌+◌, ℕ, Bool, List, IsTrue, Some, slice_get}
+use Rattle.std.specs.Prelude.{◌≡◌, ◌⊎◌, ◌<◌, ◌+◌, ℕ, Bool, false, List, IsTrue, Some, slice_get}
 use Rattle.sqlite_disk.specs.declared.Disk.{Ghosts}
 use Rattle.up_log.specs.Logs.{IsCleanLog, IsCleanReader, IsReaderAt, IsSettled}
 use Rattle.up_log.specs.declared.appending.Log.{Log}
@@ -23,13 +23,18 @@ abbrev pub HasRead : {D : Type 0} → Ghosts D → LogReader D → Setup → Typ
 HasRead g reader setup premise entries =
     premise → IsCleanReader g reader → (read : List (List Entry)) × (left : List (List Entry)) × IsReaderAt g reader setup read left × (entries_of read ≡ entries)
 
--- the entries that were written to a log, and whether the log is known to contain them
-pub record Contents : Type 0 where
+-- a log, the entries that were written to it, and whether it is known to contain exactly these
+pub record TiedLog (D : Type 0) : Type 0 where
+  pub log : Log D
   pub entries : List Entry
   pub is_tied : Bool
 
+-- a log that is not known to contain exactly these entries
+abbrev pub untied : {D : Type 0} → Log D → List Entry → TiedLog D
+untied log entries = record { log = log; entries = entries; is_tied = false }
+
 -- the entries that were read from a log, and how many of its bytes were not
-pub record Progress : Type 0 where
+pub record ReadSoFar : Type 0 where
   pub entries : List Entry
   pub unread : ℕ
 

@@ -11,4 +11,4 @@ pub use batch::Batch;
 pub use on_disk::OnDisk;
 pub use reading::Reading;
 pub use site::Site;
-pub use written::{OfSpelled, Written};
+pub use written::Written;

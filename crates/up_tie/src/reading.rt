@@ -22,9 +22,9 @@ pub struct Reading<D: Disk, J: Site> {
 
 impl<D: Disk, J: Site> Model for Reading<D, J> {
     ghost use Rattle.up_log.specs.Logs.{unread};
-    ghost use Rattle.up_tie.specs.Ties.{Progress, HasRead};
+    ghost use Rattle.up_tie.specs.Ties.{ReadSoFar, HasRead};
 
-    ghost Value = { Progress };
+    ghost Value = { ReadSoFar };
 
     ghost view = { λ r. record { entries = r.front; unread = unread r.reader } };
 
@@ -79,7 +79,7 @@ impl<D: Disk, J: Site> Reading<D, J> {
     pub fn finish(self) -> Result<Written<D, J>, LogFault>
     where
         D: Drop,
-        ensures { IfOk result (λ w. w ≡ record { entries = self.entries; is_tied = true }) }
+        ensures { IfOk result (λ w. (w.entries ≡ self.entries) × (w.is_tied ≡ true)) }
     {
         let Reading { reader, front } = self;
         match reader.finish() {

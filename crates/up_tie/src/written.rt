@@ -1,6 +1,11 @@
 //! A log that is written.
-ghost use Rattle.std.specs.Prelude.{◌≡◌, ◌++◌, length, true, false, IfOk, OnErr, IsTrue};
-ghost use Rattle.up_tie.specs.Ties.{LogContains};
+ghost use Rattle.std.specs.Prelude.{◌≡◌, ◌++◌, ◌∷◌, [], List, ℕ, length, true, false, IfOk, OnOk, OnErr};
+ghost use Rattle.std.specs.Prelude.{IsTrue};
+ghost use Rattle.up_log.specs.Blocks.{written, IsBeforeOrAfter};
+ghost use Rattle.up_log.specs.Logs.{IsCleanLog, IsSettled, ReadsAt};
+ghost use Rattle.up_log.specs.declared.entry.Entry.{Entry as Logged};
+ghost use Rattle.up_log.specs.declared.setup.Setup.{Setup as Numbers};
+ghost use Rattle.up_tie.specs.Ties.{LogContains, untied};
 
 use crate::batch::Batch;
 use crate::on_disk::OnDisk;
@@ -14,7 +19,7 @@ use up_log::{Entry, Log, LogFault, Spelled};
 use up_message::Sequence;
 
 /// Entries are added to a history by what is encoded of them.
-pub struct OfSpelled;
+struct OfSpelled;
 
 impl Plain<Spelled, Option<Entry>, u64> for OfSpelled {
     ghost use Rattle.std.specs.Prelude.{Some, None};
@@ -24,9 +29,9 @@ impl Plain<Spelled, Option<Entry>, u64> for OfSpelled {
     ghost state = { λ spelled. None };
 }
 
-/// A log, and the history of what was written to it. Contracts describe it as the entries that were written, and
-/// whether it is tied: whether the log is known to contain exactly these entries. It is not after its file was opened
-/// again, or after another log took its place, since no contract says that the file is still the same.
+/// A log, and the history of what was written to it. Contracts describe it as the log, the entries that were written,
+/// and whether it is tied: whether the log is known to contain exactly these entries. It is not after its file was
+/// opened again, or after another log took its place, since no contract says that the file is still the same.
 #[derive(Drop)]
 pub struct Written<D: Disk, J: Site> {
     log: Log<D>,
@@ -36,11 +41,11 @@ pub struct Written<D: Disk, J: Site> {
 
 impl<D: Disk, J: Site> Model for Written<D, J> {
     ghost use Rattle.std.specs.Prelude.{◌≡◌, true};
-    ghost use Rattle.up_tie.specs.Ties.{Contents, LogContains};
+    ghost use Rattle.up_tie.specs.Ties.{TiedLog, LogContains};
 
-    ghost Value = { Contents };
+    ghost Value = { TiedLog D };
 
-    ghost view = { λ w. record { entries = w.front; is_tied = w.is_tied } };
+    ghost view = { λ w. record { log = w.log; entries = w.front; is_tied = w.is_tied } };
 
     ghost invariant = { λ w. w.is_tied ≡ true → LogContains D.Disk w.log J.setup J.premise w.front };
 }
@@ -66,7 +71,7 @@ impl<D: Disk, J: Site> Written<D, J> {
     /// A log that was read to its end: it contains the entries that the front has seen.
     pub(crate) fn tied(log: Log<D>, front: Front<Entry, J>) -> Written<D, J>
         requires { LogContains D.Disk log J.setup J.premise front }
-        ensures { result ≡ record { entries = front; is_tied = true } }
+        ensures { result ≡ record { log = log; entries = front; is_tied = true } }
     {
         Written {
             log,
@@ -77,7 +82,7 @@ impl<D: Disk, J: Site> Written<D, J> {
 
     /// A log that takes the place of the one with these entries.
     pub fn over(log: Log<D>, front: Front<Entry, J>) -> Written<D, J>
-        ensures { result ≡ record { entries = front; is_tied = false } }
+        ensures { result ≡ untied log front }
     {
         Written {
             log,
@@ -87,13 +92,22 @@ impl<D: Disk, J: Site> Written<D, J> {
     }
 
     /// Continues with the log with these entries after a call that failed, as `Log::resume` does. `device` is its file,
-    /// which was opened again, and `place` is where the next batch begins (`end_place`).
+    /// which was opened again, and `place` is where the next batch begins (`end_place`). After an error, the log accepts
+    /// no more batches, as before.
     pub fn resume(
         device: D,
         place: usize,
         front: Front<Entry, J>,
     ) -> (Written<D, J>, Result<(), LogFault>)
-        ensures { result.0 ≡ record { entries = front; is_tied = false } }
+        ensures untied { result.0 ≡ untied result.0.log front }
+        ensures place { result.0.log.gate ≡ place }
+        ensures settled { (setup : Numbers) (batches : List (List Logged)) (more : List Logged)
+            → ((c : List ℕ) → D.may_leave device c → IsBeforeOrAfter setup batches more c)
+            → place ≡ length (written setup batches)
+            → OnOk result.1 (IsCleanLog D.Disk result.0.log
+            → IsSettled D.Disk result.0.log setup batches
+            × (result.0.log.is_broken ≡ false)) }
+        ensures broken { OnErr result.1 (IsTrue result.0.log.is_broken) }
     {
         let (log, result) = Log::resume(device, place);
         (Written::over(log, front), result)
@@ -114,22 +128,37 @@ impl<D: Disk, J: Site> Written<D, J> {
     }
 
     /// The number of bytes of the log, which is the place of the next batch.
-    pub fn end_place(&self) -> usize {
+    pub fn end_place(&self) -> usize
+        ensures { (setup : Numbers) (batches : List (List Logged))
+            → IsSettled D.Disk self.now.log setup batches
+            → result ≡ length (written setup batches) }
+    {
         self.log.end_place()
     }
 
     /// Whether a call failed in such a way that the log accepts no more batches until it is opened again.
-    pub fn is_broken(&self) -> bool {
+    pub fn is_broken(&self) -> bool
+        ensures { result ≡ self.now.log.is_broken }
+    {
         self.log.is_broken()
     }
 
-    /// The batch at a place of the file, and the place after it; `None` at the end.
+    /// The batch at a place of the file, and the place after it; `None` at the end. It changes nothing that contracts
+    /// say of the log, also after an error.
     pub fn batch_at(
         &mut self,
         alloc: Global,
         place: usize,
     ) -> Result<Option<(Sequence<Entry>, usize)>, LogFault>
-        ensures { self.new ≡ self.old }
+        ensures reads { (setup : Numbers) (read left : List (List Logged))
+            → IsSettled D.Disk self.old.log setup (read ++ left)
+            → place ≡ length (written setup read)
+            → IsCleanLog D.Disk self.new.log → ReadsAt setup read left result }
+        ensures kept { (setup : Numbers) (batches : List (List Logged))
+            → IsSettled D.Disk self.old.log setup batches
+            → IsSettled D.Disk self.new.log setup batches }
+        ensures same { (self.new.entries ≡ self.old.entries)
+            × (self.new.is_tied ≡ self.old.is_tied) }
     {
         self.log.batch_at(alloc, place)
     }
@@ -143,10 +172,12 @@ impl<D: Disk, J: Site> Written<D, J> {
         history: &History<Entry, J>,
         batch: &Batch<K>,
     ) -> Result<OnDisk<J, K>, LogFault>
-        ensures ok { IfOk result (λ _. self.new ≡ record {
-          entries = self.old.entries ++ batch.now.entries;
-          is_tied = self.old.is_tied;
-        }) }
+        ensures ok { IfOk result (λ _.
+            (self.new.entries ≡ self.old.entries ++ batch.now.entries)
+            × (self.new.is_tied ≡ self.old.is_tied)) }
+        ensures durable { (setup : Numbers) (batches : List (List Logged))
+            → IsSettled D.Disk self.old.log setup batches → IfOk result (λ _.
+            IsSettled D.Disk self.new.log setup (batches ++ batch.now.entries ∷ [])) }
         ensures on_disk { IfOk result (λ r. r ≡ record {
           place = length self.old.entries;
           number = batch.now.first;
@@ -171,7 +202,8 @@ impl<D: Disk, J: Site> Written<D, J> {
 
     /// The log. If it is tied, it contains the entries that were written.
     pub fn into_log(self) -> Log<D>
-        ensures { self.is_tied ≡ true → LogContains D.Disk result J.setup J.premise self.entries }
+        ensures log { result ≡ self.log }
+        ensures tied { self.is_tied ≡ true → LogContains D.Disk result J.setup J.premise self.entries }
     {
         self.log
     }
