@@ -7,3 +7,4 @@ pub mod Headings
 pub mod Mending
 pub mod Parts
 pub mod Places
+pub mod Pieces

@@ -2,3 +2,4 @@ pub mod Spelling
 pub mod Reading
 pub mod Blocks
 pub mod Logs
+pub mod Staging

@@ -5,10 +5,10 @@ ghost use Rattle.up_log.specs.Logs.{IsCleanLog, IsSettled};
 ghost use Rattle.up_log.specs.declared.entry.Entry.{Entry as Logged};
 ghost use Rattle.up_log.specs.declared.setup.Setup.{Setup as Numbers};
 
-use crate::device::{write_settled, write_synced};
+use crate::device::write_synced;
 use crate::fault::LogFault;
 use crate::spelled::Spelled;
-use crate::writing::put_closed_body;
+use crate::staging::{begin_body, stage};
 use sqlite_disk::Disk;
 
 /// A log to which batches can be appended. Each batch is in a block after a gate. The gate is a byte, which a separate
@@ -34,8 +34,8 @@ impl<D: Disk> Log<D> {
     /// batch. A crash during the call, or after an error, leaves the log with the whole batch or without it. After
     /// `Memory` the log is unchanged. After any other error, either the log has the batches that it had, as on a full
     /// disk, and the call may be retried; or the log accepts no more batches (`Broken`) and must be opened again.
-    /// The batch is put together in `room`, whose old content is gone then. A caller who keeps it saves memory from
-    /// being allocated anew for each batch.
+    /// The batch is put together in `room`, whose old content is gone then, but for long bodies, which are written from
+    /// where they are. A caller who keeps `room` saves memory from being allocated anew for each batch.
     pub fn append(&mut self, room: &mut Vec<u8>, entries: &[Spelled]) -> Result<(), LogFault>
         ensures durable { (setup : Numbers) (batches : List (List Logged))
             → IsSettled D.Disk self.old setup batches
@@ -54,14 +54,11 @@ impl<D: Disk> Log<D> {
         if self.is_broken {
             return Err(LogFault::Broken);
         }
-        put_closed_body(room, entries)?;
-        let Some(start) = self.gate.checked_add(1) else {
+        let size = begin_body(room, entries)?;
+        let Some(end) = self.gate.checked_add(size) else {
             return Err(LogFault::Broken);
         };
-        let Some(end) = self.gate.checked_add(room.len()) else {
-            return Err(LogFault::Broken);
-        };
-        let (staged, is_settled) = write_settled(&mut self.device, start, room);
+        let (staged, is_settled) = stage(&mut self.device, self.gate, room, entries);
         self.is_broken = !is_settled;
         staged?;
         self.is_broken = true;

@@ -1,5 +1,5 @@
 //! Reading and writing a part of a file.
-ghost use Rattle.std.specs.Prelude.{◌≡◌, ◌≢◌, ◌<◌, List, ℕ, length, take, drop, IfOk, IfErr, OnOk, IsTrue};
+ghost use Rattle.std.specs.Prelude.{◌≡◌, ◌≢◌, ◌+◌, ◌<◌, List, ℕ, length, take, drop, IfOk, IfErr, OnOk, IsTrue};
 ghost use Rattle.sqlite_disk.specs.Disk.{Holds, Torn, Only};
 ghost use Rattle.up_log.specs.Logs.{IsDamaged, IsUnusableLog};
 
@@ -98,8 +98,28 @@ pub(crate) fn write_synced<D: Disk>(disk: &mut D, at: usize, bytes: &[u8]) -> Re
     settle(disk)
 }
 
+/// Writes bytes at this place, and returns the place after them. They are on the disk once the file is synced.
+pub(crate) fn write_on<D: Disk>(disk: &mut D, at: usize, bytes: &[u8]) -> Result<usize, LogFault>
+    ensures next { IfOk result (λ next. next ≡ at + length bytes.now) }
+    ensures written { OnOk result (0 < length bytes.now → Holds (D.seen disk.new) at bytes.now) }
+    ensures others { Torn at (length bytes.now) (D.seen disk.old) (D.seen disk.new) }
+    ensures memory { IfErr result (λ fault. fault ≢ LogFault.Memory) }
+    ensures calm { D.is_clean disk.new ≡ D.is_clean disk.old }
+    ensures crash { (c : List ℕ) → D.may_leave disk.new c
+        → (before : List ℕ) × D.may_leave disk.old before × Torn at (length bytes.now) before c }
+{
+    let Some(next) = at.checked_add(bytes.len()) else {
+        return Err(LogFault::Broken);
+    };
+    if !disk.may_be_used() {
+        return Err(LogFault::Broken);
+    }
+    disk.write_at(at, bytes)?;
+    Ok(next)
+}
+
 /// Whether all of the file is on the disk. This is tried after a write that failed.
-fn settles<D: Disk>(disk: &mut D) -> bool
+pub(crate) fn settles<D: Disk>(disk: &mut D) -> bool
     ensures synced { IsTrue result → Only (D.seen disk.new) (D.may_leave disk.new)
         × IsTrue (D.is_usable disk.new) }
     ensures seen { D.seen disk.new ≡ D.seen disk.old }
@@ -107,30 +127,4 @@ fn settles<D: Disk>(disk: &mut D) -> bool
     ensures crash { (c : List ℕ) → D.may_leave disk.new c → D.may_leave disk.old c }
 {
     settle(disk).is_ok()
-}
-
-/// Like `write_synced`, but also returns whether all of the file is on the disk afterwards, even after an error.
-pub(crate) fn write_settled<D: Disk>(
-    disk: &mut D,
-    at: usize,
-    bytes: &[u8],
-) -> (Result<(), LogFault>, bool)
-    requires some { 0 < length bytes.now }
-    ensures written { OnOk result.0 (Holds (D.seen disk.new) at bytes.now) }
-    ensures others { Torn at (length bytes.now) (D.seen disk.old) (D.seen disk.new) }
-    ensures synced { OnOk result.0 (Only (D.seen disk.new) (D.may_leave disk.new)) }
-    ensures settled { IsTrue result.1 → Only (D.seen disk.new) (D.may_leave disk.new)
-        × IsTrue (D.is_usable disk.new) }
-    ensures memory { IfErr result.0 (λ fault. fault ≢ LogFault.Memory) }
-    ensures calm { D.is_clean disk.new ≡ D.is_clean disk.old }
-    ensures crash { (c : List ℕ) → D.may_leave disk.new c
-        → (before : List ℕ) × D.may_leave disk.old before × Torn at (length bytes.now) before c }
-{
-    match write_synced(disk, at, bytes) {
-        Ok(()) => (Ok(()), true),
-        Err(fault) => {
-            let is_settled = settles(disk);
-            (Err(fault), is_settled)
-        }
-    }
 }

@@ -14,6 +14,7 @@ mod rereading;
 mod resuming;
 mod setup;
 mod spelled;
+mod staging;
 mod writing;
 
 pub use appending::Log;

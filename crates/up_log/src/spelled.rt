@@ -9,8 +9,7 @@ use std::marker::Model;
 use up_events::Trace;
 use up_message::Piece;
 
-/// An entry that is already encoded, so that a batch is put together by copying bytes. Contracts describe it as the
-/// entry.
+/// An entry that is already encoded, so that a batch is written by copying bytes. Contracts describe it as the entry.
 #[derive(Drop)]
 pub struct Spelled {
     /// The encoding, without its end if that is in `back`.
@@ -44,12 +43,11 @@ impl Spelled {
         Ok(Spelled { front, back, of })
     }
 
-    /// Puts the encoding of the entry at the end.
-    pub(crate) fn put(&self, out: &mut Vec<u8>) -> Result<(), AllocError>
-        ensures { OnOk result (out.new.items ≡ out.old.items ++ entry self.now) }
+    /// The encoding of the entry, in two parts. The second has the bytes that are shared, if there are some.
+    pub(crate) fn parts(&self) -> (&[u8], &[u8])
+        ensures { result.0.now ++ result.1.now ≡ entry self.now }
     {
-        out.extend_from_slice(&self.front)?;
-        out.extend_from_slice(self.back.as_slice())
+        (&self.front, self.back.as_slice())
     }
 
     /// The number of bytes of the entry in a log.

@@ -1,12 +1,9 @@
 //! Encoding entries.
-ghost use Rattle.std.specs.Prelude.{◌≡◌, ◌≤◌, ◌++◌, ◌∷◌, [], length, drop, IfOk, OnOk};
-ghost use Rattle.std.specs.Option.{option_map};
-ghost use Rattle.up_log.specs.Blocks.{body};
+ghost use Rattle.std.specs.Prelude.{◌≡◌, ◌++◌, [], IfOk, OnOk};
 ghost use Rattle.up_log.specs.Spelling.{word, id, text, maybe, many, flag, kind, consent, declared_length, pair};
 ghost use Rattle.up_log.specs.Spelling.{new_upload, patch, asked_for, entry, batch};
 
 use crate::entry::{Consent, Entry};
-use crate::spelled::Spelled;
 use std::alloc::{AllocError, Global};
 use up_events::{Id, Kind};
 use up_headers::{NewUpload, NotDigits, Pairs, Patch, Request};
@@ -38,7 +35,7 @@ pub(crate) fn word_of(n: u64) -> [u8; 8]
     ]
 }
 
-fn put_word(out: &mut Vec<u8>, n: u64) -> Result<(), AllocError>
+pub(crate) fn put_word(out: &mut Vec<u8>, n: u64) -> Result<(), AllocError>
     ensures { OnOk result (out.new.items ≡ out.old.items ++ word n) }
 {
     out.extend_from_slice(&word_of(n))
@@ -230,16 +227,6 @@ pub(crate) fn put_entry(out: &mut Vec<u8>, logged: &Entry) -> Result<Piece, Allo
     put_request(out, &logged.request)
 }
 
-fn put_batch(out: &mut Vec<u8>, entries: &[Spelled]) -> Result<(), AllocError>
-    ensures { OnOk result (out.new.items ≡ out.old.items ++ batch entries.now) }
-{
-    put_word(out, entries.len() as u64)?;
-    for logged in entries {
-        logged.put(out)?;
-    }
-    Ok(())
-}
-
 /// The approximate number of bytes of an entry that are not shared. A buffer with this much room mostly does not move
 /// while the entry is encoded.
 pub(crate) fn room_of(logged: &Entry) -> usize {
@@ -248,34 +235,4 @@ pub(crate) fn room_of(logged: &Entry) -> usize {
         Request::Patch(_) => 64,
         _ => 256,
     }
-}
-
-/// The number of bytes of the body of a block, with the gate after it.
-fn room_for(entries: &[Spelled]) -> usize {
-    let mut room: usize = 17;
-    for logged in entries {
-        room = room.saturating_add(logged.size());
-    }
-    room
-}
-
-/// Overwrites the first bytes.
-fn put_front(bytes: &mut [u8], front: &[u8])
-    requires within { length front.now ≤ length bytes.old }
-    ensures { bytes.new ≡ front.now ++ drop (length front.now) bytes.old }
-{
-    bytes[..front.len()].copy_from_slice(front);
-}
-
-/// Puts together the body of a block, followed by the next gate, which is closed. What `room` had before is gone.
-pub(crate) fn put_closed_body(room: &mut Vec<u8>, entries: &[Spelled]) -> Result<(), AllocError>
-    ensures { OnOk result (room.new.items ≡ body entries.now ++ 0 ∷ []) }
-{
-    room.clear();
-    room.reserve(room_for(entries))?;
-    room.extend_from_slice(&[0; 8])?;
-    put_batch(room, entries)?;
-    let size = room.len() - 8;
-    put_front(room, &word_of(size as u64));
-    Ok(room.push(0)?)
 }

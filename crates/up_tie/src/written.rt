@@ -92,8 +92,8 @@ impl<D: Disk, J: Site> Written<D, J> {
     }
 
     /// Continues with the log with these entries after a call that failed, as `Log::resume` does. `device` is its file,
-    /// which was opened again, and `place` is where the next batch begins (`end_place`). After an error, the log accepts
-    /// no more batches, as before.
+    /// which was opened again, and `place` is where the next batch begins (`end_place`). After an error, the log still
+    /// accepts no more batches.
     pub fn resume(
         device: D,
         place: usize,
@@ -165,7 +165,7 @@ impl<D: Disk, J: Site> Written<D, J> {
 
     /// Appends changes to the log as one batch, and returns once the batch is on the disk. Then adds them to the
     /// history. `Broken` before anything is written if the history has no room for them. After another error, the log's
-    /// state is that after the same error of `Log::append`. The batch is put together in `room`.
+    /// state is that after the same error of `Log::append`, which also says what `room` is for.
     pub fn append<K: Chronicle>(
         &mut self,
         room: &mut Vec<u8>,
@@ -203,7 +203,8 @@ impl<D: Disk, J: Site> Written<D, J> {
     /// The log. If it is tied, it contains the entries that were written.
     pub fn into_log(self) -> Log<D>
         ensures log { result ≡ self.log }
-        ensures tied { self.is_tied ≡ true → LogContains D.Disk result J.setup J.premise self.entries }
+        ensures tied { self.is_tied ≡ true
+            → LogContains D.Disk result J.setup J.premise self.entries }
     {
         self.log
     }
