@@ -1,5 +1,5 @@
 #!/usr/bin/env python3
-"""Compares the documents with the sources: the tables of crates and modules and the list of definitions in
+"""Compares the documents with the sources: the tables of crates, modules and rules and the list of definitions in
 docs/ARCHITECTURE.md, the words with their limits and defaults in docs/RUNNING.md, and the refusals in docs/PROTOCOL.md.
 It checks that the help of the program names the limits in its code. It checks the links and the length of lines in all
 documents. It also compares the drawn data of the crates with what the generators draw.
@@ -91,6 +91,24 @@ def each_definition():
     for name in crates():
         there = {path.stem for path in (CRATES / name / "specs").glob("*.antt")} - {"Lib"} - HIDDEN
         same(sorted(lists.get(name, set()) - HIDDEN), sorted(there), f"the definitions of {name}")
+
+
+def each_rule():
+    """Each name in ARCHITECTURE's table of rules is in the file that the table names after it."""
+    part = text_of("docs/ARCHITECTURE.md").partition("## Where a rule lives")[2].partition("\n## ")[0]
+    rows = [line.split(" | ") for line in part.splitlines() if line.startswith("| ") and "`" in line]
+    same(len(rows) > 20, True, f"whether {len(rows)} rows are the table")
+    for rule, *columns in rows:
+        for cell in columns[:2]:
+            names = []
+            for name in named(cell):
+                if not name.endswith((".rt", ".antt")):
+                    names += [name.rpartition("::")[2]] * (not name.startswith("--"))
+                    continue
+                source = text_of(f"crates/{name}")
+                missing = [one for one in names if not re.search(rf"\b{one}\b", source)]
+                same((missing, bool(names)), ([], True), f"the names of {rule!r} that {name} hasn't, and whether it has some")
+                names = []
 
 
 def words():
@@ -197,8 +215,8 @@ def each_drawn():
 
 if __name__ == "__main__":
     CASES = [
-        each_crate, each_module, each_definition, each_word, each_limit, each_default, each_refusal, each_link, each_line,
-        each_drawn,
+        each_crate, each_module, each_definition, each_rule, each_word, each_limit, each_default, each_refusal, each_link,
+        each_line, each_drawn,
     ]
     given = argparse.ArgumentParser(description=__doc__, formatter_class=argparse.RawDescriptionHelpFormatter)
     given.add_argument("names", nargs="*", metavar="NAME", help="the cases to be tried, instead of all")
