@@ -18,8 +18,8 @@ In each of N rounds (by default 7) each work is done in each way, in turn:
   answered, if the system has the log in memory, and if it hasn't.
 
 The writes alone are those of a log: a batch after a closed gate, a sync, the gate, a sync. For `small` one writer makes
-them with one change in each batch, and with 64. For `many` it makes them with one body in each batch, and with four,
-about as many as a batch takes. For `restart` only the file of the log is read.
+them with one change in each batch, and with 64. For `many` it makes them with one body in each batch, and with four;
+a batch of the server has three. For `restart` only the file of the log is read.
 
 A line of the table is a work done in one way: the median, least and most, and the median as a fraction of that of the
 first way. NAME is a work's name, to do only that one.

@@ -523,6 +523,30 @@ def full_file():
     return " and ".join(map(repr, lines))
 
 
+def append_in_turn(client):
+    """Appends bodies of several sizes to the client's only upload, each of which is done or finds no room."""
+    (path,) = client.uploads
+    for number in range(20):
+        status_of_append(client, path, (16_383, 16_384, BODY, 50)[(client.number + number) % 4])
+
+
+def full_of_many():
+    """If a log can't grow while many clients send long and short bodies, exactly what was answered 204 is there."""
+    clients, never = new_clients(), threading.Event()
+    with store_of(program) as store:
+        with store.kept(Limited) as server:
+            together(clients, server, never, lambda client: client.create(None))
+            together(clients, server, never, append_in_turn)
+            whole = sum(len(upload.body) for client in clients for upload in client.uploads.values())
+            same(whole < LIMIT, True, "whether the log was ever full")
+            server.make_room()
+            for work in (append_in_turn, Client.finish):
+                together(clients, server, never, work)
+        with store.kept() as server:
+            together(clients, server, never, lambda client: client.come_back(everything=True))
+    return f"{whole:,} bytes were stored when the log was full"
+
+
 def full_disk():
     """On a full disk changes are answered 503, reads continue and removals are done; all is done once there is room."""
     with small_disk() as disk:
@@ -581,7 +605,7 @@ program, rounds = os.path.abspath(given.program or build()), given.rounds
 
 CASES = [
     by_kill, by_end, cut_log, torn_log, shorter_log, second_server, other_lanes, other_size, no_log, no_folder,
-    files_made, no_store, full_file,
+    files_made, no_store, full_file, full_of_many,
 ]
 passed_over = []
 if may_mount():

@@ -10,8 +10,8 @@ from serving import Connection, head, patch, same
 
 LANES = 3
 
-# The most bytes of an appended piece, and those of an occasional large one.
-PIECE, LARGE = 1000, 150_000
+# The most bytes of an appended piece, and those of an occasional long one. A log shares bodies of 16,384 bytes or more.
+PIECE, LONG = 1000, (16_383, 16_384, 150_000)
 
 # The most uploads of a client that are under way, and that are complete, before it continues these or removes some.
 MAX_BEGUN, MAX_WHOLE = 6, 12
@@ -222,7 +222,7 @@ class Client:
     def go_on_with(self, path):
         """Appends a piece to an upload that is under way, or declares its length, or both."""
         upload = self.uploads[path]
-        piece = random.randbytes(LARGE if random.random() < 0.03 else random.randint(0, PIECE))
+        piece = random.randbytes(random.choice(LONG) if random.random() < 0.1 else random.randint(0, PIECE))
         if upload.length is not None:
             return self.append(path, (piece or b"x")[: upload.length - len(upload.body)])
         if random.random() < 0.4:

@@ -15,13 +15,14 @@ closed_body entries = body entries ++ 0 ∷ []
 abbrev pub body_front : List Entry → List ℕ
 body_front entries = word (length (batch entries)) ++ word (length entries)
 
--- nothing outside these `size` bytes was changed, and a crash leaves the rest as it was
+-- only the `size` bytes from `start` on were changed, also in what a crash may leave; reading stays as clean as it was
 pub record IsTouched {D : Type 0} (g : Ghosts D) (start size : ℕ) (old new : D) : Type 0 where
   pub others : Torn start size (g.seen old) (g.seen new)
   pub crash : Follows (Torn start size) (g.may_leave old) (g.may_leave new)
   pub calm : g.is_clean new ≡ g.is_clean old
 
--- of the bytes in `done`, those in `room` are still to be written at the place `at`; the others are in the file
+-- of the bytes in `done`, which belong at `start`, those in `room` are still to be written at the place `at`; the others
+-- are in the file
 pub record IsStagedTo {D : Type 0} (g : Ghosts D) (start size : ℕ) (done : List ℕ) (old new : D) (at : ℕ) (room : List ℕ) : Type 0 where
   pub bytes : List ℕ
   pub place : at ≡ start + length bytes
@@ -29,7 +30,7 @@ pub record IsStagedTo {D : Type 0} (g : Ghosts D) (start size : ℕ) (done : Lis
   pub held : 0 < length bytes → Holds (g.seen new) start bytes
   pub touched : IsTouched g start size old new
 
--- after a gate, nothing but the bytes of a body and of the next gate was changed; unless there was an error, they are there
-abbrev pub HasBody : {D : Type 0} → Ghosts D → ℕ → List Entry → D → D → Result (Unit {0}) LogFault → Type 0
-HasBody g gate entries old new result =
+-- only a body and the next gate were changed; after `Ok` they are there
+abbrev pub WritesBody : {D : Type 0} → Ghosts D → ℕ → List Entry → D → D → Result (Unit {0}) LogFault → Type 0
+WritesBody g gate entries old new result =
     IsTouched g (gate + 1) (length (closed_body entries)) old new × OnOk result (Holds (g.seen new) (gate + 1) (closed_body entries))

@@ -1,7 +1,8 @@
 //! Appending batches of entries to a log.
-ghost use Rattle.std.specs.Prelude.{◌≡◌, ◌⊎◌, ◌++◌, ◌∷◌, [], List, ℕ, OnOk, IsErr, OnErr, IsTrue, Err};
+ghost use Rattle.std.specs.Prelude.{◌≡◌, ◌⊎◌, ◌++◌, ◌∷◌, [], List, ℕ, false};
+ghost use Rattle.std.specs.Prelude.{IfErr, OnOk, IsErr, OnErr, IsTrue, Err};
 ghost use Rattle.up_log.specs.Blocks.{IsBeforeOrAfter};
-ghost use Rattle.up_log.specs.Logs.{IsCleanLog, IsSettled};
+ghost use Rattle.up_log.specs.Logs.{IsCleanLog, IsSettled, IsUnusableLog};
 ghost use Rattle.up_log.specs.declared.entry.Entry.{Entry as Logged};
 ghost use Rattle.up_log.specs.declared.setup.Setup.{Setup as Numbers};
 
@@ -34,8 +35,8 @@ impl<D: Disk> Log<D> {
     /// batch. A crash during the call, or after an error, leaves the log with the whole batch or without it. After
     /// `Memory` the log is unchanged. After any other error, either the log has the batches that it had, as on a full
     /// disk, and the call may be retried; or the log accepts no more batches (`Broken`) and must be opened again.
-    /// The batch is put together in `room`, whose old content is gone then, but for long bodies, which are written from
-    /// where they are. A caller who keeps `room` saves memory from being allocated anew for each batch.
+    /// `room` is working memory, and its old content is gone then. Bodies of 16 KiB or more are not copied there. A
+    /// caller who keeps it saves memory from being allocated anew for each batch.
     pub fn append(&mut self, room: &mut Vec<u8>, entries: &[Spelled]) -> Result<(), LogFault>
         ensures durable { (setup : Numbers) (batches : List (List Logged))
             → IsSettled D.Disk self.old setup batches
@@ -47,8 +48,11 @@ impl<D: Disk> Log<D> {
         ensures kept { (setup : Numbers) (batches : List (List Logged))
             → IsSettled D.Disk self.old setup batches
             → OnErr result (IsSettled D.Disk self.new setup batches ⊎ IsTrue self.new.is_broken) }
+        ensures open { OnOk result (self.new.is_broken ≡ false) }
+        ensures gate { OnErr result (self.new.gate ≡ self.old.gate) }
         ensures memory { result ≡ Err LogFault.Memory → self.new ≡ self.old }
         ensures broken { IsTrue self.old.is_broken → IsErr result × (self.new ≡ self.old) }
+        ensures fault { IfErr result (λ fault. IsUnusableLog fault → ⊥) }
         ensures calm { IsCleanLog D.Disk self.new → IsCleanLog D.Disk self.old }
     {
         if self.is_broken {

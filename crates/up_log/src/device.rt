@@ -103,6 +103,7 @@ pub(crate) fn write_on<D: Disk>(disk: &mut D, at: usize, bytes: &[u8]) -> Result
     ensures next { IfOk result (λ next. next ≡ at + length bytes.now) }
     ensures written { OnOk result (0 < length bytes.now → Holds (D.seen disk.new) at bytes.now) }
     ensures others { Torn at (length bytes.now) (D.seen disk.old) (D.seen disk.new) }
+    ensures fault { IfErr result (λ fault. IsUnusableLog fault → ⊥) }
     ensures memory { IfErr result (λ fault. fault ≢ LogFault.Memory) }
     ensures calm { D.is_clean disk.new ≡ D.is_clean disk.old }
     ensures crash { (c : List ℕ) → D.may_leave disk.new c

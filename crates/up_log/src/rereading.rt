@@ -25,8 +25,7 @@ impl<D: Disk> Log<D> {
 
     /// The number of bytes of the heading and the batches, which is the place of the next batch.
     pub fn end_place(&self) -> usize
-        ensures { (setup : Numbers) (batches : List (List Logged))
-            → IsSettled D.Disk self.now setup batches → result ≡ length (written setup batches) }
+        ensures { result ≡ self.now.gate }
     {
         self.gate
     }

@@ -1,5 +1,5 @@
 //! An encoded entry.
-ghost use Rattle.std.specs.Prelude.{◌≡◌, ◌++◌, IfOk, OnOk};
+ghost use Rattle.std.specs.Prelude.{◌≡◌, ◌-◌, ◌^◌, ◌++◌, min, length, IfOk};
 ghost use Rattle.up_log.specs.Spelling.{entry};
 
 use crate::entry::Entry;
@@ -9,7 +9,7 @@ use std::marker::Model;
 use up_events::Trace;
 use up_message::Piece;
 
-/// An entry that is already encoded, so that a batch is written by copying bytes. Contracts describe it as the entry.
+/// An entry that is already encoded, so that writing a batch encodes nothing. Contracts describe it as the entry.
 #[derive(Drop)]
 pub struct Spelled {
     /// The encoding, without its end if that is in `back`.
@@ -51,7 +51,9 @@ impl Spelled {
     }
 
     /// The number of bytes of the entry in a log.
-    pub fn size(&self) -> usize {
+    pub fn size(&self) -> usize
+        ensures { result ≡ min (2 ^ 64 - 1) (length (entry self.now)) }
+    {
         self.front.len().saturating_add(self.back.len())
     }
 }

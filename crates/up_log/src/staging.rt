@@ -3,13 +3,15 @@ ghost use Rattle.std.specs.Prelude.{◌≡◌, ◌≢◌, ◌+◌, ◌≤◌, �
 ghost use Rattle.std.specs.Prelude.{IfOk, IfErr, IfSome, OnOk, IsTrue};
 ghost use Rattle.sqlite_disk.specs.Disk.{Only};
 ghost use Rattle.up_log.specs.Spelling.{batch, entry};
-ghost use Rattle.up_log.specs.Staging.{body_front, closed_body, HasBody, IsStagedTo, IsTouched};
+ghost use Rattle.up_log.specs.Logs.{IsUnusableLog};
+ghost use Rattle.up_log.specs.Staging.{body_front, closed_body, IsStagedTo, IsTouched, WritesBody};
 
 use crate::device::{settle, settles, write_on};
 use crate::fault::LogFault;
 use crate::spelled::Spelled;
 use crate::writing::put_word;
 use sqlite_disk::Disk;
+use std::alloc::AllocError;
 
 /// The number of bytes of a batch. `None` if it is more than a `usize` holds.
 fn size_of(entries: &[Spelled]) -> Option<usize>
@@ -23,8 +25,8 @@ fn size_of(entries: &[Spelled]) -> Option<usize>
     Some(size)
 }
 
-/// Makes room for what is put together of a block: all but the ends of entries that the encoding shares.
-fn reserve(room: &mut Vec<u8>, entries: &[Spelled]) -> Result<(), LogFault>
+/// Empties `room`, and makes it large enough for all of a block but the shared bodies.
+fn reserve(room: &mut Vec<u8>, entries: &[Spelled]) -> Result<(), AllocError>
     ensures { OnOk result (room.new.items ≡ []) }
 {
     let mut size: usize = 17;
@@ -32,21 +34,20 @@ fn reserve(room: &mut Vec<u8>, entries: &[Spelled]) -> Result<(), LogFault>
         size = size.saturating_add(logged.parts().0.len());
     }
     room.clear();
-    room.reserve(size)?;
-    Ok(())
+    room.reserve(size)
 }
 
-/// Makes room for what is put together of a block, and puts the beginning of the body there. Returns the number of
-/// bytes of the body, with the gate after it. The error is that memory ran out.
-pub(crate) fn begin_body(room: &mut Vec<u8>, entries: &[Spelled]) -> Result<usize, LogFault>
+/// Begins the body of a block in `room` with its two numbers. Returns how many bytes the body and the next gate have.
+/// `AllocError` if memory runs out, or if no `usize` holds that number.
+pub(crate) fn begin_body(room: &mut Vec<u8>, entries: &[Spelled]) -> Result<usize, AllocError>
     ensures size { IfOk result (λ size. size ≡ length (closed_body entries.now)) }
     ensures front { OnOk result (room.new.items ≡ body_front entries.now) }
 {
     let Some(size) = size_of(entries) else {
-        return Err(LogFault::Memory);
+        return Err(AllocError);
     };
     let Some(whole) = size.checked_add(9) else {
-        return Err(LogFault::Memory);
+        return Err(AllocError);
     };
     reserve(room, entries)?;
     put_word(room, size as u64)?;
@@ -54,9 +55,11 @@ pub(crate) fn begin_body(room: &mut Vec<u8>, entries: &[Spelled]) -> Result<usiz
     Ok(whole)
 }
 
-/// Puts bytes at the end. There is room for them already, so the error does not come.
+/// Puts bytes at the end of `room`, where `begin_body` has reserved what they take. The error, which does not come,
+/// isn't `Memory`, since the file may have changed.
 fn put(room: &mut Vec<u8>, bytes: &[u8]) -> Result<(), LogFault>
     ensures ok { OnOk result (room.new.items ≡ room.old.items ++ bytes.now) }
+    ensures fault { IfErr result (λ fault. IsUnusableLog fault → ⊥) }
     ensures memory { IfErr result (λ fault. fault ≢ LogFault.Memory) }
 {
     match room.extend_from_slice(bytes) {
@@ -65,9 +68,8 @@ fn put(room: &mut Vec<u8>, bytes: &[u8]) -> Result<(), LogFault>
     }
 }
 
-/// Puts an entry at the end of `room`, whose bytes belong at the place `at`. If the encoding shares the end of the
-/// entry, writes what is in `room`, and then that end, to the file. Returns the place where the bytes in `room` belong
-/// then.
+/// Puts an entry at the end of `room`, whose bytes belong at the place `at`. If it has a shared body, writes `room` and
+/// then that body. Returns the place of what is in `room` then.
 fn stage_entry<D: Disk>(
     disk: &mut D,
     at: usize,
@@ -80,6 +82,7 @@ fn stage_entry<D: Disk>(
         → IsTouched D.Disk start size first disk.new
         × IfOk result (λ next. IsStagedTo D.Disk start size
         (done ++ entry logged.now) first disk.new next room.new.items) }
+    ensures fault { IfErr result (λ fault. IsUnusableLog fault → ⊥) }
     ensures memory { IfErr result (λ fault. fault ≢ LogFault.Memory) }
 {
     let (front, back) = logged.parts();
@@ -100,7 +103,8 @@ fn write_body<D: Disk>(
     entries: &[Spelled],
 ) -> Result<(), LogFault>
     requires front { room.old.items ≡ body_front entries.now }
-    ensures whole { HasBody D.Disk gate entries.now disk.old disk.new result }
+    ensures whole { WritesBody D.Disk gate entries.now disk.old disk.new result }
+    ensures fault { IfErr result (λ fault. IsUnusableLog fault → ⊥) }
     ensures memory { IfErr result (λ fault. fault ≢ LogFault.Memory) }
 {
     let Some(mut at) = gate.checked_add(1) else {
@@ -114,7 +118,7 @@ fn write_body<D: Disk>(
     Ok(())
 }
 
-/// The same. After `Ok` all of the file is on the disk; also returns whether it is, even after an error.
+/// Does what `write_body` does, and syncs. Also returns whether all of the file is on the disk, even after an error.
 pub(crate) fn stage<D: Disk>(
     disk: &mut D,
     gate: usize,
@@ -122,10 +126,11 @@ pub(crate) fn stage<D: Disk>(
     entries: &[Spelled],
 ) -> (Result<(), LogFault>, bool)
     requires front { room.old.items ≡ body_front entries.now }
-    ensures whole { HasBody D.Disk gate entries.now disk.old disk.new result.0 }
+    ensures whole { WritesBody D.Disk gate entries.now disk.old disk.new result.0 }
     ensures synced { OnOk result.0 (IsTrue result.1) }
     ensures settled { IsTrue result.1 → Only (D.seen disk.new) (D.may_leave disk.new)
         × IsTrue (D.is_usable disk.new) }
+    ensures fault { IfErr result.0 (λ fault. IsUnusableLog fault → ⊥) }
     ensures memory { IfErr result.0 (λ fault. fault ≢ LogFault.Memory) }
 {
     let staged = match write_body(disk, gate, room, entries) {

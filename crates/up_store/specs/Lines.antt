@@ -35,10 +35,11 @@ IsLost line number = (line.done + line.count ≤ number) × (number < line.done 
 abbrev pub has_drawn : Progress → Entry → Progress
 has_drawn line change = record line { drawn = line.drawn ++ change ∷ []; waiting = line.waiting ++ change ∷ [] }
 
--- a sum that ends at the maximum of a count
+-- the sum of two counts, at most the largest count
 abbrev pub sum_within : ℕ → ℕ → ℕ
 sum_within m n = min (2 ^ 64 - 1) (m + n)
 
+-- the next count, at most the largest
 abbrev pub one_more : ℕ → ℕ
 one_more n = sum_within n 1
 

@@ -46,7 +46,7 @@ impl Histories {
 pub struct Store<D: Disk, N, J: Site, K: Chronicle> {
     pub(crate) line: Mutex<Line<J, K>>,
     pub(crate) log: Mutex<Held<D, J>>,
-    /// The memory in which whoever writes puts a batch together.
+    /// The memory in which whoever writes gathers the short parts of a batch.
     room: Mutex<Vec<u8>>,
     pub(crate) voids: Mutex<Option<Voids<D>>>,
     /// A change waits at the bell whose place is its number modulo `BELLS`.

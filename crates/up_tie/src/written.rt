@@ -1,5 +1,6 @@
 //! A log that is written.
 ghost use Rattle.std.specs.Prelude.{◌≡◌, ◌++◌, ◌∷◌, [], List, ℕ, length, true, false, IfOk, OnOk, OnErr};
+ghost use Rattle.std.specs.Prelude.{◌<◌, Err, IfSome, IsErr};
 ghost use Rattle.std.specs.Prelude.{IsTrue};
 ghost use Rattle.up_log.specs.Blocks.{written, IsBeforeOrAfter};
 ghost use Rattle.up_log.specs.Logs.{IsCleanLog, IsSettled, ReadsAt};
@@ -107,6 +108,11 @@ impl<D: Disk, J: Site> Written<D, J> {
             → OnOk result.1 (IsCleanLog D.Disk result.0.log
             → IsSettled D.Disk result.0.log setup batches
             × (result.0.log.is_broken ≡ false)) }
+        ensures crash { (setup : Numbers) (batches : List (List Logged)) (more : List Logged)
+            → ((c : List ℕ) → D.may_leave device c → IsBeforeOrAfter setup batches more c)
+            → place ≡ length (written setup batches)
+            → IsCleanLog D.Disk result.0.log → (c : List ℕ) → D.may_leave result.0.log.device c
+            → IsBeforeOrAfter setup batches more c }
         ensures broken { OnErr result.1 (IsTrue result.0.log.is_broken) }
     {
         let (log, result) = Log::resume(device, place);
@@ -129,9 +135,7 @@ impl<D: Disk, J: Site> Written<D, J> {
 
     /// The number of bytes of the log, which is the place of the next batch.
     pub fn end_place(&self) -> usize
-        ensures { (setup : Numbers) (batches : List (List Logged))
-            → IsSettled D.Disk self.now.log setup batches
-            → result ≡ length (written setup batches) }
+        ensures { result ≡ self.now.log.gate }
     {
         self.log.end_place()
     }
@@ -143,8 +147,8 @@ impl<D: Disk, J: Site> Written<D, J> {
         self.log.is_broken()
     }
 
-    /// The batch at a place of the file, and the place after it; `None` at the end. It changes nothing that contracts
-    /// say of the log, also after an error.
+    /// The batch at a place of the file, and the place after it; `None` at the end. The log is unchanged, also after an
+    /// error.
     pub fn batch_at(
         &mut self,
         alloc: Global,
@@ -157,6 +161,13 @@ impl<D: Disk, J: Site> Written<D, J> {
         ensures kept { (setup : Numbers) (batches : List (List Logged))
             → IsSettled D.Disk self.old.log setup batches
             → IsSettled D.Disk self.new.log setup batches }
+        ensures further { IfOk result (λ found. IfSome found (λ block.
+            (place < self.old.log.gate) × (place < block.1))) }
+        ensures gate { self.new.log.gate ≡ self.old.log.gate }
+        ensures broken { self.new.log.is_broken ≡ self.old.log.is_broken }
+        ensures clean { IsCleanLog D.Disk self.new.log → IsCleanLog D.Disk self.old.log }
+        ensures crash { (c : List ℕ) → D.may_leave self.new.log.device c
+            → D.may_leave self.old.log.device c }
         ensures same { (self.new.entries ≡ self.old.entries)
             × (self.new.is_tied ≡ self.old.is_tied) }
     {
@@ -164,8 +175,8 @@ impl<D: Disk, J: Site> Written<D, J> {
     }
 
     /// Appends changes to the log as one batch, and returns once the batch is on the disk. Then adds them to the
-    /// history. `Broken` before anything is written if the history has no room for them. After another error, the log's
-    /// state is that after the same error of `Log::append`, which also says what `room` is for.
+    /// history. `Broken` before anything is written if the history has no room for them. After an error of
+    /// `Log::append` the log is as that leaves it. `room` is what it is there.
     pub fn append<K: Chronicle>(
         &mut self,
         room: &mut Vec<u8>,
@@ -184,6 +195,15 @@ impl<D: Disk, J: Site> Written<D, J> {
           count = length batch.now.entries;
         }) }
         ensures err { OnErr result (self.new.entries ≡ self.old.entries) }
+        ensures crash { (setup : Numbers) (batches : List (List Logged))
+            → IsSettled D.Disk self.old.log setup batches
+            → (c : List ℕ) → D.may_leave self.new.log.device c
+            → IsBeforeOrAfter setup batches batch.now.entries c }
+        ensures open { IfOk result (λ _. self.new.log.is_broken ≡ false) }
+        ensures gate { IsTrue self.new.log.is_broken → self.new.log.gate ≡ self.old.log.gate }
+        ensures memory { result ≡ Err LogFault.Memory → self.new.log ≡ self.old.log }
+        ensures broken { IsTrue self.old.log.is_broken → IsErr result × (self.new ≡ self.old) }
+        ensures calm { IsCleanLog D.Disk self.new.log → IsCleanLog D.Disk self.old.log }
     {
         let place = self.front.len();
         if place.checked_add(batch.len() as u64).is_none() {
