@@ -583,6 +583,7 @@ def failed_syncs():
         with store.kept() as server, Lone(server) as client:
             gone = client.append(client.create(BODY), random.randbytes(BODY))
             path = client.create(64 << 20)
+            store.until_counted(client.uploads)
             with failing_syncs(server.process.pid):
                 for _ in range(3):
                     same(status_of_append(client, path, BODY), 503, "the status of a change while syncs fail")

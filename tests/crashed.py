@@ -254,9 +254,9 @@ class Client:
 # The lines of events.
 
 
-def lane_of(path):
+def lane_of(path, lanes=LANES):
     """The lane of an upload, by its path or its id."""
-    return int(path[-32:], 16) % LANES
+    return int(path[-32:], 16) % lanes
 
 
 class Told:

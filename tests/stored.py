@@ -97,8 +97,9 @@ class Store:
         return files_of(self.folder)
 
     def until_counted(self, uploads):
-        """Waits until all events of these uploads are counted as handed over, so that a kill repeats none."""
-        wanted = counts_of(uploads)
+        """Waits until all events of these uploads are counted as handed over. A kill then repeats none, and syncs that
+        fail are none of a count."""
+        wanted = counts_of(uploads, self.lanes)
         files = [self.path(f"handed.{lane}") for lane in range(len(wanted))]
         soon(lambda: [os.path.getsize(file) for file in files] == wanted, "all events are counted")
 
@@ -146,11 +147,11 @@ def files_of(folder):
     return found
 
 
-def counts_of(uploads):
+def counts_of(uploads, lanes=LANES):
     """How many events of these uploads each lane hands over."""
-    counts = [0] * LANES
+    counts = [0] * lanes
     for path, upload in uploads.items():
-        counts[lane_of(path)] += len(upload.events)
+        counts[lane_of(path, lanes)] += len(upload.events)
     return counts
 
 
