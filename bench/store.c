@@ -4,8 +4,8 @@
  *     store read FILE                   prints seconds; the bytes are dropped
  *
  * A batch is written after its closed gate, which is a byte, together with the next gate. It is synced, and then its
- * gate is opened by a write of one byte, and synced. The server's logs do the same, but for long bodies, which they write
- * piece by piece. It needs a C compiler on Linux.
+ * gate is opened by a write of one byte, and synced. The server's logs do the same, but for long bodies, which they
+ * write piece by piece. It needs a C compiler on Linux.
  */
 #define _GNU_SOURCE
 #include <fcntl.h>

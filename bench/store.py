@@ -3,9 +3,9 @@
 
     bench/store.py [--program PATH] [--rounds N] [--folder FOLDER] [--mebibytes N] [NAME..]
 
-It needs a C compiler, for its clients (bench/serve.c and bench/store.c), and Linux. FOLDER is where stores are made,
-each in a folder of its own that is removed after the run. It has to be on a real disk; by default it is a temporary
-folder next to this repository. Without `--program` it times the program of this tree.
+It needs a C compiler, for its clients (bench/serve.c, bench/store.c and bench/bare.c), and Linux. FOLDER is where
+stores are made, each in a folder of its own that is removed after the run. It has to be on a real disk; by default it
+is a temporary folder next to this repository. Without `--program` it times the program of this tree.
 
 In each of N rounds (by default 7) each work is done in each way, in turn:
 
@@ -19,7 +19,8 @@ In each of N rounds (by default 7) each work is done in each way, in turn:
 
 The writes alone are those of a log: a batch after a closed gate, a sync, the gate, a sync. For `small` one writer makes
 them with one change in each batch, and with 64. For `many` it makes them with one body in each batch, and with four;
-a batch of the server has three. For `restart` only the file of the log is read.
+a batch of the server has three. A bare server in C receives the bodies too, without HTTP, and makes the same writes.
+For `restart` only the file of the log is read.
 
 A line of the table is a work done in one way: the median, least and most, and the median as a fraction of that of the
 first way. NAME is a work's name, to do only that one.
@@ -54,7 +55,7 @@ class Bench:
 
     def __init__(self, up, place, clients, mebibytes):
         self.up, self.place, self.mebibytes = up, place, mebibytes
-        self.client, self.writer = compiled("serve", clients), compiled("store", clients)
+        self.client, self.writer, self.bare = (compiled(name, clients) for name in ("serve", "store", "bare"))
         self.filled = None
 
     @contextlib.contextmanager
@@ -72,10 +73,15 @@ class Bench:
     def written(self, batches, count):
         """The seconds that a file takes for this many batches of this many bytes."""
         with self.fresh() as file:
-            return self.said("write", file, batches, count)
+            return self.said(self.writer, "write", file, batches, count)
+
+    def received(self, connections, bodies):
+        """The seconds that a bare server takes to receive and write so many bodies over each of so many connections."""
+        with self.fresh() as file:
+            return self.said(self.bare, file, connections, bodies, OF_BATCH)
 
     def said(self, *words):
-        ran = subprocess.run([self.writer, *map(str, words)], stdout=subprocess.PIPE, check=True, text=True)
+        ran = subprocess.run([*map(str, words)], stdout=subprocess.PIPE, check=True, text=True)
         return float(ran.stdout)
 
     def full(self):
@@ -100,6 +106,10 @@ def written_bodies(bench):
     return BODIES / bench.written(BODIES, OF_BLOCK + OF_CHANGE + MIB)
 
 
+def bare_bodies(bench):
+    return BODIES / bench.received(1, BODIES)
+
+
 def held_bodies(bench):
     with bench.served(has_store=False) as client:
         return BODIES / client.timed("append", 1, BODIES, MIB)
@@ -117,6 +127,10 @@ def written_many(bench, together=1):
 
 def written_by_four(bench):
     return written_many(bench, OF_BATCH)
+
+
+def bare_many(bench):
+    return MANY * OF_EACH / bench.received(MANY, OF_EACH)
 
 
 def held_many(bench):
@@ -186,7 +200,7 @@ def restarted(bench, prepare):
 def read_alone(bench, prepare):
     file = os.path.join(bench.full()[0], "log")
     prepare(file)
-    return bench.said("read", file)
+    return bench.said(bench.writer, "read", file)
 
 
 def warm_restart(bench):
@@ -205,14 +219,14 @@ def cold_read(bench):
     return read_alone(bench, forget)
 
 
-ALONE = "the writes alone"
+ALONE, BARE = "the writes alone", "a bare server in C"
 WORKS = {
     "bodies": ("1 MiB over one connection, MiB/s", [
-        ("with a store", stored_bodies), (ALONE, written_bodies), ("without a store", held_bodies),
+        ("with a store", stored_bodies), (ALONE, written_bodies), (BARE, bare_bodies), ("without a store", held_bodies),
     ]),
     "many": ("1 MiB over 16 connections, MiB/s", [
         ("with a store", stored_many), (f"{ALONE}, one a batch", written_many),
-        (f"{ALONE}, 4 a batch", written_by_four), ("without a store", held_many),
+        (f"{ALONE}, 4 a batch", written_by_four), (BARE, bare_many), ("without a store", held_many),
     ]),
     "small": ("200 bytes over 64 connections, 1/s", [
         ("with a store", stored_small), (f"{ALONE}, one a batch", written_small),
