@@ -11,6 +11,7 @@ import argparse
 import os
 import subprocess
 import sys
+import tempfile
 import time
 
 sys.path.insert(0, os.path.join(os.path.dirname(os.path.dirname(os.path.abspath(__file__))), "tests"))
@@ -70,15 +71,17 @@ ROWS = [
 
 def best_of(program, runs, text, row, count):
     """The best seconds of this many runs of the program, over a text that each of `count` rows has for itself."""
-    given = f"start {text}\n" + f"{row}\n" * count
     best = None
-    for _ in range(runs):
-        start = time.monotonic()
-        done = subprocess.run([program], input=given, capture_output=True, text=True, check=True)
-        seconds = time.monotonic() - start
-        if done.stdout != f"{count} rows, of which 0 differ\n":
-            sys.exit(f"bench: {row}: {done.stdout!r}")
-        best = seconds if best is None else min(best, seconds)
+    with tempfile.NamedTemporaryFile("w", suffix=".rows") as given:
+        given.write(f"start {text}\n" + f"{row}\n" * count)
+        given.flush()
+        for _ in range(runs):
+            start = time.monotonic()
+            done = subprocess.run([program, given.name], capture_output=True, text=True, check=True)
+            seconds = time.monotonic() - start
+            if done.stdout != f"{count} rows, of which 0 differ\n":
+                sys.exit(f"bench: {row}: {done.stdout!r}")
+            best = seconds if best is None else min(best, seconds)
     return best
 
 
@@ -91,7 +94,7 @@ def main():
     words = argparse.ArgumentParser()
     words.add_argument("--runs", type=int, default=5, help="how many runs, 1 or more")
     runs = words.parse_args().runs
-    program, missed = build("up_test_rows"), []
+    program, missed = build("up_test_data"), []
     for name, message, pieces, (bytes_told, pairs), goal in ROWS:
         copies = max(1, SIZE // len(message))
         text = escaped(message, quotes=False) * copies

@@ -79,11 +79,11 @@ def run(program, path):
 
 def work_once(program, row, changes):
     """The seconds that a book takes for this row, which makes this many changes, and the peak memory in bytes."""
-    with tempfile.TemporaryFile() as given, tempfile.TemporaryFile() as told:
+    with tempfile.NamedTemporaryFile(suffix=".rows") as given, tempfile.TemporaryFile() as told:
         given.write(f"{row} => {changes}\n".encode())
-        given.seek(0)
+        given.flush()
         start = time.monotonic()
-        worker = subprocess.Popen([program], stdin=given, stdout=told)
+        worker = subprocess.Popen([program, given.name], stdout=told)
         _, status, usage = os.wait4(worker.pid, 0)
         seconds = time.monotonic() - start
         told.seek(0)
@@ -121,7 +121,7 @@ def main():
     words.add_argument("--mib", type=int, default=1024, help="how much is appended, 1 to 1024")
     words.add_argument("--messages", type=int, default=10_000, help="how many small messages, 1 to 10000")
     given = words.parse_args()
-    program, rows = build(), build("up_test_rows")
+    program, rows = build(), build("up_test_data")
     with tempfile.TemporaryDirectory() as folder:
         path = os.path.join(folder, "talk")
         with open(path, "wb") as file:

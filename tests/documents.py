@@ -24,7 +24,7 @@ TOP = pathlib.Path(ROOT)
 CRATES = TOP / "crates"
 
 # Crates that have no table of modules: programs that try others, tests, and the texts for these.
-UNLISTED = {"up_test_text", "up_example", "up_test_refusals", "up_test_rows", "up_test_talks"}
+UNLISTED = {"up_test_text", "up_example", "up_test_refusals", "up_test_rows", "up_test_talks", "up_test_data"}
 
 # Files of definitions that docs/ARCHITECTURE.md names together, since no public contract shows their content.
 HIDDEN = {"Kept", "Fits", "Stored", "Padded", "Inside", "Steps", "Shapes", "StateCode", "BoardViewCode", "TiedCode", "LawfulOnce"}
@@ -34,8 +34,8 @@ ENDLESS = {"max-length", "max-finish"}
 
 # The files of drawn data, each with the script that draws it.
 DRAWN = {
-    "crates/up_test_talks/data/drawn": "tests/draw_talks.py",
-    "crates/up_test_rows/data/drawn": "tests/draw_rows.py",
+    "crates/up_test_data/data/drawn.talks": "tests/draw_talks.py",
+    "crates/up_test_data/data/drawn.rows": "tests/draw_rows.py",
 }
 
 

@@ -5,8 +5,8 @@ result.
     tests/draw_rows.py [--seed N] [--drawn N]
     tests/draw_rows.py --hold FILE
 
-The rows are printed in the form that the program of crates/up_test_rows reads. Without options they are
-crates/up_test_rows/data/drawn. The expected results come from the plain reader of tests/messages.py, which takes a
+The rows are printed in the form that crates/up_test_rows reads. Without options they are
+crates/up_test_data/data/drawn.rows. The expected results come from the plain reader of tests/messages.py, which takes a
 whole input at once, line by line, and knows nothing of the server's code. With --hold the script compares the rows of a
 file that read messages with this reader, and prints those that the reader reads in another way.
 """

@@ -1,7 +1,7 @@
 #!/usr/bin/env python3
 """Refuses `up` memory, one request after another, and compares what it then does with a plain model of it.
 
-    tests/memory.py [--program PATH] [--refusals PATH] [NAME..]
+    tests/memory.py [--program PATH] [--data PATH] [NAME..]
 
 It needs Python 3 and a C compiler, for tests/memory.c. That library is loaded with the program, counts its requests for
 memory, and refuses those that it is told to refuse. If there is no compiler, the script says so and skips everything.
@@ -22,9 +22,9 @@ then those after which no id was taken, then those after which an id was taken. 
 conversation, and the id of the next creation shows which of the other two it was. No request of a lane is answered by a
 503.
 
-In the last case `up_test_refusals` (crates/up_test_refusals) replaces `up`. It makes single calls, and prints for each
-the state before it, its result, and the state after it. If no request is refused, that is the stored `stdout`. If
-requests are refused (one, four in a row, or all from some request on), it is still the same, with additional calls that
+In the last case `up_test_data` (crates/up_test_data) replaces `up`. It makes the calls of crates/up_test_refusals, and
+prints for each the state before it, its result, and the state after it. If no request is refused, that is the end of
+its stored `stdout`. If requests are refused (one, four in a row, or all from some request on), it is still the same, with additional calls that
 ran out of memory: each of these comes before the same call as it is stored, and leaves the state as it was. The program
 may end there, with status 1 and `out of memory`.
 
@@ -811,10 +811,12 @@ def make_calls(number, count, tally, wanting):
     """Makes the calls with `count` requests refused from this one on, and compares them with the stored ones. Counts in
     `wanting` the calls that ran out of memory."""
     memory.begin(number, number and min(number + count - 1, LAST))
-    folder = os.path.join(ROOT, "crates", "up_test_refusals")
-    with open(os.path.join(folder, "stdin"), "rb") as given, open(os.path.join(folder, "stdout")) as stored:
-        left = calls_in(stored.read())
-        ran = subprocess.run([refusals], stdin=given, capture_output=True, env=memory.environment, timeout=MAX_SECONDS)
+    folder = os.path.join(ROOT, "crates", "up_test_data")
+    with open(os.path.join(folder, "stdout")) as stored:
+        text = stored.read()
+    left = calls_in(text[text.index("before: ") :])
+    calls = os.path.join(folder, "data", "single.calls")
+    ran = subprocess.run([data, calls], capture_output=True, env=memory.environment, timeout=MAX_SECONDS)
     refused = 0
     for call in calls_in(ran.stdout.decode()):
         same(bool(left), True, f"whether there is a call for {call.made}")
@@ -827,7 +829,7 @@ def make_calls(number, count, tally, wanting):
         for field, found, is_wanted in zip(Call._fields, call, wanted):
             same(found, is_wanted, f"`{field}` of {call.made}")
     ended = bool(left)
-    same((ran.returncode, ran.stderr.decode()), (1, f"up_test_refusals: {WANT}\n") if ended else (0, ""), "the end")
+    same((ran.returncode, ran.stderr.decode()), (1, f"up_test_data: {WANT}\n") if ended else (0, ""), "the end")
     shown = refused + ended if count == 1 else max(refused, ended)
     same(shown <= memory.refused, True, f"whether {memory.refused} refusals show in {refused} calls and {ended} ends")
     tally["runs"] += 1
@@ -852,7 +854,7 @@ CASES = [
     single_calls,
 ]
 
-program, refusals, names = words_of(__doc__, refusals="up_test_refusals")
+program, data, names = words_of(__doc__, data="up_test_data")
 if shutil.which("cc") is None:
     sys.exit(try_all([], names, ["all cases, for there is no C compiler (Debian's `gcc`, with `libc6-dev`)"]))
 with tempfile.TemporaryDirectory() as folder:

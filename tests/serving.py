@@ -49,10 +49,11 @@ def build(name="up", root=ROOT):
     with contextlib.suppress(FileNotFoundError):
         os.remove(program)
     words = ["rt", "run", *FIRST_WORDS.get(name, [])]
-    with open(os.path.join(folder, "stdin"), "rb") as given:
+    given = os.path.join(folder, "stdin")
+    with open(given if os.path.exists(given) else os.devnull, "rb") as given:
         ran = subprocess.run(words, cwd=folder, stdin=given, stdout=subprocess.DEVNULL, stderr=subprocess.DEVNULL)
     if ran.returncode != 0 or not os.path.exists(program):
-        sys.exit(f"{name} was not built, or failed: `{' '.join(words)} < stdin` in {folder} says why")
+        sys.exit(f"{name} was not built, or failed: `{' '.join(words)} < {given.name}` in {folder} says why")
     return program
 
 

@@ -2,7 +2,6 @@
 ghost use Rattle.std.specs.Prelude.{◌≡◌, length, All, []};
 ghost use Rattle.up_dispatch.specs.Parts.{IsNamed};
 
-use crate::conversations::talk;
 use crate::fifteen::status_of;
 use crate::requests::{append, creation};
 use std::alloc::Global;
@@ -10,10 +9,10 @@ use std::marker::{Brand, Send};
 use std::process::Abort;
 use std::sync::Wait;
 use std::test::Fail;
-use up_dispatch::{Board, BoardParts, Counting, Keeper, MAX_SEATS, Naming, Seat, Seated};
+use up_dispatch::{Board, BoardParts, Keeper, MAX_SEATS, Naming, Seat, Seated};
 use up_events::{Event, Id};
 use up_headers::Request;
-use up_hooks::{Outcome, PostHook, PreHooks, new_recorders};
+use up_hooks::{Outcome, PostHook, new_recorders};
 use up_lanes::{Lane, Refill, StepEnd};
 use up_machine::{Asked, Plan, Refusal};
 
@@ -169,38 +168,4 @@ fn closed<B: Naming, R: Wait + Abort>(rt: &R, alloc: Global, parts: BoardParts) 
 fn a_closed_board_answers_and_changes_nothing(rt: HostRuntime) -> Result<(), Fail> {
     let parts = BoardParts::new(rt.alloc(), 2, 1)?;
     closed::<Brand, _>(&rt, rt.alloc(), parts)
-}
-
-/// The response to OPTIONS of a server whose uploads have at most one byte.
-const ABILITIES: &str =
-    "HTTP/1.1 204 No Content\r\nTus-Resumable: 1.0.0\r\nCache-Control: no-store\r\n\
-    Tus-Version: 1.0.0\r\nTus-Extension: creation,creation-defer-length,termination,concatenation\r\n\
-    Tus-Max-Size: 1\r\n\r\n";
-
-/// A board of two lanes whose uploads have at most one byte.
-fn smallest<B: Naming, R: Wait + Abort>(
-    rt: &R,
-    alloc: Global,
-    parts: BoardParts,
-) -> Result<(), Fail>
-    requires named { IsNamed B.name B.parts B.queue B.lanes parts }
-    requires lanes { length parts.queues ≡ 2 }
-    requires sized { B.max_size ≡ 1 }
-{
-    let (board, takes) = Board::<B>::new(alloc, parts, 1)?;
-    let Some(mut seat) = board.seat(rt) else {
-        return Err("a seat".into());
-    };
-    let mut keeper = Seated::new(rt, &board, &mut seat);
-    let hooks = PreHooks::new(Vec::new(alloc));
-    let asked = b"OPTIONS * HTTP/1.1\r\n\r\n";
-    let (_, written) = talk(alloc, &mut keeper, &hooks, &mut Counting::new(), asked);
-    assert_eq!(rt; (takes.len(), str::from_utf8(&written)?), (2, ABILITIES));
-    Ok(())
-}
-
-#[test]
-fn a_board_of_the_smallest_uploads(rt: HostRuntime) -> Result<(), Fail> {
-    let parts = BoardParts::new(rt.alloc(), 2, 1)?;
-    smallest::<Brand, _>(&rt, rt.alloc(), parts)
 }

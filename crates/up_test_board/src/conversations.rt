@@ -97,14 +97,6 @@ fn has_four<K: Keeper, I: Ids, R: Abort>(
     hold(rt, alloc, keeper, ids, HEAD, (Ended::Closed, standing))
 }
 
-#[test]
-fn keeps_what_came_of_a_cut_append(rt: HostRuntime) -> Result<(), Fail> {
-    let mut book = Book::new(rt.alloc(), 2, MAX_SIZE)?;
-    let mut ids = Counting::new();
-    breaks_off(&rt, rt.alloc(), &mut Lent::new(&mut book), &mut ids)?;
-    has_four(&rt, rt.alloc(), &mut Lent::new(&mut book), &mut ids)
-}
-
 /// The upload is created from one seat and requested from the other, with one source of ids.
 fn talk_from_two_seats<B: Naming, R: Wait + Abort>(
     rt: &R,

@@ -1,8 +1,5 @@
-//! Conversations whose streams break off or are interrupted at any place, and the maximum that one conversation takes:
-//! the responses, how it ends, and what is kept.
-ghost use Rattle.std.specs.Prelude.{◌≤◌};
-
-use std::alloc::{AllocError, Global};
+//! Conversations whose streams break off or are interrupted at any place: the responses, how they end, and what is kept.
+use std::alloc::Global;
 use std::io::{self, BufReader, Read};
 use std::process::Abort;
 use std::test::Fail;
@@ -52,49 +49,6 @@ const CONTINUE: &str = "HTTP/1.1 100 Continue\r\n\r\n";
 const NOT_FOUND: &str =
     "HTTP/1.1 404 Not Found\r\nTus-Resumable: 1.0.0\r\nCache-Control: no-store\r\n\
     Content-Type: text/plain\r\nContent-Length: 12\r\n\r\n21 NotFound\n";
-
-const OPTIONS: &str = "OPTIONS * HTTP/1.1\r\n\r\n";
-
-/// The response to OPTIONS, without the empty line.
-const ABILITIES: &str =
-    "HTTP/1.1 204 No Content\r\nTus-Resumable: 1.0.0\r\nCache-Control: no-store\r\n\
-    Tus-Version: 1.0.0\r\nTus-Extension: creation,creation-defer-length,termination,concatenation\r\n\
-    Tus-Max-Size: 1048576\r\n";
-
-const HEAD_TOO_LARGE: &str =
-    "HTTP/1.1 431 Request Header Fields Too Large\r\nTus-Resumable: 1.0.0\r\nCache-Control: no-store\r\n\
-    Content-Type: text/plain\r\nContent-Length: 15\r\nConnection: close\r\n\r\n2 HeadTooLarge\n";
-
-const BAD_FRAMING: &str =
-    "HTTP/1.1 400 Bad Request\r\nTus-Resumable: 1.0.0\r\nCache-Control: no-store\r\n\
-    Content-Type: text/plain\r\nContent-Length: 13\r\nConnection: close\r\n\r\n3 BadFraming\n";
-
-const UNKNOWN_CODING: &str =
-    "HTTP/1.1 501 Not Implemented\r\nTus-Resumable: 1.0.0\r\nCache-Control: no-store\r\n\
-    Content-Type: text/plain\r\nContent-Length: 16\r\nConnection: close\r\n\r\n4 UnknownCoding\n";
-
-const BODY_TOO_LARGE: &str =
-    "HTTP/1.1 413 Payload Too Large\r\nTus-Resumable: 1.0.0\r\nCache-Control: no-store\r\n\
-    Content-Type: text/plain\r\nContent-Length: 15\r\nConnection: close\r\n\r\n5 BodyTooLarge\n";
-
-/// The framing of a message, and the response to it.
-const FRAMINGS: [(&str, &str); 6] = [
-    ("Content-Length: +5\r\n\r\nabcde", BAD_FRAMING),
-    ("Content-Length: 5, 5\r\n\r\nabcde", BAD_FRAMING),
-    (
-        "Content-Length: 5\r\nContent-Length: 5\r\n\r\nabcde",
-        BAD_FRAMING,
-    ),
-    (
-        "Transfer-Encoding: gzip, chunked\r\n\r\n0\r\n\r\n",
-        UNKNOWN_CODING,
-    ),
-    (
-        "Transfer-Encoding: chunked\r\n\r\nFFFFFFFF\r\n",
-        BODY_TOO_LARGE,
-    ),
-    ("Transfer-Encoding: chunked\r\n\r\nzz\r\n", BAD_FRAMING),
-];
 
 /// Room for two replies.
 const ROOM: usize = 1024;
@@ -246,83 +200,5 @@ fn takes_one_byte_at_a_time_as_all_at_once(rt: HostRuntime) -> Result<(), Fail> 
         let mut drops = Input::new(BufReader::new(rt.alloc(), Dripping { bytes })?);
         hold(&rt, rt.alloc(), &mut drops, 0, wanted, 3)?;
     }
-    Ok(())
-}
-
-/// The text, repeated, between two others.
-fn repeated(
-    alloc: Global,
-    before: &str,
-    text: &str,
-    times: u64,
-    behind: &str,
-) -> Result<String, AllocError> {
-    let mut whole = String::from_str(alloc, before)?;
-    for _ in 0..times {
-        whole.push_str(text)?;
-    }
-    whole.push_str(behind)?;
-    Ok(whole)
-}
-
-/// Serves a request whose head has this number of bytes, and checks the reply.
-fn hold_head(rt: &impl Abort, alloc: Global, size: u64, reply: &str) -> Result<(), Fail>
-    requires { 27 ≤ size }
-{
-    let start = "OPTIONS * HTTP/1.1\r\nX: ";
-    let head = repeated(alloc, start, "a", size - 27, "\r\n\r\n")?;
-    assert_eq!(rt; head.len() as u64, size);
-    let mut source = Tape::new(head.as_bytes(), 0, false);
-    let wanted = ([reply, ""], (Ended::Closed, 0, None));
-    hold(rt, alloc, &mut source, 0, wanted, size)
-}
-
-#[test]
-fn takes_a_head_of_16384_bytes_and_no_longer_one(rt: HostRuntime) -> Result<(), Fail> {
-    let abilities = format!(in rt.alloc(); "{ABILITIES}\r\n")?;
-    hold_head(&rt, rt.alloc(), 16_384, abilities.as_str())?;
-    hold_head(&rt, rt.alloc(), 16_385, HEAD_TOO_LARGE)
-}
-
-/// Serves an append of five bytes with this framing, and checks the reply.
-fn hold_framing(rt: &impl Abort, alloc: Global, framing: &str, reply: &str) -> Result<(), Fail> {
-    let start = "PATCH /files/00000000000000000000000000000001 HTTP/1.1\r\nHost: a\r\n\
-        Tus-Resumable: 1.0.0\r\n";
-    let message = format!(in alloc; "{start}{framing}")?;
-    let mut source = Tape::new(message.as_bytes(), 0, false);
-    let wanted = ([reply, ""], (Ended::Closed, 0, None));
-    hold(rt, alloc, &mut source, 0, wanted, message.len() as u64)
-}
-
-#[test]
-fn closes_at_a_message_that_is_framed_wrongly(rt: HostRuntime) -> Result<(), Fail> {
-    for (framing, reply) in FRAMINGS {
-        hold_framing(&rt, rt.alloc(), framing, reply)?;
-    }
-    let chunked = "Transfer-Encoding: chunked\r\n\r\n5;";
-    let long = repeated(rt.alloc(), chunked, "x", 253, "\r\n")?;
-    hold_framing(&rt, rt.alloc(), long.as_str(), BAD_FRAMING)
-}
-
-/// 10,001 requests, and the replies to all but the last.
-fn many(alloc: Global) -> Result<(String, String), AllocError> {
-    let requests = repeated(alloc, "", OPTIONS, 10_001, "")?;
-    let each = format!(in alloc; "{ABILITIES}\r\n")?;
-    let last = format!(in alloc; "{ABILITIES}Connection: close\r\n\r\n")?;
-    let replies = repeated(alloc, "", each.as_str(), 9_999, last.as_str())?;
-    Ok((requests, replies))
-}
-
-#[test]
-fn closes_with_the_ten_thousandth_reply(rt: HostRuntime) -> Result<(), Fail> {
-    let (requests, replies) = many(rt.alloc())?;
-    let mut source = Tape::new(requests.as_bytes(), 0, false);
-    let mut sink = Slip::new(rt.alloc(), replies.len(), 0)?;
-    let left = serve(rt.alloc(), &mut source, &mut sink)?;
-    assert!(rt; sink.bytes() == replies.as_bytes());
-    assert_eq!(rt;
-        (left, source.rest()),
-        ((Ended::Closed, 0, None), OPTIONS.as_bytes())
-    );
     Ok(())
 }

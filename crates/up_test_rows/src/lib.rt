@@ -1,8 +1,8 @@
-//! Checks messages, responses and requests, courses of requests to a book, and command lines against the expected
-//! results. The rows are read from standard input, and then from the files on the command line.
+//! Compares messages, responses and requests, courses of requests to a book, and command lines with the expected
+//! results, which are rows of a text. `up_test_data` reads the texts.
 //!
 //! A line that is empty or begins with `#` is ignored. Each other line is a mark with a text. A row also has an arrow
-//! and, after it, the expected result. For each input, one line is printed: the number of rows, and how many of them
+//! and, after it, the expected result. For each text, one line is printed: the number of rows, and how many of them
 //! differ. Before it, there is a line for each row that differs, with its line number.
 //!
 //! For single messages, responses and requests:
@@ -82,12 +82,10 @@ mod row_fault;
 mod rows;
 
 use crate::rows::Rows;
-use std::env::{self, Env};
-use std::fs::{self, Files};
 use std::io;
 use up_machine::{post_finish_is_asked, refusals_of_plans_are_kept};
 
-/// Checks the row of a line, if it has one, against its expected result, and prints the difference. Returns whether
+/// Compares the row of a line, if it has one, with its expected result, and prints the difference. Returns whether
 /// there is one.
 fn hold_line(
     rt: &(impl Print + AllocGlobal),
@@ -102,7 +100,7 @@ fn hold_line(
     Ok(true)
 }
 
-/// Checks the rows of a text against their expected results.
+/// Compares the rows with their expected results.
 fn hold_all(rt: &(impl Print + AllocGlobal), rows: &mut Rows, text: &str) -> io::Result<()> {
     let (mut count, mut differing) = (0u64, 0u64);
     for (before, line) in text.lines().enumerate() {
@@ -113,37 +111,14 @@ fn hold_all(rt: &(impl Print + AllocGlobal), rows: &mut Rows, text: &str) -> io:
     println!(rt; "{count} rows, of which {differing} differ")
 }
 
-fn hold_input(rt: &(impl Input + Print + AllocGlobal), rows: &mut Rows) -> io::Result<()> {
-    let text = io::read_to_string(rt.alloc(), rt.reader())?;
-    hold_all(rt, rows, text.as_str())
-}
-
-fn hold_file(
-    rt: &(impl Files + Print + AllocGlobal),
-    rows: &mut Rows,
-    name: &str,
-) -> io::Result<()> {
-    let text = fs::read_to_string(rt, name)?;
-    hold_all(rt, rows, text.as_str())
-}
-
-fn hold_each(
-    rt: &(impl Env + Files + Input + Print + AllocGlobal),
-    rows: &mut Rows,
-) -> io::Result<()> {
-    hold_input(rt, rows)?;
-    for name in env::args(rt)?.skip(1) {
-        hold_file(rt, rows, name.as_str())?;
-    }
-    Ok(())
-}
-
-fn main(rt: HostRuntime) -> io::Result<()> {
+/// Compares the rows of a text with their expected results, and prints how many differ. If memory runs out before the
+/// first row, that is printed instead. An error if nothing can be printed, or if memory runs out later.
+pub fn hold_rows(rt: &(impl Print + AllocGlobal), text: &str) -> io::Result<()> {
     // Laws, which do nothing when they run.
     refusals_of_plans_are_kept();
     post_finish_is_asked();
     match Rows::new(rt.alloc()) {
-        Ok(mut rows) => hold_each(&rt, &mut rows),
+        Ok(mut rows) => hold_all(rt, &mut rows, text),
         Err(fault) => println!(rt; "{fault}"),
     }
 }

@@ -1,5 +1,4 @@
-//! Checks whole conversations with the server against the expected results. They are read from standard input, and then
-//! from the files on the command line.
+//! Compares whole conversations with the server with the expected results. `up_test_data` reads their texts.
 //!
 //! Each talk is served by `replay` with a server of its own, and has one line of output: its name and `same`, or
 //! `differs` with the first line that differs from the expected one. It is served again by a book alone, without
@@ -40,10 +39,10 @@ use crate::comparison::compare;
 use crate::reading::talks_of;
 use crate::serving::{Served, serve};
 use crate::talk::Talk;
+use std::io;
 use std::marker::Sync;
 use std::sync::Wait;
 use std::thread::Threads;
-use std::{fs, io};
 
 /// Prints how the result of a talk compares with the expected one.
 fn tell(rt: &(impl Print + AllocGlobal), talk: &Talk, served: &Served) -> io::Result<()> {
@@ -59,8 +58,12 @@ fn hold(rt: &(impl Print + AllocGlobal + Threads + Wait + Sync), mut talk: Talk)
     tell(rt, &talk, &served)
 }
 
-/// Checks the talks of a text, in order, or prints which of its lines cannot be read.
-fn hold_all(rt: &(impl Print + AllocGlobal + Threads + Wait + Sync), text: &str) -> io::Result<()> {
+/// Serves the talks of a text in order, and prints how each compares with its expected result. If a line cannot be read,
+/// this is printed instead. An error if nothing can be printed, or if memory runs out.
+pub fn hold_talks(
+    rt: &(impl Print + AllocGlobal + Threads + Wait + Sync),
+    text: &str,
+) -> io::Result<()> {
     match talks_of(rt.alloc(), text) {
         Ok(talks) => {
             for talk in talks {
@@ -70,14 +73,4 @@ fn hold_all(rt: &(impl Print + AllocGlobal + Threads + Wait + Sync), text: &str)
         }
         Err(bad) => println!(rt; "{bad}"),
     }
-}
-
-fn main(rt: HostRuntime) -> io::Result<()> {
-    let text = io::read_to_string(rt.alloc(), rt.reader())?;
-    hold_all(&rt, text.as_str())?;
-    for name in std::env::args(&rt)?.skip(1) {
-        let text = fs::read_to_string(&rt, name.as_str())?;
-        hold_all(&rt, text.as_str())?;
-    }
-    Ok(())
 }

@@ -1,6 +1,6 @@
-//! Calls those functions of the crates whose contracts say what holds if memory runs out, according to the rows of
-//! standard input, and prints the state before and after each call. `tests/memory.py` makes the program's requests for
-//! memory fail.
+//! Calls those functions of the crates whose contracts say what holds if memory runs out, according to the rows of a
+//! text, and prints the state before and after each call. `up_test_data` reads the text, and `tests/memory.py` makes the
+//! program's requests for memory fail.
 //!
 //! A line that is empty or begins with `#` is ignored. A row is:
 //!
@@ -17,7 +17,7 @@
 //!
 //! For each call there are three lines: the state before it, the call with its result, and the state after it. If
 //! memory runs out in a call, the call is made again, a few times. If memory runs out anywhere else, no line of that
-//! call is printed, and the program ends with status 1. Printing takes no memory.
+//! call is printed, and the calls end with an error. Printing takes no memory.
 #![tactic(auto)]
 
 mod bench;
@@ -29,7 +29,6 @@ mod words;
 use crate::bench::Bench;
 use std::alloc::Global;
 use std::io;
-use std::process::ExitCode;
 use std::sync::Wait;
 
 /// Makes the call of each row.
@@ -50,19 +49,9 @@ fn call_rows(
     Ok(())
 }
 
-/// Makes the calls of all rows.
-fn call_all(rt: &(impl Input + Print + AllocGlobal + Wait)) -> io::Result<()> {
-    let text = io::read_to_string(rt.alloc(), rt.reader())?;
+/// Makes the calls of all rows of a text, and prints them. An error if nothing can be printed, or if memory runs out
+/// outside a call.
+pub fn call_all(rt: &(impl Print + AllocGlobal + Wait), text: &str) -> io::Result<()> {
     let mut bench = Bench::new(rt.alloc())?;
-    call_rows(rt, rt.alloc(), &mut bench, text.as_str())
-}
-
-fn main(rt: HostRuntime) -> io::Result<ExitCode> {
-    match call_all(&rt) {
-        Ok(()) => Ok(ExitCode::SUCCESS),
-        Err(error) => {
-            eprintln!(rt; "up_test_refusals: {error}")?;
-            Ok(ExitCode::FAILURE)
-        }
-    }
+    call_rows(rt, rt.alloc(), &mut bench, text)
 }
