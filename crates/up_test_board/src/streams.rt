@@ -1,4 +1,5 @@
-//! Conversations whose streams break off or are interrupted at any place: the responses, how they end, and what is kept.
+//! Conversations whose streams break off or are interrupted at any place: the responses, how they end, and what is
+//! kept.
 use std::alloc::Global;
 use std::io::{self, BufReader, Read};
 use std::process::Abort;

@@ -1,6 +1,6 @@
 //! Calls those functions of the crates whose contracts say what holds if memory runs out, according to the rows of a
-//! text, and prints the state before and after each call. `up_test_data` reads the text, and `tests/memory.py` makes the
-//! program's requests for memory fail.
+//! text, and prints the state before and after each call. `up_test_data` reads the text, and `tests/memory.py` makes
+//! its requests for memory fail.
 //!
 //! A line that is empty or begins with `#` is ignored. A row is:
 //!

@@ -58,8 +58,8 @@ fn hold(rt: &(impl Print + AllocGlobal + Threads + Wait + Sync), mut talk: Talk)
     tell(rt, &talk, &served)
 }
 
-/// Serves the talks of a text in order, and prints how each compares with its expected result. If a line cannot be read,
-/// this is printed instead. An error if nothing can be printed, or if memory runs out.
+/// Serves the talks of a text in order, and prints how each compares with its expected result. If a line cannot be
+/// read, this is printed instead. An error if nothing can be printed, or if memory runs out.
 pub fn hold_talks(
     rt: &(impl Print + AllocGlobal + Threads + Wait + Sync),
     text: &str,
