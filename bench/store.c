@@ -1,11 +1,12 @@
 /* What bench/store.py compares a stored server with: the writes of its log alone, and the reading of a file.
  *
- *     store write FILE BATCHES BYTES    prints seconds; writes this many batches of this many bytes
- *     store read FILE                   prints seconds; the bytes are dropped
+ *     store write FILE BATCHES BYTES PLACES    prints seconds; writes this many batches of this many bytes
+ *     store read FILE                          prints seconds; the bytes are dropped
  *
  * A batch is written after its closed gate, which is a byte, together with the next gate. It is synced, and then its
  * gate is opened by a write of one byte, and synced. The server's logs do the same, but for long bodies, which they
- * write piece by piece. It needs a C compiler on Linux.
+ * write piece by piece. The batches come from this many places in memory in turn: from one place, its bytes stay in the
+ * processor's cache; from many, they don't, as those of a server's bodies. It needs a C compiler on Linux.
  */
 #define _GNU_SOURCE
 #include <fcntl.h>
@@ -47,22 +48,22 @@ static void put(int file, const char *bytes, size_t count, off_t place)
     }
 }
 
-static void work_write(const char *name, size_t batches, size_t bytes)
+static void work_write(const char *name, size_t batches, size_t bytes, size_t places)
 {
-    char *body = malloc(bytes + 1);
+    size_t each = bytes + 1;
+    char *bodies = malloc(places * each);
     int file = open(name, O_RDWR | O_CREAT | O_EXCL, 0600);
-    if (body == NULL || file < 0) {
+    if (bodies == NULL || file < 0) {
         stop(name);
     }
-    for (size_t at = 0; at < bytes; at++) {
-        body[at] = at * 31 + at / 251;
+    for (size_t at = 0; at < places * each; at++) {
+        bodies[at] = at % each == bytes ? 0 : at * 31 + at / 251;
     }
-    body[bytes] = 0;
-    put(file, body + bytes, 1, 0);
+    put(file, bodies + bytes, 1, 0);
     double start = now();
     off_t gate = 0;
     for (size_t batch = 0; batch < batches; batch++) {
-        put(file, body, bytes + 1, gate + 1);
+        put(file, bodies + batch % places * each, each, gate + 1);
         put(file, "\1", 1, gate);
         gate += bytes + 1;
     }
@@ -88,12 +89,12 @@ static void work_read(const char *name)
 
 int main(int count, char **words)
 {
-    if (count == 5 && strcmp(words[1], "write") == 0) {
-        work_write(words[2], strtoull(words[3], NULL, 10), strtoull(words[4], NULL, 10));
+    if (count == 6 && strcmp(words[1], "write") == 0) {
+        work_write(words[2], strtoull(words[3], NULL, 10), strtoull(words[4], NULL, 10), strtoull(words[5], NULL, 10));
     } else if (count == 3 && strcmp(words[1], "read") == 0) {
         work_read(words[2]);
     } else {
-        fprintf(stderr, "usage: store write FILE BATCHES BYTES, or store read FILE\n");
+        fprintf(stderr, "usage: store write FILE BATCHES BYTES PLACES, or store read FILE\n");
         return 1;
     }
     return 0;

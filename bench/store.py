@@ -19,8 +19,9 @@ In each of N rounds (by default 7) each work is done in each way, in turn:
 
 The writes alone are those of a log: a batch after a closed gate, a sync, the gate, a sync. For `small` one writer makes
 them with one change in each batch, and with 64. For `many` it makes them with one body in each batch, and with four;
-a batch of the server has three. A bare server in C receives the bodies too, without HTTP, and makes the same writes.
-For `restart` only the file of the log is read.
+a batch of the server has three. It writes one body again and again, which stays in the processor's cache, and also
+each body from its own memory, as the server does. A bare server in C receives the bodies too, without HTTP, and makes
+the same writes. For `restart` only the file of the log is read.
 
 A line of the table is a work done in one way: the median, least and most, and the median as a fraction of that of the
 first way. NAME is a work's name, to do only that one.
@@ -70,10 +71,10 @@ class Bench:
         with self.fresh() as folder, self.up.server(*["--store", folder] * has_store) as server:
             yield Client(self.client, self.up.kind, server)
 
-    def written(self, batches, count):
-        """The seconds that a file takes for this many batches of this many bytes."""
+    def written(self, batches, count, places=1):
+        """The seconds that a file takes for this many batches of this many bytes, from so many places in turn."""
         with self.fresh() as file:
-            return self.said(self.writer, "write", file, batches, count)
+            return self.said(self.writer, "write", file, batches, count, places)
 
     def received(self, connections, bodies):
         """The seconds that a bare server takes to receive and write so many bodies over each of so many connections."""
@@ -102,8 +103,12 @@ def stored_bodies(bench):
         return BODIES / client.timed("append", 1, BODIES, MIB)
 
 
-def written_bodies(bench):
-    return BODIES / bench.written(BODIES, OF_BLOCK + OF_CHANGE + MIB)
+def written_bodies(bench, places=1):
+    return BODIES / bench.written(BODIES, OF_BLOCK + OF_CHANGE + MIB, places)
+
+
+def written_bodies_apart(bench):
+    return written_bodies(bench, BODIES)
 
 
 def bare_bodies(bench):
@@ -120,13 +125,17 @@ def stored_many(bench):
         return MANY * OF_EACH / client.timed("append", MANY, OF_EACH, MIB)
 
 
-def written_many(bench, together=1):
+def written_many(bench, together=1, places=1):
     batches = MANY * OF_EACH // together
-    return batches * together / bench.written(batches, OF_BLOCK + together * (OF_CHANGE + MIB))
+    return batches * together / bench.written(batches, OF_BLOCK + together * (OF_CHANGE + MIB), places)
 
 
 def written_by_four(bench):
     return written_many(bench, OF_BATCH)
+
+
+def written_apart(bench):
+    return written_many(bench, OF_BATCH, MANY * OF_EACH // OF_BATCH)
 
 
 def bare_many(bench):
@@ -219,14 +228,16 @@ def cold_read(bench):
     return read_alone(bench, forget)
 
 
-ALONE, BARE = "the writes alone", "a bare server in C"
+ALONE, APART, BARE = "the writes alone", "each body from its own memory", "a bare server in C"
 WORKS = {
     "bodies": ("1 MiB over one connection, MiB/s", [
-        ("with a store", stored_bodies), (ALONE, written_bodies), (BARE, bare_bodies), ("without a store", held_bodies),
+        ("with a store", stored_bodies), (ALONE, written_bodies), (f"{ALONE}, {APART}", written_bodies_apart),
+        (BARE, bare_bodies), ("without a store", held_bodies),
     ]),
     "many": ("1 MiB over 16 connections, MiB/s", [
         ("with a store", stored_many), (f"{ALONE}, one a batch", written_many),
-        (f"{ALONE}, 4 a batch", written_by_four), (BARE, bare_many), ("without a store", held_many),
+        (f"{ALONE}, 4 a batch", written_by_four), (f"{ALONE}, 4 a batch, {APART}", written_apart), (BARE, bare_many),
+        ("without a store", held_many),
     ]),
     "small": ("200 bytes over 64 connections, 1/s", [
         ("with a store", stored_small), (f"{ALONE}, one a batch", written_small),

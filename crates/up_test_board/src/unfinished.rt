@@ -1,5 +1,5 @@
 //! Boards that cannot be finished at first: everything that was passed in is returned, and serves as before.
-ghost use Rattle.std.specs.Prelude.{◌≡◌, All, [], length};
+ghost use Rattle.std.specs.Prelude.{◌≡◌, All, [], IfOk, length};
 ghost use Rattle.up_dispatch.specs.Parts.{IsNamed};
 
 use crate::beside::{finished, open_board, run_beside, run_each};
@@ -73,20 +73,25 @@ impl<B: Naming + Send + Sync> Refill for Watched<B> {
     }
 }
 
-/// The board, after it could not be finished because a seat was missing.
-fn without_a_seat<B: Naming, H: PostHook + Drop, R: Abort>(
+/// What comes back from a board that cannot be finished for this reason.
+fn refused<B: Naming, H: PostHook + Drop, R: Abort>(
     rt: &R,
     alloc: Global,
     board: Board<B>,
+    seats: Vec<Seat<B>>,
     ends: Vec<LaneEnd<H>>,
-) -> Result<Board<B>, Fail>
+    fault: FinishFault,
+) -> Result<Unfinished<Board<B>, B, H>, Fail>
     requires own { All (λ e. e.take_end.queue ≡ B.queue e.lane) ends.items }
+    ensures back { IfOk result (λ u. (u.seats ≡ seats) × (u.lanes ≡ ends)) }
 {
-    let Err(Unfinished { fault, board, .. }) = board.finish(alloc, Vec::new(alloc), ends) else {
-        return Err("a seat is out".into());
-    };
-    assert_eq!(rt; fault, FinishFault::SeatsOut);
-    Ok(board)
+    match board.finish(alloc, seats, ends) {
+        Ok(_) => Err("a seat or a lane is out".into()),
+        Err(unfinished) => {
+            assert_eq!(rt; unfinished.fault, fault);
+            Ok(unfinished)
+        }
+    }
 }
 
 /// Appends a byte to the upload 1 once both lanes sleep, and waits until its lane was woken and sleeps again.
@@ -123,7 +128,15 @@ fn came_back<B: Naming + Send + Sync, H: PostHook + Drop, R: Threads + Wait + Ab
         return Err("a seat".into());
     };
     assert_eq!(rt; makes(rt, alloc, &board, &mut first, 1, 1), None);
-    let board = without_a_seat::<B, H, R>(rt, alloc, board, Vec::new(alloc))?;
+    let none: Vec<LaneEnd<H>> = Vec::new(alloc);
+    let Unfinished { board, .. } = refused(
+        rt,
+        alloc,
+        board,
+        Vec::new(alloc),
+        none,
+        FinishFault::SeatsOut,
+    )?;
     let Some(second) = board.seat(rt) else {
         return Err("another seat".into());
     };
@@ -179,7 +192,7 @@ fn a_board_that_came_back_wakes_its_lanes(rt: HostRuntime) -> Result<(), Fail> {
     hold(&rt, &report, 2, [0, 3])
 }
 
-/// The report of a board that is returned if the second of its two lanes is missing.
+/// The report of a board that comes back if the second of its two lanes is missing.
 fn two_lanes<B: Naming, H: PostHook + Drop, R: Abort>(
     rt: &R,
     alloc: Global,
@@ -192,26 +205,13 @@ fn two_lanes<B: Naming, H: PostHook + Drop, R: Abort>(
     let Some(missing) = ends.pop() else {
         return Err("two lanes".into());
     };
-    let Err(
-        Unfinished {
-            fault,
-            board,
-            seats,
-            mut lanes,
-        },
-    ) = board.finish(alloc, seats, ends)
-    else {
-        return Err("a lane is out".into());
-    };
-    assert_eq!(rt;
-        (fault, seats.len(), lanes.len()),
-        (FinishFault::LanesOut, 2, 1)
-    );
-    lanes.push(missing)?;
-    finished(alloc, board, seats, lanes)
+    let mut back = refused(rt, alloc, board, seats, ends, FinishFault::LanesOut)?;
+    assert_eq!(rt; (back.seats.len(), back.lanes.len()), (2, 1));
+    back.lanes.push(missing)?;
+    finished(alloc, back.board, back.seats, back.lanes)
 }
 
-/// The report of a board on which an upload was created from each of two seats, and that is returned if the second seat
+/// The report of a board on which an upload was created from each of two seats, and that comes back if the second seat
 /// is missing.
 fn two_seats<B: Naming, H: PostHook + Drop, R: Abort>(
     rt: &R,
@@ -223,23 +223,10 @@ fn two_seats<B: Naming, H: PostHook + Drop, R: Abort>(
 ) -> Result<Report<H>, Fail>
     requires own { All (λ e. e.take_end.queue ≡ B.queue e.lane) ends.items }
 {
-    let Err(
-        Unfinished {
-            fault,
-            board,
-            mut seats,
-            lanes,
-        },
-    ) = board.finish(alloc, seats, ends)
-    else {
-        return Err("a seat is out".into());
-    };
-    assert_eq!(rt;
-        (fault, seats.len(), lanes.len()),
-        (FinishFault::SeatsOut, 1, 2)
-    );
-    seats.push(missing)?;
-    two_lanes(rt, alloc, board, seats, lanes)
+    let mut back = refused(rt, alloc, board, seats, ends, FinishFault::SeatsOut)?;
+    assert_eq!(rt; (back.seats.len(), back.lanes.len()), (1, 2));
+    back.seats.push(missing)?;
+    two_lanes(rt, alloc, back.board, back.seats, back.lanes)
 }
 
 /// That report if the lanes run after the board was closed.

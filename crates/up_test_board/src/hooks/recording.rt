@@ -6,7 +6,7 @@ use std::alloc::Global;
 use std::sync::atomic::{AtomicU64, Ordering};
 use std::test::Fail;
 use up_events::{Event, Hook, Id};
-use up_hooks::{Outcome, PostHook, Recorder, new_recorders};
+use up_hooks::{Outcome, PostHook, Recorder};
 
 fn event(number: u64, hook: Hook, offset: u64) -> Event {
     Event {
@@ -62,33 +62,5 @@ fn goes_on_after_a_failure(rt: HostRuntime) -> Result<(), Fail> {
     assert_eq!(rt; handed.as_slice(), wanted.as_slice());
     assert_eq!(rt; recorder.list(), wanted.as_slice());
     assert_eq!(rt; calls.load(Ordering::SeqCst), 5);
-    Ok(())
-}
-
-#[test]
-fn keeps_one_pair_for_each_event(rt: HostRuntime) -> Result<(), Fail> {
-    let mut recorder = Recorder::new(rt.alloc(), |_: &Event| Outcome::Failed(7));
-    let created = event(1, Hook::Create, 0);
-    assert!(rt; recorder.list().is_empty());
-    recorder.ready()?;
-    recorder.ready()?;
-    assert!(rt; recorder.list().is_empty());
-    assert_eq!(rt; recorder.hand(&created), Outcome::Failed(7));
-    assert_eq!(rt; recorder.list(), [(created, Outcome::Failed(7))].as_slice());
-    Ok(())
-}
-
-#[test]
-fn each_lane_has_a_recorder_of_its_own(rt: HostRuntime) -> Result<(), Fail> {
-    let created = event(1, Hook::Create, 0);
-    let mut recorders = new_recorders(rt.alloc(), 2, |_: &Event| Outcome::Done)?;
-    assert_eq!(rt; recorders.len(), 2);
-    let Some(first) = recorders.first_mut() else {
-        return Err("a recorder".into());
-    };
-    first.ready()?;
-    assert_eq!(rt; first.hand(&created), Outcome::Done);
-    assert_eq!(rt; recorders[0].list(), [(created, Outcome::Done)].as_slice());
-    assert_eq!(rt; recorders[1].list().len(), 0);
     Ok(())
 }

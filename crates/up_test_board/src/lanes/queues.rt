@@ -2,13 +2,13 @@
 ghost use Rattle.std.specs.Prelude.{◌≡◌, ◌≤◌, [], length, take};
 ghost use Rattle.up_queue.specs.Line.{IsOrderly};
 
-use super::parts::{fill, items, put_all, put_at};
+use super::parts::{fill, items, put_all};
 use std::alloc::Global;
 use std::process::Abort;
 use std::sync::Wait;
 use std::test::Fail;
 use std::thread;
-use up_queue::{Item, PutFault, QueueFault, TakeEnd, compare, lane_queue};
+use up_queue::{Item, QueueFault, TakeEnd, compare, lane_queue};
 
 /// Checks that a queue of this capacity takes as many items as it has room for, and returns them in order.
 fn assert_gives_back(rt: &(impl Wait + Abort), alloc: Global, capacity: usize) -> Result<(), Fail>
@@ -51,24 +51,6 @@ fn takes_what_there_is_room_for_and_gives_it_back(rt: HostRuntime) -> Result<(),
     for capacity in 1..4 {
         assert_gives_back(&rt, rt.alloc(), capacity)?;
     }
-    Ok(())
-}
-
-#[test]
-fn a_full_queue_gives_the_item_back(rt: HostRuntime) -> Result<(), Fail> {
-    let items = items(rt.alloc(), 1)?;
-    assert_eq!(rt; items.len(), 3);
-    let (mut put_end, mut take_end) = lane_queue(rt.alloc(), 1)?;
-    assert_eq!(rt; take_end.take(&rt), None);
-    assert_eq!(rt; put_at(&rt, &mut put_end, &items, 0), Ok(()));
-    assert_eq!(rt;
-        put_at(&rt, &mut put_end, &items, 1),
-        Err(PutFault::Full(items[1]))
-    );
-    assert_eq!(rt; take_end.take(&rt), Some(items[0]));
-    put_at(&rt, &mut put_end, &items, 1)?;
-    assert_eq!(rt; take_end.take(&rt), Some(items[1]));
-    assert_eq!(rt; take_end.take(&rt), None);
     Ok(())
 }
 
