@@ -6,7 +6,7 @@
 //! - `.calls`: calls whose state is printed, and which may be refused memory (`up_test_refusals`).
 //!
 //! The files are read in the order of the words, and each crate says what is printed of them. If a file cannot be read
-//! or has another ending, or if memory runs out, that is said on standard error, and the status is 1.
+//! or has another ending, or if a crate's call ends with an error, that is said on standard error, and the status is 1.
 #![tactic(auto)]
 
 use std::env::{self, Env};
