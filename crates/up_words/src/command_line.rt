@@ -206,12 +206,17 @@ fn with_words<'a>(
     Ok(command)
 }
 
+/// The command with the words of every server added.
+fn with_common<'a>(alloc: Global, command: Command<'a>) -> Result<Command<'a>, AllocError> {
+    with_words(alloc, command, &COMMON)
+}
+
 /// `replay` and its words.
 fn replay<'a>(alloc: Global) -> Result<Command<'a>, AllocError> {
     let replay = Command::new(alloc, "replay").about(
         "Serves the messages on standard input as one conversation, and reports what was handed over",
     );
-    with_words(alloc, replay, &COMMON)
+    with_common(alloc, replay)
 }
 
 /// `serve` and its words.
@@ -219,7 +224,7 @@ fn serve<'a>(alloc: Global) -> Result<Command<'a>, AllocError> {
     let serve = Command::new(alloc, "serve").about(
         "Serves connections, each as a conversation of its own, and reports what was handed over",
     );
-    with_words(alloc, with_words(alloc, serve, &CONNECTIONS)?, &COMMON)
+    with_common(alloc, with_words(alloc, serve, &CONNECTIONS)?)
 }
 
 /// The command with all words.
@@ -304,16 +309,24 @@ fn words_of(
     })
 }
 
+/// What the words after `serve` ask for.
+fn words_to_serve(alloc: Global, serve: &ArgMatches<'_>) -> Result<Words, AllocError> {
+    let serving = serving_of(alloc, serve)?;
+    words_of(alloc, serve, Some(serving))
+}
+
+/// What the words ask for that `clap` found.
+fn words_in(alloc: Global, matches: &ArgMatches<'_>) -> Result<Words, AllocError> {
+    match matches.subcommand() {
+        Some(("serve", serve)) => words_to_serve(alloc, serve),
+        Some((_, replay)) => words_of(alloc, replay, None),
+        None => Ok(Words::default()),
+    }
+}
+
 /// Reads the words after the program's name. `Refused` for an unknown word, for a word that lacks its value or is given
 /// twice, for a number outside its limits, and for `--help` and `--version`. `Memory` if memory runs out.
 pub fn words(alloc: Global, words: Vec<String>) -> Result<Words, WordsFault> {
     let matches = command(alloc)?.try_get_matches_from(words.as_slice())?;
-    match matches.subcommand() {
-        Some(("serve", serve)) => {
-            let serving = serving_of(alloc, serve)?;
-            Ok(words_of(alloc, serve, Some(serving))?)
-        }
-        Some((_, replay)) => Ok(words_of(alloc, replay, None)?),
-        None => Ok(Words::default()),
-    }
+    Ok(words_in(alloc, &matches)?)
 }
