@@ -24,7 +24,7 @@ use up_hooks::PreHooks;
 const STACK: usize = 1 << 18;
 
 /// Which connections are served, and how.
-#[derive(Clone, Copy)]
+#[derive(Drop)]
 pub struct Visits<'a, N, S> {
     /// How many are served. `None` sets no limit.
     pub connections: Option<u64>,
@@ -42,7 +42,23 @@ pub struct Visits<'a, N, S> {
     pub service: &'a S,
 }
 
-/// Serves a connection, and then others as they are handed over. The limit counts each out when it has ended.
+/// Serves a connection. The limit counts it out when it has ended.
+fn serve_one<B: Naming, I: Ids, S: Service, T: Wait>(
+    rt: &T,
+    alloc: Global,
+    context: &ConnectionContext<'_, B, I>,
+    hooks: &PreHooks,
+    service: &S,
+    stream: TcpStream,
+)
+    requires same { B.history ≡ S.history }
+{
+    context.begin();
+    serve_connection(rt, alloc, context, hooks, service, stream);
+    context.end(rt);
+}
+
+/// Serves a connection, and then others as they are handed over.
 fn serve_in_turn<B: Naming, I: Ids, S: Service, T: Wait>(
     rt: &T,
     alloc: Global,
@@ -58,9 +74,7 @@ fn serve_in_turn<B: Naming, I: Ids, S: Service, T: Wait>(
         let Some(stream) = next else {
             break;
         };
-        context.begin();
-        serve_connection(rt, alloc, context, hooks, service, stream);
-        context.end(rt);
+        serve_one(rt, alloc, context, hooks, service, stream);
         next = context.pool.next(rt);
     }
 }
@@ -142,6 +156,38 @@ fn see_out<B: Naming, I, T: Wait>(rt: &T, context: &ConnectionContext<'_, B, I>)
     }
 }
 
+/// Counts out a connection that was not let in, and tells why. Returns whether no more are accepted.
+fn is_last<B: Naming, I, N: Notices, T: Wait>(
+    rt: &T,
+    context: &ConnectionContext<'_, B, I>,
+    gate: &mut Gate<'_, N>,
+    open_count: u64,
+    came: Result<(), Failed>,
+) -> bool
+    requires { 1 ≤ open_count }
+{
+    match came {
+        Ok(()) => {
+            gate.open();
+            false
+        }
+        Err(Failed::Passing) => {
+            context.limit.release(rt);
+            false
+        }
+        Err(Failed::Over) => {
+            gate.shut();
+            context.limit.release(rt);
+            true
+        }
+        Err(Failed::Lasting(entrance)) => {
+            let is_told = gate.tell(entrance);
+            context.limit.release_and_back_off(rt, open_count);
+            is_told && matches!(entrance, Entrance::Gone(_))
+        }
+    }
+}
+
 /// Accepts connections, and starts serving each. An accept that fails, and a connection for which no thread can be
 /// started, count as connections that have ended. If something ran out, the next accept waits until a connection has
 /// ended, for at most 100 ms. No more are accepted if the listener is gone or the run ends.
@@ -174,21 +220,8 @@ fn accept_all<
             Ok(stream) => let_in(scope, rt, alloc, context, hooks, visits.service, stream),
             Err(failed) => Err(failed),
         };
-        match came {
-            Ok(()) => gate.open(),
-            Err(Failed::Passing) => context.limit.release(rt),
-            Err(Failed::Over) => {
-                gate.shut();
-                context.limit.release(rt);
-                break;
-            }
-            Err(Failed::Lasting(entrance)) => {
-                let is_told = gate.tell(entrance);
-                context.limit.release_and_back_off(rt, open_count);
-                if is_told && matches!(entrance, Entrance::Gone(_)) {
-                    break;
-                }
-            }
+        if is_last(rt, context, &mut gate, open_count, came) {
+            break;
         }
     }
     gate.leave();

@@ -90,6 +90,28 @@ impl<'a, N: Notices> Gate<'a, N> {
         }
     }
 
+    /// If anything but the listener is waited for, waits until one of them has news. Returns whether the run goes on.
+    fn goes_on<B: Naming, I, R: Wait>(
+        &self,
+        rt: &R,
+        context: &ConnectionContext<'_, B, I>,
+    ) -> bool {
+        let Some(ending) = context.ending else {
+            return true;
+        };
+        ending.wait(self.listener.as_raw_fd());
+        ending.goes_on(rt, context.board)
+    }
+
+    /// Accepts a connection. `None` if the listener does not block, and none has arrived.
+    fn accept_one(&self) -> Result<Option<TcpStream>, Failed> {
+        match self.listener.accept() {
+            Ok((stream, _)) => Ok(Some(stream)),
+            Err(error) if error.kind() == io::ErrorKind::WouldBlock => Ok(None),
+            Err(error) => Err(why(&error)),
+        }
+    }
+
     /// Waits for the next connection, as long as the run goes on. The error says why there is none.
     pub fn accept<B: Naming, I, R: Wait>(
         &mut self,
@@ -97,21 +119,15 @@ impl<'a, N: Notices> Gate<'a, N> {
         context: &ConnectionContext<'_, B, I>,
     ) -> Result<TcpStream, Failed> {
         for _ in rt.forever() {
-            if let Some(ending) = context.ending {
-                ending.wait(self.listener.as_raw_fd());
-                if !ending.goes_on(rt, context.board) {
-                    return Err(Failed::Over);
-                }
+            if !self.goes_on(rt, context) {
+                return Err(Failed::Over);
             }
-            match self.listener.accept() {
-                Ok((stream, _)) => return Ok(stream),
-                Err(error) if error.kind() == io::ErrorKind::WouldBlock => {
-                    self.open();
-                    if !self.is_shared {
-                        context.limit.back_off(rt, 0);
-                    }
-                }
-                Err(error) => return Err(why(&error)),
+            if let Some(stream) = self.accept_one()? {
+                return Ok(stream);
+            }
+            self.open();
+            if !self.is_shared {
+                context.limit.back_off(rt, 0);
             }
         }
         unreachable!()

@@ -23,6 +23,18 @@ struct Handed {
     is_closed: bool,
 }
 
+impl Handed {
+    /// Adds a connection if a thread waits for it. If none does, the connection comes back.
+    fn add(&mut self, stream: TcpStream) -> Option<TcpStream> {
+        let count = self.streams.len();
+        if count >= self.waiting || count >= self.streams.capacity() {
+            return Some(stream);
+        }
+        self.streams.push_reserved(stream);
+        None
+    }
+}
+
 /// Threads that have served a connection and wait some seconds for another, because that costs less than to start a new
 /// thread.
 #[derive(Drop)]
@@ -49,15 +61,15 @@ impl Pool {
     /// Hands a connection to a thread that waits for one. If none does, the connection comes back.
     pub fn hand<R: Wait>(&self, rt: &R, stream: TcpStream) -> Option<TcpStream> {
         let mut handed = self.handed.lock(rt);
-        let count = handed.streams.len();
-        if count >= handed.waiting || count >= handed.streams.capacity() {
-            return Some(stream);
+        let back = handed.add(stream);
+        if back.is_none() {
+            self.news.fetch_add(1, Ordering::SeqCst);
         }
-        handed.streams.push_reserved(stream);
-        self.news.fetch_add(1, Ordering::SeqCst);
         drop(handed);
-        self.news.wake_one();
-        None
+        if back.is_none() {
+            self.news.wake_one();
+        }
+        back
     }
 
     /// Waits for the next connection. `None` if the pool is closed, if enough threads wait already, or if none came
