@@ -1,15 +1,19 @@
 //! A book and a journal, and the calls of the rows.
+ghost use Rattle.up_events.specs.declared.limits.TheConstants.{MAX_UPLOAD_BYTES};
+ghost use Rattle.up_headers.specs.Table.{FitsWithin};
+
 use crate::lines::{Lines, MAX_CALLS};
 use crate::messages::{id_of, message_of, number_of, out_of_memory, request_in};
-use crate::words::{push_book, push_journal, push_pairs, push_plan, push_request, push_response};
+use crate::words::{push_book, push_journal, push_pairs, push_plan, push_request};
 use std::alloc::{AllocError, Global};
 use std::fmt::Write;
 use std::io;
 use std::sync::Wait;
-use up_events::{Accepted, Journal, Kind, MAX_UPLOAD_BYTES};
-use up_headers::{HeaderFault, MetadataFault, pairs_of, request_of};
-use up_machine::{Asked, Book, Plan, Refusal, Remains};
+use up_events::{Accepted, Id, Journal, Kind, MAX_UPLOAD_BYTES};
+use up_headers::{HeaderFault, MetadataFault, Pairs, Request, pairs_of, request_of};
+use up_machine::{Asked, Book, Done, Plan, Refusal, Remains};
 use up_queue::{Item, QueueFault, compare, lane_queue};
+use up_test_text::push_response;
 
 /// A book and a journal, each of two lanes, and the lines of the last call.
 #[derive(Drop)]
@@ -27,25 +31,50 @@ fn push_all(words: &mut String, book: &Book, journal: &Journal) -> Result<(), Al
     push_journal(words, journal)
 }
 
-// Each of these makes a call, adds its result as text, and returns whether memory ran out.
+// Each of these adds a result as text, and returns whether memory ran out.
 
-fn pairs(words: &mut String, alloc: Global, text: &str) -> io::Result<bool> {
-    let read = pairs_of(alloc, text.as_bytes());
-    match &read {
+fn push_read(words: &mut String, read: &Result<Pairs, MetadataFault>) -> io::Result<bool> {
+    match read {
         Ok(pairs) => push_pairs(words, pairs)?,
         Err(fault) => write!(words, "{fault}")?,
     }
     Ok(matches!(read, Err(MetadataFault::NoMemory)))
 }
 
-fn request(words: &mut String, alloc: Global, row: &str) -> io::Result<bool> {
-    let message = message_of(alloc, row)?;
-    let asked = request_of(alloc, message, MAX_UPLOAD_BYTES);
-    match &asked {
+fn push_asked(words: &mut String, asked: &Result<Request, HeaderFault>) -> io::Result<bool> {
+    match asked {
         Ok(request) => push_request(words, request)?,
         Err(fault) => write!(words, "{fault}")?,
     }
     Ok(matches!(asked, Err(HeaderFault::NoMemory)))
+}
+
+fn push_planned(words: &mut String, planned: &Result<Plan, Refusal>) -> io::Result<bool> {
+    match planned {
+        Ok(plan) => push_plan(words, plan)?,
+        Err(refusal) => write!(words, "{refusal}")?,
+    }
+    Ok(matches!(planned, Err(Refusal::NoMemory)))
+}
+
+fn push_done(words: &mut String, done: &Result<Done, Refusal>) -> io::Result<bool> {
+    match done {
+        Ok(done) => push_response(words, &done.response)?,
+        Err(refusal) => write!(words, "{refusal}")?,
+    }
+    Ok(matches!(done, Err(Refusal::NoMemory)))
+}
+
+// Each of these makes a call, adds its result as text, and returns whether memory ran out.
+
+fn pairs(words: &mut String, alloc: Global, text: &str) -> io::Result<bool> {
+    let read = pairs_of(alloc, text.as_bytes());
+    push_read(words, &read)
+}
+
+fn request(words: &mut String, alloc: Global, row: &str) -> io::Result<bool> {
+    let asked = request_of(alloc, message_of(alloc, row)?, MAX_UPLOAD_BYTES);
+    push_asked(words, &asked)
 }
 
 fn queue(words: &mut String, rt: &impl Wait, alloc: Global, word: &str) -> io::Result<bool> {
@@ -82,14 +111,6 @@ fn note(words: &mut String, journal: &mut Journal, word: &str) -> io::Result<boo
     Ok(noted.is_err())
 }
 
-fn push_planned(words: &mut String, planned: &Result<Plan, Refusal>) -> io::Result<bool> {
-    match planned {
-        Ok(plan) => push_plan(words, plan)?,
-        Err(refusal) => write!(words, "{refusal}")?,
-    }
-    Ok(matches!(planned, Err(Refusal::NoMemory)))
-}
-
 fn plan(words: &mut String, book: &Book, alloc: Global, row: &str) -> io::Result<bool> {
     let request = request_in(alloc, row)?;
     push_planned(words, &book.plan(alloc, &request))
@@ -98,29 +119,50 @@ fn plan(words: &mut String, book: &Book, alloc: Global, row: &str) -> io::Result
 fn commit(words: &mut String, book: &mut Book, alloc: Global, row: &str) -> io::Result<bool> {
     let (number, row) = row.split_once(' ').unwrap_or((row, ""));
     let id = id_of(number_of(number)?);
-    let request = request_in(alloc, row)?;
-    let mut remains = Remains::new();
-    let done = book.commit(alloc, request, id, &Asked::AllowedFinish, &mut remains);
-    match &done {
-        Ok(done) => push_response(words, &done.response)?,
-        Err(refusal) => write!(words, "{refusal}")?,
-    }
-    Ok(matches!(done, Err(Refusal::NoMemory)))
+    let done = committed(book, alloc, id, request_in(alloc, row)?);
+    push_done(words, &done)
+}
+
+/// Commits a request of which the closures allow everything.
+fn committed(book: &mut Book, alloc: Global, id: Id, request: Request) -> Result<Done, Refusal>
+    requires { FitsWithin MAX_UPLOAD_BYTES request }
+{
+    book.commit(
+        alloc,
+        request,
+        id,
+        &Asked::AllowedFinish,
+        &mut Remains::new(),
+    )
 }
 
 impl Bench {
     pub fn new(alloc: Global) -> io::Result<Bench> {
-        let (Ok(book), Ok(journal)) = (
-            Book::new(alloc, 2, MAX_UPLOAD_BYTES),
-            Journal::new(alloc, 2),
-        ) else {
+        let lines = Lines::new(alloc)?;
+        let Ok(book) = Book::new(alloc, 2, MAX_UPLOAD_BYTES) else {
             return Err(out_of_memory());
         };
-        Ok(Bench {
-            book,
-            journal,
-            lines: Lines::new(alloc)?,
-        })
+        match Journal::new(alloc, 2) {
+            Ok(journal) => Ok(Bench {
+                book,
+                journal,
+                lines,
+            }),
+            Err(_) => Err(out_of_memory()),
+        }
+    }
+
+    /// Makes a call, and adds its result as text. Returns whether memory ran out.
+    fn make(&mut self, rt: &impl Wait, alloc: Global, name: &str, given: &str) -> io::Result<bool> {
+        let words = &mut self.lines.called;
+        match name {
+            "pairs_of" => pairs(words, alloc, given),
+            "request_of" => request(words, alloc, given),
+            "lane_queue" => queue(words, rt, alloc, given),
+            "note" => note(words, &mut self.journal, given),
+            "plan" => plan(words, &self.book, alloc, given),
+            _ => commit(words, &mut self.book, alloc, given),
+        }
     }
 
     /// Makes a call and prints it. Returns whether memory ran out.
@@ -133,15 +175,7 @@ impl Bench {
     ) -> io::Result<bool> {
         self.lines.begin(name, given)?;
         push_all(&mut self.lines.before, &self.book, &self.journal)?;
-        let words = &mut self.lines.called;
-        let refused = match name {
-            "pairs_of" => pairs(words, alloc, given)?,
-            "request_of" => request(words, alloc, given)?,
-            "lane_queue" => queue(words, rt, alloc, given)?,
-            "note" => note(words, &mut self.journal, given)?,
-            "plan" => plan(words, &self.book, alloc, given)?,
-            _ => commit(words, &mut self.book, alloc, given)?,
-        };
+        let refused = self.make(rt, alloc, name, given)?;
         push_all(&mut self.lines.after, &self.book, &self.journal)?;
         self.lines.tell(rt, refused)?;
         Ok(refused)

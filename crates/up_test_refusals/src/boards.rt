@@ -13,12 +13,12 @@ use std::io;
 use std::marker::{Brand, Send, Sync};
 use std::sync::Wait;
 use std::sync::atomic::{AtomicU64, Ordering};
-use up_dispatch::{Board, BoardParts, FinishFault, Naming, Seat};
+use up_dispatch::{Board, BoardParts, FinishFault, Naming, Report, Seat, Unfinished};
 use up_events::{Event, Kind};
 use up_headers::{NewUpload, Request};
 use up_hooks::{Outcome, PostHook, Recorder};
 use up_lanes::{Lane, LaneEnd, StepEnd};
-use up_machine::Asked;
+use up_machine::{Asked, Done, Refusal};
 use up_message::Sequence;
 use up_queue::TakeEnd;
 
@@ -63,28 +63,52 @@ fn told_parts(
     Err(out_of_memory())
 }
 
+/// Creates an upload without bytes.
+fn create<B: Naming, R: Wait>(
+    rt: &R,
+    alloc: Global,
+    board: &Board<B>,
+    seat: &mut Seat<B>,
+    number: u64,
+) -> Result<Done, Refusal> {
+    let request = Request::Create(NewUpload {
+        kind: Kind::Plain,
+        length: Some(0),
+        parts: Sequence::new(alloc),
+        pairs: Sequence::new(alloc),
+        metadata: None,
+        concat: None,
+    });
+    board.commit(
+        rt,
+        alloc,
+        seat,
+        request,
+        id_of(number),
+        &Asked::AllowedFinish,
+    )
+}
+
 /// Creates five uploads without bytes, and closes the board.
 fn fill<B: Naming, R: Wait>(rt: &R, alloc: Global, board: &Board<B>) -> io::Result<Seat<B>> {
     let Some(mut seat) = board.seat(rt) else {
         return Err(io::Error::from(io::ErrorKind::ResourceBusy));
     };
     for number in 1..6u64 {
-        let request = Request::Create(NewUpload {
-            kind: Kind::Plain,
-            length: Some(0),
-            parts: Sequence::new(alloc),
-            pairs: Sequence::new(alloc),
-            metadata: None,
-            concat: None,
-        });
-        let id = id_of(number);
-        let done = board.commit(rt, alloc, &mut seat, request, id, &Asked::AllowedFinish);
-        if done.is_err() {
+        if create(rt, alloc, board, &mut seat, number).is_err() {
             return Err(out_of_memory());
         }
     }
     board.close(rt);
     Ok(seat)
+}
+
+/// Adds how a step ended.
+fn push_end(words: &mut String, end: StepEnd) -> Result<(), AllocError> {
+    match end {
+        StepEnd::NoMemory => words.push_str("out of memory"),
+        _ => write!(words, "{end:?}"),
+    }
 }
 
 /// Steps a lane, and prints the call.
@@ -100,10 +124,7 @@ fn told_step<H: PostHook + Drop>(
     lines.begin("step", number)?;
     push_handed(&mut lines.before, handed)?;
     let end = lane.step(rt);
-    match end {
-        StepEnd::NoMemory => lines.called.push_str("out of memory")?,
-        _ => write!(lines.called, "{end:?}")?,
-    }
+    push_end(&mut lines.called, end)?;
     push_handed(&mut lines.after, handed)?;
     lines.tell(rt, end == StepEnd::NoMemory)?;
     Ok(end)
@@ -144,6 +165,34 @@ fn push_ends<B: Naming, H: PostHook + ShownHook>(
     Ok(())
 }
 
+/// Prints a call that finishes a board.
+fn tell_finished<H: ShownHook>(
+    rt: &impl Print,
+    lines: &mut Lines,
+    report: &Report<H>,
+) -> io::Result<()> {
+    push_report(&mut lines.called, report)?;
+    lines.after.push_str("used up")?;
+    lines.tell(rt, false)
+}
+
+/// Prints a call that gives a board back.
+fn tell_unfinished<B: Naming, H: PostHook + ShownHook>(
+    rt: &impl Print,
+    lines: &mut Lines,
+    back: &Unfinished<Board<B>, B, H>,
+) -> io::Result<()> {
+    let refused = back.fault == FinishFault::NoMemory;
+    let word = if refused { "out of memory" } else { "refused" };
+    lines.called.push_str(word)?;
+    push_ends(
+        &mut lines.after,
+        back.seats.as_slice(),
+        back.lanes.as_slice(),
+    )?;
+    lines.tell(rt, refused)
+}
+
 /// Finishes a board, in at most `calls` calls.
 fn finish<B: Naming, H: PostHook + ShownHook + Drop>(
     rt: &impl Print,
@@ -162,21 +211,9 @@ fn finish<B: Naming, H: PostHook + ShownHook + Drop>(
     lines.begin("finish", "")?;
     push_ends(&mut lines.before, seats.as_slice(), ends.as_slice())?;
     match board.finish(alloc, seats, ends) {
-        Ok(report) => {
-            push_report(&mut lines.called, &report)?;
-            lines.after.push_str("used up")?;
-            lines.tell(rt, false)
-        }
+        Ok(report) => tell_finished(rt, lines, &report),
         Err(back) => {
-            let refused = back.fault == FinishFault::NoMemory;
-            let word = if refused { "out of memory" } else { "refused" };
-            lines.called.push_str(word)?;
-            push_ends(
-                &mut lines.after,
-                back.seats.as_slice(),
-                back.lanes.as_slice(),
-            )?;
-            lines.tell(rt, refused)?;
+            tell_unfinished(rt, lines, &back)?;
             finish(
                 rt,
                 alloc,
@@ -190,6 +227,42 @@ fn finish<B: Naming, H: PostHook + ShownHook + Drop>(
     }
 }
 
+/// The two lanes of a board, each with a post-hook.
+fn lanes_of<B: Naming, H: PostHook + Drop>(
+    mut takes: Vec<TakeEnd>,
+    hooks: (H, H),
+) -> (Lane<H>, Lane<H>)
+    requires two { length takes.items ≡ 2 }
+    requires ends { EachAt (λ k end. (end.taken ≡ []) × (end.queue ≡ B.queue k)) takes.items }
+    requires first { H.is_sound hooks.0 × (H.handed hooks.0 ≡ []) }
+    requires second { H.is_sound hooks.1 × (H.handed hooks.1 ≡ []) }
+    ensures even { result.0.queue ≡ B.queue result.0.lane }
+    ensures odd { result.1.queue ≡ B.queue result.1.lane }
+{
+    let (odd, even) = (takes.pop().unwrap(), takes.pop().unwrap());
+    (Lane::new(0, even, hooks.0), Lane::new(1, odd, hooks.1))
+}
+
+/// Steps both lanes of a board to their ends.
+fn step_both<B: Naming + Send + Sync, H: PostHook + Drop, R: Print + Wait>(
+    rt: &R,
+    alloc: Global,
+    lines: &mut Lines,
+    handed: &AtomicU64,
+    board: &Board<B>,
+    lanes: (Lane<H>, Lane<H>),
+) -> io::Result<Vec<LaneEnd<H>>>
+    requires even { lanes.0.queue ≡ B.queue lanes.0.lane }
+    requires odd { lanes.1.queue ≡ B.queue lanes.1.lane }
+    ensures own { IfOk result (λ v. All (λ end. end.take_end.queue ≡ B.queue end.lane) v.items) }
+{
+    let (even, odd) = lanes;
+    let mut ends = Vec::with_capacity(alloc, 2)?;
+    ends.push(stepped(rt, lines, handed, board, "0", even)?)?;
+    ends.push(stepped(rt, lines, handed, board, "1", odd)?)?;
+    Ok(ends)
+}
+
 /// Fills a board, steps its lanes, and finishes it.
 fn run<B: Naming + Send + Sync, H: PostHook + ShownHook + Drop, R: Print + Wait>(
     rt: &R,
@@ -197,7 +270,7 @@ fn run<B: Naming + Send + Sync, H: PostHook + ShownHook + Drop, R: Print + Wait>
     lines: &mut Lines,
     handed: &AtomicU64,
     board: Board<B>,
-    mut takes: Vec<TakeEnd>,
+    takes: Vec<TakeEnd>,
     hooks: (H, H),
 ) -> io::Result<()>
     requires two { length takes.items ≡ 2 }
@@ -205,13 +278,10 @@ fn run<B: Naming + Send + Sync, H: PostHook + ShownHook + Drop, R: Print + Wait>
     requires first { H.is_sound hooks.0 × (H.handed hooks.0 ≡ []) }
     requires second { H.is_sound hooks.1 × (H.handed hooks.1 ≡ []) }
 {
-    let (mut seats, mut ends) = (Vec::with_capacity(alloc, 1)?, Vec::with_capacity(alloc, 2)?);
+    let mut seats = Vec::with_capacity(alloc, 1)?;
     seats.push(fill(rt, alloc, &board)?)?;
-    let (odd, even) = (takes.pop().unwrap(), takes.pop().unwrap());
-    let even = Lane::new(0, even, hooks.0);
-    let odd = Lane::new(1, odd, hooks.1);
-    ends.push(stepped(rt, lines, handed, &board, "0", even)?)?;
-    ends.push(stepped(rt, lines, handed, &board, "1", odd)?)?;
+    let lanes = lanes_of::<B, _>(takes, hooks);
+    let ends = step_both(rt, alloc, lines, handed, &board, lanes)?;
     finish(rt, alloc, lines, MAX_CALLS, board, seats, ends)
 }
 

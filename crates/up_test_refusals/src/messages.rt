@@ -34,33 +34,46 @@ fn field_of(alloc: Global, name: &str, value: &str) -> io::Result<Field> {
     ))
 }
 
-/// The fields and the body of a row, which are after the method and the target.
-fn content_of(alloc: Global, parts: &str) -> io::Result<(Sequence<Field>, Sequence<u8>)> {
-    let (mut fields, mut body) = (Sequence::new(alloc), Sequence::new(alloc));
+/// The fields of a row, which are after the method and the target.
+fn fields_of(alloc: Global, parts: &str) -> io::Result<Sequence<Field>> {
+    let mut fields = Sequence::new(alloc);
     fields.push(field_of(alloc, "Tus-Resumable", "1.0.0")?)?;
     for part in parts.split(" | ") {
-        match part.split_once(": ") {
-            Some((name, value)) => fields.push(field_of(alloc, name, value)?)?,
-            None => body = Sequence::from_slice(alloc, part.as_bytes())?,
+        if let Some((name, value)) = part.split_once(": ") {
+            fields.push(field_of(alloc, name, value)?)?;
         }
     }
-    Ok((fields, body))
+    Ok(fields)
+}
+
+/// The body of a row: the last part that is no field.
+fn body_of(alloc: Global, parts: &str) -> io::Result<Sequence<u8>> {
+    let mut body = Sequence::new(alloc);
+    for part in parts.split(" | ") {
+        if !part.contains(": ") {
+            body = Sequence::from_slice(alloc, part.as_bytes())?;
+        }
+    }
+    Ok(body)
+}
+
+/// The method of a row.
+fn method_of(alloc: Global, name: &str) -> io::Result<Method> {
+    match Method::from_bytes(alloc, name.as_bytes()) {
+        Ok(method) => Ok(method),
+        Err(_) => Err(out_of_memory()),
+    }
 }
 
 /// The message of a row, of version 1.0.0.
 pub fn message_of(alloc: Global, row: &str) -> io::Result<Message> {
     let (first, parts) = row.split_once(" | ").unwrap_or((row, ""));
     let (method, target) = first.split_once(' ').unwrap_or((first, ""));
-    let Ok(method) = Method::from_bytes(alloc, method.as_bytes()) else {
-        return Err(out_of_memory());
-    };
-    let target = Sequence::from_slice(alloc, target.as_bytes())?;
-    let (fields, body) = content_of(alloc, parts)?;
     Ok(Message {
-        method,
-        target,
-        fields,
-        body,
+        method: method_of(alloc, method)?,
+        target: Sequence::from_slice(alloc, target.as_bytes())?,
+        fields: fields_of(alloc, parts)?,
+        body: body_of(alloc, parts)?,
         bare: false,
         close: false,
     })

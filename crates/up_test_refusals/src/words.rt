@@ -7,8 +7,8 @@ use up_events::Journal;
 use up_headers::{Pairs, Request};
 use up_hooks::Recorder;
 use up_lanes::How;
-use up_machine::{Ask, Book, Plan};
-use up_message::{Piece, Response, Run};
+use up_machine::{Ask, Book, Plan, View};
+use up_test_text::{push_pieces, push_response, push_runs};
 
 /// The ids in the rows are the numbers below this one.
 const ID_COUNT: u64 = 10;
@@ -26,18 +26,13 @@ pub fn push_journal(words: &mut String, journal: &Journal) -> Result<(), AllocEr
     write!(words, "; changes {changes}; events {even} {odd}")
 }
 
-fn push_pieces(words: &mut String, pieces: &[Piece]) -> Result<(), AllocError> {
-    for piece in pieces {
-        write!(words, "{}", piece.as_slice().escape_ascii())?;
-    }
-    Ok(())
-}
-
-fn push_runs(words: &mut String, runs: &[Run]) -> Result<(), AllocError> {
-    for run in runs {
-        push_pieces(words, run.pieces())?;
-    }
-    Ok(())
+/// An upload, as "1 Plain 3/Some(5) [abc]; ".
+fn push_upload(words: &mut String, number: u64, view: &View) -> Result<(), AllocError> {
+    let (kind, offset, length) = (view.kind, view.offset, view.length);
+    write!(words, "{number} {kind:?} {offset}/{length:?} [")?;
+    push_runs(words, view.runs)?;
+    push_pieces(words, view.pieces)?;
+    write!(words, "{}]; ", view.tail.escape_ascii())
 }
 
 /// A book, as "open; 1 Plain 3/Some(5) [abc]; ids 1 2; ..": whether it is open, each upload with its number, kind,
@@ -51,11 +46,7 @@ pub fn push_book(words: &mut String, book: &Book) -> Result<(), AllocError> {
     words.push_str(word)?;
     for number in 0..ID_COUNT {
         if let Some(view) = book.upload(id_of(number)) {
-            let (kind, offset, length) = (view.kind, view.offset, view.length);
-            write!(words, "{number} {kind:?} {offset}/{length:?} [")?;
-            push_runs(words, view.runs)?;
-            push_pieces(words, view.pieces)?;
-            write!(words, "{}]; ", view.tail.escape_ascii())?;
+            push_upload(words, number, &view)?;
         }
     }
     push_journal(words, book.journal())
@@ -90,21 +81,6 @@ pub fn push_request(words: &mut String, request: &Request) -> Result<(), AllocEr
         Request::Get(id) => write!(words, "get {id:?}"),
         Request::Delete(id) => write!(words, "delete {id:?}"),
     }
-}
-
-/// A response as "200 Upload-Offset: 0; Upload-Length: 5; [abc]": status, fields in order, and body.
-pub fn push_response(words: &mut String, response: &Response) -> Result<(), AllocError> {
-    write!(words, "{} ", response.status)?;
-    for (name, value) in response.fields.as_slice() {
-        let name = name.as_slice().escape_ascii();
-        let value = value.as_slice().escape_ascii();
-        write!(words, "{name}: {value}; ")?;
-    }
-    let (front, last) = response.body.runs();
-    words.push_str("[")?;
-    push_runs(words, front)?;
-    push_pieces(words, last.pieces())?;
-    words.push_str("]")
 }
 
 /// The question for closures, as "ask Create None 0/Some(5) [name=ab; ]": point, target, offset and length, and pairs.

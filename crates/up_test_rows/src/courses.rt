@@ -1,18 +1,21 @@
 //! Rows of a course: a book, and a sequence of operations on it.
+ghost use Rattle.up_events.specs.declared.limits.TheConstants.{MAX_UPLOAD_BYTES};
+ghost use Rattle.up_headers.specs.Table.{FitsWithin};
+
 mod requests;
 mod words;
 mod working;
 
 use crate::courses::requests::{asked_of, request_of, size_of};
-use crate::gathered::gathered;
 use crate::line::{cut, number_of};
 use crate::row_fault::RowFault;
-use std::alloc::Global;
+use std::alloc::{AllocError, Global};
 use std::fmt::Write;
 use up_events::{Accepted, Added, Id, Journal, Kind};
 use up_headers::Request;
-use up_machine::{Asked, Book, Plan, Reason, Refusal, Remains};
+use up_machine::{Asked, Book, Done, Plan, Reason, Refusal, Remains};
 use up_message::Segments;
+use up_test_text::push_body;
 
 /// A book, what the closures say before each commit, and bytes from a response.
 #[derive(Drop)]
@@ -38,31 +41,37 @@ fn is_response(words: &str) -> bool {
     matches!(words.as_bytes(), [b'0'..=b'9', ..])
 }
 
-/// Bytes in brackets, or "none".
-fn in_brackets(alloc: Global, bytes: Option<&[u8]>) -> Result<String, RowFault> {
+/// Adds bytes in brackets, or "none".
+fn push_bytes(words: &mut String, bytes: Option<&[u8]>) -> Result<(), AllocError> {
     match bytes {
-        Some(bytes) => Ok(format!(in alloc; "[{}]", bytes.escape_ascii())?),
-        None => Ok(String::from_str(alloc, "none")?),
+        Some(bytes) => write!(words, "[{}]", bytes.escape_ascii()),
+        None => words.push_str("none"),
     }
 }
 
-/// The reason with these bytes, which are given as numbers.
-fn reason(alloc: Global, numbers: &str) -> Result<String, RowFault> {
-    let mut text = Vec::new(alloc);
+/// The bytes that are given as numbers.
+fn bytes_of(alloc: Global, numbers: &str) -> Result<Vec<u8>, RowFault> {
+    let mut bytes = Vec::new(alloc);
     for number in numbers.split_ascii_whitespace() {
         match number.parse::<u8>() {
-            Ok(byte) => text.push(byte)?,
+            Ok(byte) => bytes.push(byte)?,
             Err(_) => return Err(RowFault::Number),
         }
     }
+    Ok(bytes)
+}
+
+/// Adds the reason with these bytes, which are given as numbers.
+fn push_reason(words: &mut String, alloc: Global, numbers: &str) -> Result<(), RowFault> {
+    let text = bytes_of(alloc, numbers)?;
     match &Reason::new(&text) {
-        Some(reason) => in_brackets(alloc, Some(reason.bytes())),
-        None => in_brackets(alloc, None),
+        Some(reason) => Ok(push_bytes(words, Some(reason.bytes()))?),
+        None => Ok(push_bytes(words, None)?),
     }
 }
 
-/// Notes a new upload without bytes, and writes the place of its events as "LANE FIRST COUNT; ". An upload that is
-/// known is skipped.
+/// Notes a new upload without bytes, and adds the place of its events as "LANE FIRST COUNT; ". An upload that is known
+/// is skipped.
 fn push_place(words: &mut String, journal: &mut Journal, id: Id) -> Result<(), RowFault> {
     if !journal.knows(id) {
         let Added { lane, first, count } = journal.note(Accepted::Created {
@@ -75,20 +84,23 @@ fn push_place(words: &mut String, journal: &mut Journal, id: Id) -> Result<(), R
     Ok(())
 }
 
-/// The places of the events of new uploads without bytes in a journal.
-fn places(alloc: Global, numbers: &str) -> Result<String, RowFault> {
+/// Adds the places of the events of new uploads without bytes in a journal.
+fn push_places(words: &mut String, alloc: Global, numbers: &str) -> Result<(), RowFault> {
     let mut journal = Journal::new(alloc, 2)?;
-    let mut words = String::new(alloc);
     for number in numbers.split_ascii_whitespace() {
-        push_place(&mut words, &mut journal, id_of(number)?)?;
+        push_place(words, &mut journal, id_of(number)?)?;
     }
-    Ok(words)
+    Ok(())
 }
 
-/// The value of a key in the question of a plan.
-fn value_of(alloc: Global, planned: &Result<Plan, Refusal>, key: &str) -> Result<String, RowFault> {
+/// Adds the value of a key in the question of a plan.
+fn push_value(
+    words: &mut String,
+    planned: &Result<Plan, Refusal>,
+    key: &str,
+) -> Result<(), RowFault> {
     match planned {
-        Ok(Plan::Ask(ask)) => in_brackets(alloc, ask.value(key.as_bytes())),
+        Ok(Plan::Ask(ask)) => Ok(push_bytes(words, ask.value(key.as_bytes()))?),
         Ok(_) => Err(RowFault::Text),
         Err(_) => Err(RowFault::Refused),
     }
@@ -98,12 +110,6 @@ fn value_of(alloc: Global, planned: &Result<Plan, Refusal>, key: &str) -> Result
 fn numbered(alloc: Global, row: &str) -> Result<Request, RowFault> {
     let (number, rest) = cut(row);
     request_of(alloc, id_of(number)?, rest)
-}
-
-/// The bytes of an upload, as a book returns them.
-fn given(book: &mut Book, alloc: Global, id: Id, asked: &Asked) -> Result<Segments, RowFault> {
-    let given = book.commit(alloc, Request::Get(id), id, asked, &mut Remains::new())?;
-    Ok(given.response.body)
 }
 
 /// Returns an error if the state of a book differs from the one before.
@@ -129,71 +135,90 @@ impl Course {
         Ok(())
     }
 
-    /// The plan of a request, as text.
-    fn planned(&self, alloc: Global, row: &str) -> Result<String, RowFault> {
+    /// Adds the plan of a request.
+    fn push_planned(&self, words: &mut String, alloc: Global, row: &str) -> Result<(), RowFault> {
         let request = numbered(alloc, row)?;
-        words::of_plan(alloc, &self.book.plan(alloc, &request))
+        words::push_planned(words, alloc, &self.book.plan(alloc, &request))
     }
 
-    /// The plan of a request, as text. Checks that planning changes nothing.
-    fn plan(&self, alloc: Global, row: &str) -> Result<String, RowFault> {
+    /// Adds the plan of a request. Checks that planning changes nothing.
+    fn plan(&self, words: &mut String, alloc: Global, row: &str) -> Result<(), RowFault> {
         let before = words::state(alloc, &self.book)?;
-        let planned = self.planned(alloc, row)?;
-        hold_unchanged(alloc, &self.book, before.as_str())?;
-        Ok(planned)
+        self.push_planned(words, alloc, row)?;
+        hold_unchanged(alloc, &self.book, before.as_str())
     }
 
-    /// The change and the response of a request, as text.
-    fn decided(
+    /// Commits a request. What it leaves over is dropped.
+    fn decide(&mut self, alloc: Global, request: Request, id: Id) -> Result<Done, Refusal>
+        requires { FitsWithin MAX_UPLOAD_BYTES request }
+    {
+        let remains = &mut Remains::new();
+        self.book.commit(alloc, request, id, &self.asked, remains)
+    }
+
+    /// Commits the request of a row, adds the response, and returns the change.
+    fn push_decided(
         &mut self,
+        words: &mut String,
         alloc: Global,
         row: &str,
-    ) -> Result<(Option<Accepted>, String), RowFault> {
+    ) -> Result<Option<Accepted>, RowFault> {
         let (number, rest) = cut(row);
         let id = id_of(number)?;
-        let request = request_of(alloc, id, rest)?;
-        let mut remains = Remains::new();
-        let (book, asked) = (&mut self.book, &self.asked);
-        let decided = book.commit(alloc, request, id, asked, &mut remains);
-        Ok((words::change_of(&decided), words::of_done(alloc, &decided)?))
+        let decided = self.decide(alloc, request_of(alloc, id, rest)?, id);
+        words::push_done(words, alloc, &decided)?;
+        Ok(words::change_of(&decided))
     }
 
-    /// The result of a request, as text. If there is a change, it must be the last of the journal; otherwise the book
-    /// must be unchanged.
-    fn commit(&mut self, alloc: Global, row: &str) -> Result<String, RowFault> {
+    /// Checks a change after `count` others, which must be the last of the journal. If there is none, the state must be
+    /// the one before.
+    fn hold_change(
+        &self,
+        alloc: Global,
+        change: Option<Accepted>,
+        count: usize,
+        before: &str,
+    ) -> Result<(), RowFault> {
+        match change {
+            Some(change) if is_last(&self.book, change, count) => Ok(()),
+            Some(_) => Err(RowFault::NotLast),
+            None => hold_unchanged(alloc, &self.book, before),
+        }
+    }
+
+    /// Adds the result of a request. If there is a change, it must be the last of the journal; otherwise the book must be
+    /// unchanged.
+    fn commit(&mut self, words: &mut String, alloc: Global, row: &str) -> Result<(), RowFault> {
         let before = words::state(alloc, &self.book)?;
         let count = self.book.journal().accepted().len();
-        let (change, found) = self.decided(alloc, row)?;
-        match change {
-            Some(change) if is_last(&self.book, change, count) => {}
-            Some(_) => return Err(RowFault::NotLast),
-            None => hold_unchanged(alloc, &self.book, before.as_str())?,
-        }
-        Ok(found)
+        let change = self.push_decided(words, alloc, row)?;
+        self.hold_change(alloc, change, count, before.as_str())
     }
 
-    /// The result of a request, as text. If the plan is a response, this must be the same.
-    fn step(&mut self, alloc: Global, row: &str) -> Result<String, RowFault> {
-        let planned = self.plan(alloc, row)?;
-        let found = self.commit(alloc, row)?;
-        if is_response(planned.as_str()) && found.as_str() != planned.as_str() {
+    /// Adds the result of a request. If the plan is a response, this must be the same.
+    fn step(&mut self, words: &mut String, alloc: Global, row: &str) -> Result<(), RowFault> {
+        let mut planned = String::new(alloc);
+        self.plan(&mut planned, alloc, row)?;
+        self.commit(words, alloc, row)?;
+        if is_response(planned.as_str()) && words.as_str() != planned.as_str() {
             return Err(RowFault::OtherPlan);
         }
-        Ok(found)
+        Ok(())
     }
 
-    /// The value of a key in the first question about a request.
-    fn value(&self, alloc: Global, row: &str) -> Result<String, RowFault> {
+    /// Adds the value of a key in the first question about a request.
+    fn value(&self, words: &mut String, alloc: Global, row: &str) -> Result<(), RowFault> {
         let (key, row) = row.split_once("] ").unwrap_or((row, ""));
         let key = key.strip_prefix("[").unwrap_or(key);
         let request = numbered(alloc, row)?;
-        value_of(alloc, &self.book.plan(alloc, &request), key)
+        push_value(words, &self.book.plan(alloc, &request), key)
     }
 
     /// Keeps the bytes of an upload.
     fn keep(&mut self, alloc: Global, number: &str) -> Result<(), RowFault> {
         let id = id_of(number)?;
-        self.kept = given(&mut self.book, alloc, id, &self.asked)?;
+        let Done { response, .. } = self.decide(alloc, Request::Get(id), id)?;
+        self.kept = response.body;
         Ok(())
     }
 
@@ -215,23 +240,47 @@ impl Course {
         }
     }
 
+    /// Adds what a mark that needs no request asks for. Returns whether there is such a mark.
+    fn push_state(
+        &self,
+        words: &mut String,
+        alloc: Global,
+        word: &str,
+        rest: &str,
+    ) -> Result<bool, RowFault> {
+        match word {
+            "kept" => push_body(words, &self.kept)?,
+            "uploads" => words::push_uploads(words, &self.book)?,
+            "accepted" => words::push_changes(words, &self.book)?,
+            "events" => words::push_events(words, alloc, &self.book, number_of(rest)?)?,
+            _ => return Ok(false),
+        }
+        Ok(true)
+    }
+
+    /// Adds the result of a row.
+    fn push_found(&mut self, words: &mut String, alloc: Global, row: &str) -> Result<(), RowFault> {
+        let (word, rest) = cut(row);
+        if self.push_state(words, alloc, word, rest)? {
+            return Ok(());
+        }
+        match word {
+            "plan" => self.plan(words, alloc, rest),
+            "value" => self.value(words, alloc, rest),
+            "reason" => push_reason(words, alloc, rest),
+            "wanting" => words::push_refusal(words, alloc, &Refusal::NoMemory),
+            "places" => push_places(words, alloc, rest),
+            "fill" => working::push_filled(words, alloc, number_of(rest)?),
+            "removals" => working::push_removed(words, alloc, number_of(rest)?),
+            _ => self.step(words, alloc, row),
+        }
+    }
+
     /// The result of a row, as text.
     fn found(&mut self, alloc: Global, row: &str) -> Result<String, RowFault> {
-        let (word, rest) = cut(row);
-        match word {
-            "kept" => in_brackets(alloc, Some(gathered(alloc, &self.kept)?.as_slice())),
-            "plan" => self.plan(alloc, rest),
-            "value" => self.value(alloc, rest),
-            "reason" => reason(alloc, rest),
-            "wanting" => words::of_refusal(alloc, &Refusal::NoMemory),
-            "uploads" => words::of_uploads(alloc, &self.book),
-            "accepted" => words::of_changes(alloc, &self.book),
-            "events" => words::of_events(alloc, &self.book, number_of(rest)?),
-            "places" => places(alloc, rest),
-            "fill" => working::filled(alloc, number_of(rest)?),
-            "removals" => working::removed(alloc, number_of(rest)?),
-            _ => self.step(alloc, row),
-        }
+        let mut words = String::new(alloc);
+        self.push_found(&mut words, alloc, row)?;
+        Ok(words)
     }
 
     /// The result of a row, as text, without spaces at the end.

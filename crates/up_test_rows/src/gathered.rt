@@ -1,9 +1,9 @@
-//! Bytes in runs, copied into one piece.
+//! A body, copied into one piece.
 use std::alloc::{AllocError, Global};
 use up_message::{Piece, Run, Segments};
 
 /// Appends the pieces to the bytes.
-pub fn put_pieces(bytes: &mut Vec<u8>, pieces: &[Piece]) -> Result<(), AllocError> {
+fn put_pieces(bytes: &mut Vec<u8>, pieces: &[Piece]) -> Result<(), AllocError> {
     for piece in pieces {
         bytes.extend_from_slice(piece.as_slice())?;
     }
@@ -11,7 +11,7 @@ pub fn put_pieces(bytes: &mut Vec<u8>, pieces: &[Piece]) -> Result<(), AllocErro
 }
 
 /// Appends the runs to the bytes.
-pub fn put_runs(bytes: &mut Vec<u8>, runs: &[Run]) -> Result<(), AllocError> {
+fn put_runs(bytes: &mut Vec<u8>, runs: &[Run]) -> Result<(), AllocError> {
     for run in runs {
         put_pieces(bytes, run.pieces())?;
     }

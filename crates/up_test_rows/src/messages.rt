@@ -94,6 +94,34 @@ impl Messages {
         found
     }
 
+    /// The messages that are read of a row with this mark.
+    fn read(
+        &self,
+        alloc: Global,
+        mark: &str,
+        bytes: &[u8],
+        calls: usize,
+    ) -> Result<String, RowFault> {
+        match mark {
+            "end" if self.is_odd() => reading::by_bytes(alloc, self, bytes, false, calls, false),
+            "end" => reading::either_way(alloc, self, bytes, calls),
+            "fail" => reading::by_bytes(alloc, self, bytes, true, calls, false),
+            "both" => reading::at_both_ends(alloc, self, bytes, calls),
+            _ => reading::by_bytes(alloc, self, bytes, false, calls, true),
+        }
+    }
+
+    /// What is written of the response of a row with this mark.
+    fn written(&self, alloc: Global, mark: &str, text: &str) -> Result<String, RowFault> {
+        match mark {
+            "respond" => responses::written(alloc, self, text),
+            "sent" => responses::sent(alloc, text),
+            "pieces" => responses::pieces_sent(alloc, text == "flushed"),
+            "refused" => responses::refused(alloc, self),
+            _ => responses::lost(alloc, self),
+        }
+    }
+
     /// The result of a row with this mark. Its text is given as it was written, and as bytes.
     fn found(
         &self,
@@ -104,20 +132,12 @@ impl Messages {
         calls: usize,
     ) -> Result<String, RowFault> {
         match mark {
-            "end" if self.is_odd() => reading::by_bytes(alloc, self, bytes, false, calls, false),
-            "end" => reading::either_way(alloc, self, bytes, calls),
-            "fail" => reading::by_bytes(alloc, self, bytes, true, calls, false),
-            "both" => reading::at_both_ends(alloc, self, bytes, calls),
-            "slow" => reading::by_bytes(alloc, self, bytes, false, calls, true),
+            "end" | "fail" | "both" | "slow" => self.read(alloc, mark, bytes, calls),
+            "respond" | "sent" | "pieces" | "refused" | "lost" => self.written(alloc, mark, text),
             "slice" => turns::of_slice(alloc, text),
             "reader" => turns::of_reader(alloc, text),
             "writer" => turns::of_writer(alloc, text),
-            "respond" => responses::written(alloc, self, text),
-            "sent" => responses::sent(alloc, text),
-            "pieces" => responses::pieces_sent(alloc, text == "flushed"),
             "shared" => responses::shared(alloc, bytes),
-            "refused" => responses::refused(alloc, self),
-            "lost" => responses::lost(alloc, self),
             "faults" => asked::faults(alloc),
             "id" => asked::id(alloc, bytes),
             "metadata" => asked::metadata(alloc, bytes),

@@ -1,12 +1,14 @@
-//! Texts for bytes, with Rust's escapes: `\r`, `\n`, `\t`, `\\`, `\'`, `\"` and `\xHH`; and the first line in which two
-//! texts differ.
+//! Texts for bytes, with Rust's escapes: `\r`, `\n`, `\t`, `\\`, `\'`, `\"` and `\xHH`; the first line in which two texts
+//! differ; and responses as text.
 #![tactic(auto)]
 
 ghost use Rattle.std.specs.Prelude.{◌<◌, IfOk, length};
 
 mod line_difference;
+mod responses;
 
 pub use crate::line_difference::{LineDifference, difference};
+pub use crate::responses::{push_body, push_fields, push_pieces, push_response, push_runs};
 use std::alloc::AllocError;
 use thiserror::Error;
 

@@ -3,9 +3,10 @@ ghost use Rattle.up_headers.specs.Table.{FitsWithin};
 
 use crate::row_fault::RowFault;
 use std::alloc::Global;
+use std::fmt::Write;
 use up_events::{Id, Kind, MAX_UPLOAD_BYTES, NoMemory};
 use up_headers::{NewUpload, Patch, Request};
-use up_machine::{Asked, Book, Refusal, Remains};
+use up_machine::{Asked, Book, Done, Refusal, Remains};
 use up_message::{Piece, Sequence};
 
 /// A book of two lanes, for uploads of 8 bytes.
@@ -19,14 +20,13 @@ fn commit(
     request: Request,
     id: Id,
     asked: Asked,
-) -> Result<(), Refusal>
+) -> Result<Done, Refusal>
     requires { FitsWithin MAX_UPLOAD_BYTES request }
 {
-    book.commit(alloc, request, id, &asked, &mut Remains::new())?;
-    Ok(())
+    book.commit(alloc, request, id, &asked, &mut Remains::new())
 }
 
-fn create(alloc: Global, book: &mut Book, id: Id) -> Result<(), Refusal> {
+fn create(alloc: Global, book: &mut Book, id: Id) -> Result<Done, Refusal> {
     let new = NewUpload {
         kind: Kind::Plain,
         length: Some(8),
@@ -38,7 +38,7 @@ fn create(alloc: Global, book: &mut Book, id: Id) -> Result<(), Refusal> {
     commit(alloc, book, Request::Create(new), id, Asked::Skipped)
 }
 
-fn append(alloc: Global, book: &mut Book, id: Id) -> Result<(), Refusal> {
+fn append(alloc: Global, book: &mut Book, id: Id) -> Result<Done, Refusal> {
     let bytes = Piece::from_static(b"12345678");
     let patch = Patch {
         id,
@@ -50,18 +50,30 @@ fn append(alloc: Global, book: &mut Book, id: Id) -> Result<(), Refusal> {
     commit(alloc, book, Request::Patch(patch), id, Asked::AllowedFinish)
 }
 
-fn remove(alloc: Global, book: &mut Book, id: Id) -> Result<(), Refusal> {
+fn remove(alloc: Global, book: &mut Book, id: Id) -> Result<Done, Refusal> {
     commit(alloc, book, Request::Delete(id), id, Asked::Allowed)
+}
+
+/// Creates `count` uploads.
+fn create_all(alloc: Global, book: &mut Book, count: u64) -> Result<(), Refusal> {
+    for n in 0..count {
+        create(alloc, book, Id::new(u128::from(n)))?;
+    }
+    Ok(())
+}
+
+/// Appends eight bytes to each of `count` uploads.
+fn append_to_all(alloc: Global, book: &mut Book, count: u64) -> Result<(), Refusal> {
+    for n in 0..count {
+        append(alloc, book, Id::new(u128::from(n)))?;
+    }
+    Ok(())
 }
 
 /// Creates `count` uploads, appends eight bytes to each, and asks for each.
 fn fill(alloc: Global, book: &mut Book, count: u64) -> Result<(), Refusal> {
-    for n in 0..count {
-        create(alloc, book, Id::new(u128::from(n)))?;
-    }
-    for n in 0..count {
-        append(alloc, book, Id::new(u128::from(n)))?;
-    }
+    create_all(alloc, book, count)?;
+    append_to_all(alloc, book, count)?;
     for n in 0..count {
         book.plan(alloc, &Request::Head(Id::new(u128::from(n))))?;
     }
@@ -78,22 +90,22 @@ fn replace(alloc: Global, book: &mut Book, count: u64) -> Result<(), Refusal> {
     Ok(())
 }
 
-/// The number of changes that a book accepted, as text.
-fn count_of(alloc: Global, book: &Book) -> Result<String, RowFault> {
+/// Adds the number of changes that a book accepted.
+fn push_count(words: &mut String, book: &Book) -> Result<(), RowFault> {
     let accepted = book.journal().accepted().len();
-    Ok(format!(in alloc; "{accepted}")?)
+    Ok(write!(words, "{accepted}")?)
 }
 
-/// The number of accepted changes if `count` uploads are created and filled.
-pub fn filled(alloc: Global, count: u64) -> Result<String, RowFault> {
+/// Adds the number of accepted changes if `count` uploads are created and filled.
+pub fn push_filled(words: &mut String, alloc: Global, count: u64) -> Result<(), RowFault> {
     let mut book = new_book(alloc)?;
     fill(alloc, &mut book, count)?;
-    count_of(alloc, &book)
+    push_count(words, &book)
 }
 
-/// The number of accepted changes if `count` uploads are created, and each is removed before the next.
-pub fn removed(alloc: Global, count: u64) -> Result<String, RowFault> {
+/// Adds the number of accepted changes if `count` uploads are created, and each is removed before the next.
+pub fn push_removed(words: &mut String, alloc: Global, count: u64) -> Result<(), RowFault> {
     let mut book = new_book(alloc)?;
     replace(alloc, &mut book, count)?;
-    count_of(alloc, &book)
+    push_count(words, &book)
 }

@@ -100,13 +100,17 @@ pub fn pieces_sent(alloc: Global, flushes: bool) -> Result<String, RowFault> {
     words_of(alloc, ended, sink.into_inner().get_ref(), "")
 }
 
+/// The bytes of a response that shares the body, and is then dropped.
+fn shared_bytes(alloc: Global, body: &Piece) -> Result<Vec<u8>, RowFault> {
+    let shared = Segments::from_piece(alloc, body.share()?);
+    let made = Response::new(alloc, 200).with_body(shared);
+    Ok(gathered(alloc, &made.body)?)
+}
+
 /// A body, and whether another owner still has it when the response that shares it is gone.
 pub fn shared(alloc: Global, text: &[u8]) -> Result<String, RowFault> {
     let body = Piece::copied(alloc, text)?;
-    let shared = Segments::from_piece(alloc, body.share()?);
-    let made = Response::new(alloc, 200).with_body(shared);
-    let bytes = gathered(alloc, &made.body)?;
-    drop(made);
+    let bytes = shared_bytes(alloc, &body)?;
     let mark = if body.as_slice() == bytes.as_slice() {
         " shared"
     } else {

@@ -1,0 +1,46 @@
+//! Responses and their bytes as text, with Rust's escapes.
+use std::alloc::AllocError;
+use std::fmt::Write;
+use up_message::{Field, Piece, Response, Run, Segments};
+
+/// Adds the pieces, one after another.
+pub fn push_pieces(words: &mut String, pieces: &[Piece]) -> Result<(), AllocError> {
+    for piece in pieces {
+        write!(words, "{}", piece.as_slice().escape_ascii())?;
+    }
+    Ok(())
+}
+
+/// Adds the runs, one after another.
+pub fn push_runs(words: &mut String, runs: &[Run]) -> Result<(), AllocError> {
+    for run in runs {
+        push_pieces(words, run.pieces())?;
+    }
+    Ok(())
+}
+
+/// Adds all bytes of a body in brackets.
+pub fn push_body(words: &mut String, body: &Segments) -> Result<(), AllocError> {
+    let (front, last) = body.runs();
+    words.push_str("[")?;
+    push_runs(words, front)?;
+    push_pieces(words, last.pieces())?;
+    words.push_str("]")
+}
+
+/// Adds each field or pair as "name: value; ".
+pub fn push_fields(words: &mut String, fields: &[Field]) -> Result<(), AllocError> {
+    for (name, value) in fields {
+        let name = name.as_slice().escape_ascii();
+        let value = value.as_slice().escape_ascii();
+        write!(words, "{name}: {value}; ")?;
+    }
+    Ok(())
+}
+
+/// Adds a response as "200 Upload-Offset: 0; Upload-Length: 5; [abc]": status, fields in order, and body.
+pub fn push_response(words: &mut String, response: &Response) -> Result<(), AllocError> {
+    write!(words, "{} ", response.status)?;
+    push_fields(words, response.fields.as_slice())?;
+    push_body(words, &response.body)
+}
