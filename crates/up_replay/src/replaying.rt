@@ -46,24 +46,29 @@ pub fn fits(request: &Request) -> bool
     }
 }
 
-/// Commits an entry again. If the commit is refused now, it was refused before, too.
+/// Commits an entry that fits again. If the commit is refused now, it was refused before, too.
+fn commit_again(alloc: Global, book: &mut Book, entry: Entry) -> Result<(), Unreplayed>
+    requires fits { FitsWithin MAX_UPLOAD_BYTES entry.request }
+    ensures ok { OnOk result (book.new ≡ replayed_one book.old entry) }
+    ensures err { OnErr result (book.new ≡ book.old) }
+{
+    let asked = asked_of(entry.consent);
+    let mut remains = Remains::new();
+    match book.commit(alloc, entry.request, entry.id, &asked, &mut remains) {
+        Err(Refusal::NoMemory) => Err(Unreplayed::Memory),
+        _ => Ok(()),
+    }
+}
+
+/// Commits an entry again, unless it does not fit.
 fn replay_one(alloc: Global, book: &mut Book, entry: Entry) -> Result<(), Unreplayed>
     ensures ok { OnOk result (book.new ≡ replayed_one book.old entry) }
     ensures err { OnErr result (book.new ≡ book.old) }
 {
-    let Entry {
-        id,
-        consent,
-        request,
-    } = entry;
-    if !fits(&request) {
-        return Err(Unreplayed::TooLong);
-    }
-    let mut remains = Remains::new();
-    match book.commit(alloc, request, id, &asked_of(consent), &mut remains) {
-        Ok(_) => Ok(()),
-        Err(Refusal::NoMemory) => Err(Unreplayed::Memory),
-        Err(_) => Ok(()),
+    if fits(&entry.request) {
+        commit_again(alloc, book, entry)
+    } else {
+        Err(Unreplayed::TooLong)
     }
 }
 
