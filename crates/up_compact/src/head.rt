@@ -1,5 +1,5 @@
 //! Which log is the current one.
-ghost use Rattle.std.specs.Prelude.{◌≡◌, IfOk};
+ghost use Rattle.std.specs.Prelude.{◌≡◌, ◌++◌, ◌∷◌, [], IfOk, OnOk};
 ghost use Rattle.up_compact.specs.Heads.{batch_of, first_head, head_of, ids_of, entry_with_number};
 
 use std::alloc::{AllocError, Global};
@@ -29,6 +29,19 @@ fn entry_of(number: u64) -> Entry
         consent: Consent::Skipped,
         request: Request::Options,
     }
+}
+
+/// Adds the entry with this number to a batch.
+fn push_number(
+    alloc: Global,
+    batch: &mut Vec<Spelled>,
+    number: u64,
+) -> Result<(), AllocError>
+    ensures { OnOk result (batch.new.items ≡ batch.old.items ++ entry_with_number number ∷ []) }
+{
+    let spelled = Spelled::new(alloc, &entry_of(number))?;
+    batch.push(spelled)?;
+    Ok(())
 }
 
 /// The ids of entries, as numbers below 2^64.
@@ -79,10 +92,10 @@ impl Head {
         ensures { IfOk result (λ batch. batch.items ≡ batch_of self.now) }
     {
         let mut batch = Vec::new(alloc);
-        batch.push(Spelled::new(alloc, &entry_of(self.generation))?)?;
-        batch.push(Spelled::new(alloc, &entry_of(self.entries))?)?;
+        push_number(alloc, &mut batch, self.generation)?;
+        push_number(alloc, &mut batch, self.entries)?;
         for count in self.left_out.as_slice() {
-            batch.push(Spelled::new(alloc, &entry_of(*count))?)?;
+            push_number(alloc, &mut batch, *count)?;
         }
         Ok(batch)
     }
