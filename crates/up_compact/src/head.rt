@@ -32,11 +32,7 @@ fn entry_of(number: u64) -> Entry
 }
 
 /// Adds the entry with this number to a batch.
-fn push_number(
-    alloc: Global,
-    batch: &mut Vec<Spelled>,
-    number: u64,
-) -> Result<(), AllocError>
+fn push_number(alloc: Global, batch: &mut Vec<Spelled>, number: u64) -> Result<(), AllocError>
     ensures { OnOk result (batch.new.items ≡ batch.old.items ++ entry_with_number number ∷ []) }
 {
     let spelled = Spelled::new(alloc, &entry_of(number))?;

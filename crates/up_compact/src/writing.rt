@@ -72,6 +72,18 @@ fn spell_staying(
     Ok(spelled)
 }
 
+/// Appends these entries to a log as a batch, if there are any.
+fn append_any<D: Disk>(alloc: Global, log: &mut Log<D>, spelled: &[Spelled]) -> Result<(), LogFault>
+    ensures { (setup : Numbers) (before : List Logged)
+        → HasEntries D.Disk log.old setup before
+        → OnOk result (HasEntries D.Disk log.new setup (before ++ spelled.now)) }
+{
+    if spelled.is_empty() {
+        return Ok(());
+    }
+    log.append(&mut Vec::new(alloc), spelled)
+}
+
 /// Appends those of the entries of a batch that stay to a shorter log, and returns how much of the longer log is then
 /// processed. `next` is the place after the batch. After `Ok` the entries are on the disk. The errors are those of
 /// `Log::append`, `Memory` if memory runs out, and `Damaged` if there are too many entries to count.
@@ -102,9 +114,7 @@ pub fn add_staying<D: Disk>(
     let Some(stayed) = progress.stayed.checked_add(spelled.len() as u64) else {
         return Err(LogFault::Damaged);
     };
-    if !spelled.is_empty() {
-        shorter.append(&mut Vec::new(alloc), &spelled)?;
-    }
+    append_any(alloc, shorter, &spelled)?;
     Ok(Progress {
         place: next,
         count,
