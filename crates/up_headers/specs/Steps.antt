@@ -6,17 +6,25 @@ use Rattle.up_headers.specs.declared.request.Request.{Request}
 use Rattle.up_headers.specs.declared.header_fault.HeaderFault.{HeaderFault}
 use Rattle.up_headers.specs.declared.header_fault.HeaderFault.TheVariants as fault
 use Rattle.up_headers.specs.declared.verb.Verb.{Verb}
+use Rattle.up_headers.specs.declared.verb.Verb.TheVariants as method
 use Rattle.up_headers.specs.declared.place.Place.{Place}
+use Rattle.up_headers.specs.declared.patch.PatchFields.{PatchFields}
 use Rattle.up_headers.specs.Rows.{first_that_holds}
 use Rattle.up_headers.specs.Verbs.{chosen_verb}
 use Rattle.up_headers.specs.Fields.{is_repeated, value_in}
+use Rattle.up_headers.specs.Patches.{patch_fields_of}
 use Rattle.up_headers.specs.Creations.{length_rows, new_length, IsAtMost}
-use Rattle.up_headers.specs.Table.{early_rows, IsAnswerAt}
+use Rattle.up_headers.specs.Table.{early_rows, repeats, IsAnswerAt}
 
 -- the value of the only field with this name, if there is one; the fault if there are several
 abbrev pub IsOnce : List ℕ → List Field → Result (Option (Bor (List ℕ))) HeaderFault → Type 0
 IsOnce name fields (Ok value) = (is_repeated name fields ≡ false) × (option_copied value ≡ value_in name fields)
 IsOnce name fields (Err found) = (is_repeated name fields ≡ true) × (found ≡ fault.Repeated)
+
+-- what the fields of a PATCH say; the fault if one of them is there several times
+abbrev pub IsPatchRead : List Field → Result PatchFields HeaderFault → Type 0
+IsPatchRead fields (Ok read) = (repeats method.Patch fields ≡ false) × (read ≡ patch_fields_of fields)
+IsPatchRead fields (Err found) = (repeats method.Patch fields ≡ true) × (found ≡ fault.Repeated)
 
 -- a check that fails returns this fault, and one that succeeds has none
 abbrev pub IsFirstFault : Result ⊤ HeaderFault → Option HeaderFault → Type 0

@@ -1,7 +1,7 @@
 //! The PATCH of an upload.
 ghost use Rattle.std.specs.Prelude.{◌≡◌, ℕ, IfOk, option_copied};
 ghost use Rattle.up_headers.specs.Patches.{before_semicolon, declared_by, is_media, number_of};
-ghost use Rattle.up_headers.specs.Steps.{IsStep};
+ghost use Rattle.up_headers.specs.Steps.{IsPatchRead, IsStep};
 ghost use Rattle.up_headers.specs.Table.{FitsWithin};
 
 use crate::fields::once;
@@ -10,7 +10,29 @@ use crate::place::Place;
 use crate::request::{NotDigits, Patch, Request};
 use crate::verb::Verb;
 use up_events::Id;
-use up_message::{Message, Piece, is_digits, number, same_name, trim_end_ows};
+use up_message::{Field, Message, Piece, is_digits, number, same_name, trim_end_ows};
+
+/// What the fields of a PATCH say: all of it but the id and the bytes.
+#[derive(Clone, Copy)]
+struct PatchFields {
+    media: bool,
+    offset: Option<u64>,
+    length: Option<Result<u64, NotDigits>>,
+}
+
+/// What the fields of a PATCH say. The fault is `Repeated` if one of them is there twice.
+fn read_fields(fields: &[Field]) -> Result<PatchFields, HeaderFault>
+    ensures { IsPatchRead fields.now result }
+{
+    let media = once(fields, b"content-type")?.unwrap_or(b"");
+    let offset = once(fields, b"upload-offset")?.unwrap_or(b"");
+    let length = once(fields, b"upload-length")?;
+    Ok(PatchFields {
+        media: is_media(media),
+        offset: number_of(offset),
+        length: declared_by(length),
+    })
+}
 
 /// What a PATCH of an upload asks for (tus 1.0.0, PATCH). No field that is read may be there twice. The bytes are those
 /// of the message, without a copy, and have no more room than they need.
@@ -19,15 +41,12 @@ pub(crate) fn patch_request(id: Id, message: Message) -> Result<Request, HeaderF
         → IsStep Verb.Patch (Place.Upload id) message.fields message.body max_size result }
     ensures bounded { (max_size : ℕ) → IfOk result (FitsWithin max_size) }
 {
-    let fields = message.fields.as_slice();
-    let media = once(fields, b"content-type")?.unwrap_or(b"");
-    let offset = once(fields, b"upload-offset")?.unwrap_or(b"");
-    let length = once(fields, b"upload-length")?;
+    let read = read_fields(message.fields.as_slice())?;
     Ok(Request::Patch(Patch {
         id,
-        media: is_media(media),
-        offset: number_of(offset),
-        length: declared_by(length),
+        media: read.media,
+        offset: read.offset,
+        length: read.length,
         bytes: Piece::from_sequence(message.body)?,
     }))
 }
