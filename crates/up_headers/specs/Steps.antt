@@ -1,6 +1,7 @@
 -- What the steps of the checks return.
 use Rattle.std.specs.Borrow.{Bor}
 use Rattle.std.specs.Prelude.{◌≡◌, ℕ, ◌⊎◌, true, false, List, Option, Some, None, option_copied, Result, Ok, Err, ⊤}
+use Rattle.std.specs.Result.{is_err}
 use Rattle.up_message.specs.Fields.{Field}
 use Rattle.up_headers.specs.declared.request.Request.{Request}
 use Rattle.up_headers.specs.declared.header_fault.HeaderFault.{HeaderFault}
@@ -9,11 +10,14 @@ use Rattle.up_headers.specs.declared.verb.Verb.{Verb}
 use Rattle.up_headers.specs.declared.verb.Verb.TheVariants as method
 use Rattle.up_headers.specs.declared.place.Place.{Place}
 use Rattle.up_headers.specs.declared.patch.PatchFields.{PatchFields}
+use Rattle.up_headers.specs.declared.creation.Texts.{Texts}
 use Rattle.up_headers.specs.Rows.{first_that_holds}
 use Rattle.up_headers.specs.Verbs.{chosen_verb}
 use Rattle.up_headers.specs.Fields.{is_repeated, value_in}
 use Rattle.up_headers.specs.Patches.{patch_fields_of}
-use Rattle.up_headers.specs.Creations.{length_rows, new_length, IsAtMost}
+use Rattle.up_headers.specs.Metadata.{Pair}
+use Rattle.up_headers.specs.Reading.{reading}
+use Rattle.up_headers.specs.Creations.{concat_in, deferred_text, length_rows, length_value, metadata_in, new_length, IsAtMost}
 use Rattle.up_headers.specs.Table.{early_rows, repeats, IsAnswerAt}
 
 -- the value of the only field with this name, if there is one; the fault if there are several
@@ -25,6 +29,24 @@ IsOnce name fields (Err found) = (is_repeated name fields ≡ true) × (found �
 abbrev pub IsPatchRead : List Field → Result PatchFields HeaderFault → Type 0
 IsPatchRead fields (Ok read) = (repeats method.Patch fields ≡ false) × (read ≡ patch_fields_of fields)
 IsPatchRead fields (Err found) = (repeats method.Patch fields ≡ true) × (found ≡ fault.Repeated)
+
+-- the texts of the fields that a creation reads
+pub record HasTexts (fields : List Field) (texts : Texts) : Type 0 where
+  pub length : option_copied texts.length ≡ length_value fields
+  pub deferred : option_copied texts.deferred ≡ deferred_text fields
+  pub metadata : texts.metadata.now ≡ metadata_in fields
+  pub concat : texts.concat.now ≡ concat_in fields
+
+-- the same; the fault if one of the fields is there several times
+abbrev pub AreTexts : List Field → Result Texts HeaderFault → Type 0
+AreTexts fields (Ok texts) = (repeats method.Post fields ≡ false) × HasTexts fields texts
+AreTexts fields (Err found) = (repeats method.Post fields ≡ true) × (found ≡ fault.Repeated)
+
+-- the pairs of a metadata text; the fault if it has one; or memory ran out
+abbrev pub IsRead : List ℕ → Result (List Pair) HeaderFault → Type 0
+IsRead text (Ok pairs) = reading text ≡ Ok pairs
+IsRead text (Err fault.BadMetadata) = is_err (reading text) ≡ true
+IsRead text (Err found) = found ≡ fault.NoMemory
 
 -- a check that fails returns this fault, and one that succeeds has none
 abbrev pub IsFirstFault : Result ⊤ HeaderFault → Option HeaderFault → Type 0
