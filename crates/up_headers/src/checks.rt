@@ -1,5 +1,6 @@
 //! The checks that turn a message into a request.
-ghost use Rattle.std.specs.Prelude.{◌≡◌, ℕ, List, IfOk};
+ghost use Rattle.std.specs.Prelude.{◌≡◌, ◌≢◌, ℕ, List, IfOk};
+ghost use Rattle.up_message.specs.Fields.{Field as Named};
 ghost use Rattle.up_headers.specs.Rows.{first_that_holds};
 ghost use Rattle.up_headers.specs.Table.{FitsWithin, IsRequestOf, IsRouted, method_rows, version_rows};
 ghost use Rattle.up_headers.specs.Steps.{IsChosen, IsStep, IsFirstFault};
@@ -105,6 +106,21 @@ fn at_creation(
     }
 }
 
+/// What a message to an upload asks for with a method that sends no bytes.
+fn without_bytes(verb: Verb, id: Id) -> Result<Request, HeaderFault>
+    requires sends_none { verb ≢ Verb.Patch }
+    ensures answer { (fields : List Named) (body : List ℕ) (max_size : ℕ)
+        → IsStep verb (Place.Upload id) fields body max_size result }
+    ensures bounded { (max_size : ℕ) → IfOk result (FitsWithin max_size) }
+{
+    match verb {
+        Verb::Head => Ok(Request::Head(id)),
+        Verb::Get => Ok(Request::Get(id)),
+        Verb::Delete => Ok(Request::Delete(id)),
+        _ => Err(HeaderFault::Method { of_upload: true }),
+    }
+}
+
 /// What a message to an upload asks for.
 fn at_upload(verb: Verb, id: Id, message: Message) -> Result<Request, HeaderFault>
     ensures answer { (max_size : ℕ)
@@ -112,10 +128,7 @@ fn at_upload(verb: Verb, id: Id, message: Message) -> Result<Request, HeaderFaul
     ensures bounded { (max_size : ℕ) → IfOk result (FitsWithin max_size) }
 {
     match verb {
-        Verb::Head => Ok(Request::Head(id)),
-        Verb::Get => Ok(Request::Get(id)),
-        Verb::Delete => Ok(Request::Delete(id)),
         Verb::Patch => patch_request(id, message),
-        _ => Err(HeaderFault::Method { of_upload: true }),
+        _ => without_bytes(verb, id),
     }
 }
