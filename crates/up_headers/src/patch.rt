@@ -9,6 +9,7 @@ use crate::header_fault::HeaderFault;
 use crate::place::Place;
 use crate::request::{NotDigits, Patch, Request};
 use crate::verb::Verb;
+use std::alloc::AllocError;
 use up_events::Id;
 use up_message::{Field, Message, Piece, is_digits, number, same_name, trim_end_ows};
 
@@ -34,6 +35,13 @@ fn read_fields(fields: &[Field]) -> Result<PatchFields, HeaderFault>
     })
 }
 
+/// The bytes of the body of a message, without a copy, and with no more room than they need.
+fn bytes_of(message: Message) -> Result<Piece, AllocError>
+    ensures { IfOk result (λ bytes. bytes ≡ message.body) }
+{
+    Piece::from_sequence(message.body)
+}
+
 /// What a PATCH of an upload asks for (tus 1.0.0, PATCH). No field that is read may be there twice. The bytes are those
 /// of the message, without a copy, and have no more room than they need.
 pub(crate) fn patch_request(id: Id, message: Message) -> Result<Request, HeaderFault>
@@ -47,7 +55,7 @@ pub(crate) fn patch_request(id: Id, message: Message) -> Result<Request, HeaderF
         media: read.media,
         offset: read.offset,
         length: read.length,
-        bytes: Piece::from_sequence(message.body)?,
+        bytes: bytes_of(message)?,
     }))
 }
 
