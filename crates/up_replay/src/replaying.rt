@@ -46,15 +46,20 @@ pub fn fits(request: &Request) -> bool
     }
 }
 
-/// Commits an entry that fits again. If the commit is refused now, it was refused before, too.
-fn commit_again(alloc: Global, book: &mut Book, entry: Entry) -> Result<(), Unreplayed>
+/// Commits an entry that fits again. If the commit is refused now, it was refused before, too. What the request leaves
+/// over goes into `remains`.
+fn commit_again(
+    alloc: Global,
+    book: &mut Book,
+    entry: Entry,
+    remains: &mut Remains,
+) -> Result<(), Unreplayed>
     requires fits { FitsWithin MAX_UPLOAD_BYTES entry.request }
     ensures ok { OnOk result (book.new ≡ replayed_one book.old entry) }
     ensures err { OnErr result (book.new ≡ book.old) }
 {
     let asked = asked_of(entry.consent);
-    let mut remains = Remains::new();
-    match book.commit(alloc, entry.request, entry.id, &asked, &mut remains) {
+    match book.commit(alloc, entry.request, entry.id, &asked, remains) {
         Err(Refusal::NoMemory) => Err(Unreplayed::Memory),
         _ => Ok(()),
     }
@@ -66,7 +71,7 @@ fn replay_one(alloc: Global, book: &mut Book, entry: Entry) -> Result<(), Unrepl
     ensures err { OnErr result (book.new ≡ book.old) }
 {
     if fits(&entry.request) {
-        commit_again(alloc, book, entry)
+        commit_again(alloc, book, entry, &mut Remains::new())
     } else {
         Err(Unreplayed::TooLong)
     }
