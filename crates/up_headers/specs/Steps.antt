@@ -9,9 +9,11 @@ use Rattle.up_headers.specs.declared.header_fault.HeaderFault.TheVariants as fau
 use Rattle.up_headers.specs.declared.verb.Verb.{Verb}
 use Rattle.up_headers.specs.declared.verb.Verb.TheVariants as method
 use Rattle.up_headers.specs.declared.place.Place.{Place}
+use Rattle.up_headers.specs.declared.place.Place.TheVariants.{Creation, Upload, Nowhere}
 use Rattle.up_headers.specs.declared.patch.PatchFields.{PatchFields}
 use Rattle.up_headers.specs.declared.creation.Texts.{Texts}
 use Rattle.up_headers.specs.Rows.{first_that_holds}
+use Rattle.up_headers.specs.Places.{IsAt}
 use Rattle.up_headers.specs.Verbs.{chosen_verb}
 use Rattle.up_headers.specs.Fields.{is_repeated, value_in}
 use Rattle.up_headers.specs.Patches.{patch_fields_of}
@@ -63,6 +65,12 @@ abbrev pub IsLength : List ℕ → Option (List ℕ) → Option (List ℕ) → �
 IsLength concat length deferred max_size (Ok known) =
     (first_that_holds (length_rows concat length deferred max_size) ≡ None) × (known ≡ new_length concat length) × IsAtMost max_size known
 IsLength concat length deferred max_size (Err found) = first_that_holds (length_rows concat length deferred max_size) ≡ Some found
+
+-- the upload that a target refers to, or none for the creation URL; the fault of any other target; or memory ran out
+abbrev pub IsFound : List ℕ → Result (Option ℕ) HeaderFault → Type 0
+IsFound target (Ok None) = IsAt target Creation
+IsFound target (Ok (Some id)) = IsAt target (Upload id)
+IsFound target (Err found) = (found ≡ fault.NoMemory) ⊎ ((found ≡ fault.NoSuchPath) × IsAt target Nowhere)
 
 -- the result of the checks at a place; or memory ran out
 abbrev pub IsStep : Verb → Place → List Field → List ℕ → ℕ → Result Request HeaderFault → Type 0

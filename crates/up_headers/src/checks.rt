@@ -3,7 +3,7 @@ ghost use Rattle.std.specs.Prelude.{◌≡◌, ◌≢◌, ℕ, List, IfOk};
 ghost use Rattle.up_message.specs.Fields.{Field as Named};
 ghost use Rattle.up_headers.specs.Rows.{first_that_holds};
 ghost use Rattle.up_headers.specs.Table.{FitsWithin, IsRequestOf, IsRouted, method_rows, version_rows};
-ghost use Rattle.up_headers.specs.Steps.{IsChosen, IsStep, IsFirstFault};
+ghost use Rattle.up_headers.specs.Steps.{IsChosen, IsFirstFault, IsFound, IsStep};
 
 use crate::creation::create_request;
 use crate::fields::once;
@@ -77,16 +77,25 @@ fn check_sent_version(must: bool, fields: &[Field]) -> Result<(), HeaderFault>
     }
 }
 
-/// What a message asks for, depending on the place that its target refers to.
+/// The upload that a target refers to; `None` for the creation URL. `NoSuchPath` for any other target.
+fn upload_at(alloc: Global, target: &[u8]) -> Result<Option<Id>, HeaderFault>
+    ensures { IsFound target.now result }
+{
+    match place_of(alloc, target)? {
+        Place::Creation => Ok(None),
+        Place::Upload(id) => Ok(Some(id)),
+        Place::Nowhere => Err(HeaderFault::NoSuchPath),
+    }
+}
+
+/// What a message asks for, depending on what its target refers to.
 fn route(alloc: Global, verb: Verb, message: Message, max_size: u64) -> Result<Request, HeaderFault>
     ensures answer { IsRouted verb message max_size result }
     ensures bounded { IfOk result (FitsWithin max_size) }
 {
-    let place = place_of(alloc, message.target.as_slice())?;
-    match place {
-        Place::Nowhere => Err(HeaderFault::NoSuchPath),
-        Place::Creation => at_creation(alloc, verb, message.fields.as_slice(), max_size),
-        Place::Upload(id) => at_upload(verb, id, message),
+    match upload_at(alloc, message.target.as_slice())? {
+        Some(id) => at_upload(verb, id, message),
+        None => at_creation(alloc, verb, message.fields.as_slice(), max_size),
     }
 }
 
