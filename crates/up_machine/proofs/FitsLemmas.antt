@@ -13,18 +13,19 @@ use Rattle.up_events.proofs.TrackLemmas.{same_id}
 use Rattle.up_events.proofs.HistoryLemmas.{or_none, EachFollows-snoc, kind_of-other, length_of-other, offset_of-other, is_terminated-other}
 use Rattle.up_events.proofs.Sound.{sound, kind_of-created, length_of-created, kind_of-appended, length_of-appended, kind_of-declared, length_of-declared, is_terminated-created, is_terminated-appended, is_terminated-declared, is_terminated-terminated, offset_of-created, offset_of-appended, offset_of-declared}
 use Rattle.up_machine.specs.Content.{Content, CanTake, declared, size_after, with_more}
-use Rattle.up_machine.specs.Decision.{change_by, rows_of, patch_outcome, unless}
-use Rattle.up_machine.proofs.DecisionLemmas.{MayTake, patch_passed}
+use Rattle.up_machine.specs.Decision.{change_by, new_content, rows_of, patch_outcome, unless}
+use Rattle.up_machine.proofs.DecisionLemmas.{MayTake, create_passed, first_small, made_bytes, made_sized, made_small, patch_passed}
 use Rattle.up_machine.specs.declared.checks.PatchOutcome.{PatchOutcome}
 use Rattle.up_machine.specs.declared.plan.Asked.{Asked}
 use Rattle.up_headers.specs.declared.request.Request.TheVariants as request
 use Rattle.up_headers.specs.Rows.{first_that_holds}
-use Rattle.up_headers.specs.Creations.{is_above}
+use Rattle.up_headers.specs.Creations.{IsAtMost, is_above}
+use Rattle.up_headers.specs.declared.request.NewUpload.{NewUpload}
 use Rattle.up_headers.specs.declared.request.Patch.{Patch}
 use Rattle.up_headers.specs.declared.request.NotDigits.{NotDigits}
 use Rattle.std.specs.Option.{option_or, IsSomeAnd, IfSome}
 use Rattle.up_events.specs.Records.{Records, noted}
-use Rattle.up_machine.specs.State.{Contents, State, extended}
+use Rattle.up_machine.specs.State.{Contents, State, extended, first_bytes}
 use Rattle.up_machine.specs.Fits.{Fits, IsSoundBook}
 
 at_other : (k u : ℕ) → eq_by_cmp nat_cmp u k ≡ false → eqb k u ≡ false
@@ -207,6 +208,27 @@ fits_created content changes u x legal fits new bytes =
     let alive : is_alive (changes ++ c ∷ []) u ≡ true = rw (known, is_terminated-created changes u x.length u x.kind, s.not_ended new) refl in
     let offset = offset_of-created changes u x.length x.kind new (s.no_length new) (s.no_bytes new) in
     fits_put content changes c x fits alive (known, size, bytes ∙ sym offset)
+
+none_of : (o : Option Content) → is_some o ≡ false → o ≡ None
+none_of None e = refl
+none_of (Some x) e = absurd (false≢true (sym e))
+
+-- what holds where nothing refuses a creation: the id is unused, the change may follow, and the book with the new upload fits it
+pub record MayCreate (s : State) (new : NewUpload) (id : ℕ) : Type 0 where
+  pub unused : map.get s.content id ≡ None
+  pub small : length (first_bytes s.content new) ≤ 2 ^ 30
+  pub follows : let x = new_content s new in CanFollow s.journal.accepted (Created id x.length x.kind)
+  pub fits : let x = new_content s new in Fits (map.insert s.content id x) (s.journal.accepted ++ Created id x.length x.kind ∷ [])
+
+pub may_create : (s : State) (new : NewUpload) (id : ℕ) (asked : Asked) (r m : Unit {0}) → IsSoundBook s → IsAtMost (2 ^ 30) new.length → Ok r ≡ unless (first_that_holds (rows_of s (request.Create new) id asked)) m → MayCreate s new id
+may_create s new id asked r m sound bounded e =
+    let passed = create_passed s new id asked r m e in
+    record {
+      unused = none_of (map.get s.content id) (sound.fits.ids id ∙ ap (λ b. b && not (is_terminated s.journal.accepted id)) passed.0);
+      small = first_small s.content s.max_size new bounded sound.small passed.1;
+      follows = (passed.0, made_small s.content s.max_size new bounded sound.small passed.1, made_sized s.content new);
+      fits = fits_created s.content s.journal.accepted id (new_content s new) sound.legal sound.fits passed.0 (made_bytes s.content new);
+    }
 
 and_not_true : (a : Bool) → (a && not true) ≡ false
 and_not_true true = refl

@@ -218,14 +218,11 @@ impl Book {
     {
         self.check_create(&new, id, asked)?;
         let response = answer::to_create(alloc, id)?;
-        let first = parts::first_bytes(alloc, &self.uploads, &new)?;
-        let upload = Upload::new(alloc, new, first);
-        let length = upload.length();
-        let kind = upload.kind();
-        let change = Accepted::Created { id, length, kind };
-        self.uploads.insert(&mut self.journal, change, id, upload)?;
-        let change = Some(Accepted::Created { id, length, kind });
-        Ok(Done { response, change })
+        let change = self.uploads.create(alloc, &mut self.journal, new, id)?;
+        Ok(Done {
+            response,
+            change: Some(change),
+        })
     }
 
     /// Appends bytes to an upload (tus 1.0.0, PATCH).

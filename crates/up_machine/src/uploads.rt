@@ -1,5 +1,5 @@
 //! The uploads, by id.
-ghost use Rattle.std.specs.Prelude.{◌≡◌, length, Some, None, IfOk, OnOk, OnErr, IfSome, IsSomeAnd};
+ghost use Rattle.std.specs.Prelude.{◌≡◌, ◌<◌, ◌^◌, length, Some, None, IfOk, OnOk, OnErr, IfSome, IsSomeAnd};
 ghost use Rattle.std.specs.Option.{option_copied};
 ghost use Rattle.std.specs.FinMap as map;
 ghost use Rattle.std.specs.Ordering.{nat_cmp};
@@ -7,6 +7,7 @@ ghost use Rattle.std.specs.BTreeMap.{get, Updates, IsUnchanged};
 ghost use Rattle.up_events.specs.History.{CanFollow};
 ghost use Rattle.up_events.specs.Records.{noted};
 
+use crate::parts;
 use crate::remains::Remains;
 use crate::upload::Upload;
 use std::alloc::Global;
@@ -14,6 +15,7 @@ use std::collections::BTreeMap;
 use std::collections::btree_map::Entry;
 use std::marker::Model;
 use up_events::{Accepted, Id, Journal, NoMemory};
+use up_headers::NewUpload;
 use up_message::Piece;
 
 /// The uploads that exist, by id.
@@ -59,7 +61,9 @@ fn insert_noted(
 }
 
 impl Uploads {
-    ghost use Rattle.up_machine.specs.Content.{with_more, CanTake};
+    ghost use Rattle.up_events.specs.declared.event.Accepted.TheVariants.{Created};
+    ghost use Rattle.up_machine.specs.Content.{with_more, made_of, CanTake};
+    ghost use Rattle.up_machine.specs.State.{first_bytes};
 
     /// No uploads. Takes no memory.
     pub fn new(alloc: Global) -> Self
@@ -102,8 +106,38 @@ impl Uploads {
         upload.append(alloc, journal, change, size, more)
     }
 
+    /// Makes a new upload, which begins with the bytes of its parts if it is a final one, notes its creation in the
+    /// journal, and inserts it. Returns the change. If memory runs out, nothing is changed.
+    pub fn create(
+        &mut self,
+        alloc: Global,
+        journal: &mut Journal,
+        new: NewUpload,
+        id: Id,
+    ) -> Result<Accepted, NoMemory>
+        requires unused { map.get self.old id ≡ None }
+        requires small { length (first_bytes self.old new) < 2 ^ 64 }
+        requires follows { let made = made_of new (first_bytes self.old new) in
+            CanFollow journal.old.accepted (Created id made.length made.kind) }
+        ensures change { let made = made_of new (first_bytes self.old new) in
+            IfOk result (λ change. change ≡ Created id made.length made.kind) }
+        ensures ok { OnOk result (self.new
+            ≡ map.insert self.old id (made_of new (first_bytes self.old new))) }
+        ensures noted { IfOk result (λ change. journal.new ≡ noted journal.old change) }
+        ensures err { OnErr result (self.new ≡ self.old) }
+        ensures not_noted { OnErr result (journal.new ≡ journal.old) }
+    {
+        let first = parts::first_bytes(alloc, self, &new)?;
+        let upload = Upload::new(alloc, new, first);
+        let length = upload.length();
+        let kind = upload.kind();
+        let change = Accepted::Created { id, length, kind };
+        self.insert(journal, change, id, upload)?;
+        Ok(Accepted::Created { id, length, kind })
+    }
+
     /// Notes the change in the journal, and inserts a new upload. If memory runs out, nothing is changed.
-    pub fn insert(
+    fn insert(
         &mut self,
         journal: &mut Journal,
         change: Accepted,
