@@ -131,6 +131,17 @@ fn to_last(alloc: Global, tail: BytesMut) -> Result<Piece, BytesMut>
     Piece::from_full(tail)
 }
 
+/// Adds these pieces at the end, shared. `AllocError` if memory runs out.
+fn add_shared(segments: &mut Segments, pieces: &[Piece]) -> Result<(), AllocError>
+    requires { length segments.old + length (pieced pieces.now) < 2 ^ 64 }
+    ensures { OnOk result (segments.new ≡ segments.old ++ pieced pieces.now) }
+{
+    for piece in pieces {
+        segments.push(Run::one(piece.share()?))?;
+    }
+    Ok(())
+}
+
 impl Pieces {
     /// No bytes. Takes no memory.
     pub fn new(alloc: Global) -> Self
@@ -237,16 +248,22 @@ impl Pieces {
         Ok(())
     }
 
+    /// Adds the bytes at the end. They are shared, except those of the tail, which are copied. `AllocError` if memory
+    /// runs out.
+    fn add_to(&self, alloc: Global, segments: &mut Segments) -> Result<(), AllocError>
+        requires { length segments.old + length self.now < 2 ^ 64 }
+        ensures { OnOk result (segments.new ≡ segments.old ++ self.now) }
+    {
+        add_shared(segments, self.front.as_slice())?;
+        segments.push(Run::one(Piece::copied(alloc, self.tail.as_slice())?))
+    }
+
     /// The bytes, shared, except those of the tail, which are copied. `AllocError` if memory runs out.
     pub fn share(&self, alloc: Global) -> Result<Segments, AllocError>
         ensures { IfOk result (λ shared. shared ≡ self.now) }
     {
         let mut shared = Segments::with_room(alloc, self.front.len())?;
-        for piece in &self.front {
-            shared.push(Run::one(piece.share()?))?;
-        }
-        let tail = Piece::copied(alloc, self.tail.as_slice())?;
-        shared.push(Run::one(tail))?;
+        self.add_to(alloc, &mut shared)?;
         Ok(shared)
     }
 
