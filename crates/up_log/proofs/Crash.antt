@@ -20,9 +20,6 @@ pub either_settled : {P : Type 0} (is_settled : Bool) → (IsTrue is_settled →
 either_settled true p = inl (p refl)
 either_settled false p = inr refl
 
-pub torn_none : (at n : ℕ) (file : List ℕ) → Torn at n file file
-torn_none at n file = record { no_shorter = omega arith; no_longer = omega arith; below = λ i within before. refl; above = λ i within behind. refl }
-
 pub front_same : (at n : ℕ) (old new : List ℕ) → Torn at n old new → at ≤ length old → take at new ≡ take at old
 front_same at n old new torn within =
     ext_get_or 0 (take at new) (take at old) (omega (arith, length-take at new, length-take at old, torn.no_shorter))

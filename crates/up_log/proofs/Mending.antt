@@ -1,5 +1,5 @@
 -- What is left of a file whose end is repaired.
-use Rattle.std.proofs.Common.{◌≡◌, ℕ, ◌+◌, ◌≤◌, ◌<◌, List, [], ◌∷◌, ◌++◌, length, take, drop, sym, ◌∙◌, ap, arith, length-append, take-append-drop}
+use Rattle.std.proofs.Common.{◌≡◌, ℕ, ◌+◌, ◌≤◌, List, [], ◌∷◌, ◌++◌, length, take, drop, sym, ◌∙◌, ap, arith, length-append, take-append-drop}
 use Rattle.std.proofs.lemmas.List.{take_at, drop_all, length-drop}
 use Rattle.sqlite_disk.specs.Disk.{Holds, Torn}
 use Rattle.up_log.specs.declared.entry.Entry.{Entry}
@@ -11,17 +11,6 @@ closed_short : (back : List ℕ) → length back ≤ 1 → IsClosed back
 closed_short [] short = tt
 closed_short (gate ∷ []) short = tt
 closed_short (gate ∷ next ∷ rest) short = absurd (omega arith)
-
-pub as_is : (setup : Setup) (batches : List (List Entry)) (back file c : List ℕ) → file ≡ written setup batches ++ back → IsClosed back → c ≡ file → IsLog setup c batches
-as_is setup batches back file c is closed same = record { back = back; whole = same ∙ is; closed = closed }
-
-rest_by : (setup : Setup) (batches : List (List Entry)) (back file : List ℕ) → file ≡ written setup batches ++ back → IsClosed back → 2 ≤ length back → IsAtRest setup file batches
-rest_by setup batches [] file is closed long = absurd (omega arith)
-rest_by setup batches (gate ∷ []) file is closed long = absurd (omega arith)
-rest_by setup batches (gate ∷ next ∷ rest) file is closed long = record { gate = gate; behind = next ∷ rest; whole = is; shut = closed }
-
-pub at_rest_as_is : (setup : Setup) (batches : List (List Entry)) (back file : List ℕ) (gate : ℕ) → file ≡ written setup batches ++ back → IsClosed back → gate ≡ length (written setup batches) → gate + 1 < length file → IsAtRest setup file batches
-at_rest_as_is setup batches back file gate is closed place long = rest_by setup batches back file is closed (omega (arith, ap length is, length-append (written setup batches) back))
 
 module _ (setup : Setup) (batches : List (List Entry)) (back file c : List ℕ) (gate : ℕ) (is : file ≡ written setup batches ++ back) (place : gate ≡ length (written setup batches)) (short : length file ≤ gate + 1) (torn : Torn gate 1 file c) where
   begins : take gate c ≡ written setup batches

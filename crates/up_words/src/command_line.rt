@@ -238,7 +238,7 @@ fn command<'a>(alloc: Global) -> Result<Command<'a>, AllocError> {
     up.subcommand(replay(alloc)?)?.subcommand(serve(alloc)?)
 }
 
-/// A number from the command line. `clap` has checked its limits.
+/// The number of a word that has a default. `clap` has checked its limits.
 fn value_of(matches: &ArgMatches<'_>, id: &str, most: u64) -> u64
     requires { 1 ≤ most }
     ensures { (1 ≤ result) × (result ≤ most) }
