@@ -1,5 +1,5 @@
--- A body that stopped.
-use Rattle.std.proofs.Common.{◌≡◌, ◌<◌, ℕ, List, Vec, length, inl, inr, refl}
+-- A body as far as it was read, and one that stopped.
+use Rattle.std.proofs.Common.{◌≡◌, ◌+◌, ◌<◌, ◌++◌, ℕ, List, Vec, length, take, ap, ◌∙◌, append_assoc, inl, inr, refl}
 use Rattle.std.specs.declared.alloc.Global.{Global}
 use Rattle.up_wire.specs.declared.body.BodyEnd.{BodyEnd}
 use Rattle.up_wire.specs.declared.framing.Framing.{Framing}
@@ -13,3 +13,9 @@ stopped_body limit size input ending BodyEnd.Ended body is (short, at) = ((short
 stopped_body limit size input ending BodyEnd.Failed body is (short, at) = ((short, is), inr at)
 stopped_body limit size input ending BodyEnd.Bad body is bad = absurd bad
 stopped_body limit size input ending BodyEnd.NoMemory body is goes_on = inl refl
+
+-- the bytes so far, once a batch lies behind them
+pub batch_behind : (all filled : ℕ) (items whole was ready body before run : List ℕ) → items ≡ whole → all ≡ filled + length run
+    → take (filled + length run) whole ≡ take filled was ++ run → was ≡ ready → take filled ready ≡ body ++ before → take all items ≡ body ++ (before ++ run)
+batch_behind all filled items whole was ready body before run is reach came was_is kept =
+    ap (take all) is ∙ ap (λ n. take n whole) reach ∙ came ∙ ap (λ t. take filled t ++ run) was_is ∙ ap (λ t. t ++ run) kept ∙ append_assoc body before run
