@@ -1,14 +1,15 @@
 -- Writing one text after another.
-use Rattle.std.proofs.Common.{◌≡◌, ℕ, ◌+◌, ◌<◌, Bool, true, false, List, [], ◌∷◌, ◌++◌, length, take, drop, get_or, Option, refl, sym, ap, ◌∙◌, append_assoc, append-nil, subst}
+use Rattle.std.proofs.Common.{◌≡◌, ℕ, ◌+◌, ◌<◌, ◌≤◌, Bool, true, false, List, [], ◌∷◌, ◌++◌, length, take, drop, get_or, Option, refl, sym, ap, ◌∙◌, append_assoc, append-nil, subst, arith}
 use Rattle.std.specs.List.{flat_map}
 use Rattle.std.specs.Io.KnownBytes.{Appends, Keeps}
-use Rattle.std.proofs.KnownBytes.{Appends-trans, Appends-kept}
-use Rattle.std.proofs.lemmas.List.{take_more, take-append-drop}
+use Rattle.std.proofs.KnownBytes.{Appends-nil, Appends-trans, Appends-kept}
+use Rattle.std.proofs.lemmas.List.{take_more, take_all, take-append-drop}
 use Rattle.std.proofs.lemmas.Grind.{flat_map-append}
 use Rattle.up_wire.specs.Device.{Device}
+use Rattle.up_wire.specs.Limits.{max_interruptions}
 use Rattle.up_wire.specs.Response.{WritesFront}
 use Rattle.up_wire.specs.Steps.{WritesIf, HasWritten}
-use Rattle.up_wire.proofs.Counting.{counts_on}
+use Rattle.up_wire.proofs.Counting.{counts_none, counts_on}
 
 -- a text that was written whole, and some of the next
 pub writes_then : {a b c : Device} {i j k : ℕ} {x y : List ℕ} {done : Bool} → HasWritten a b i j x true → HasWritten b c j k y done → HasWritten a c i k (x ++ y) done
@@ -64,6 +65,13 @@ flat_map-more f xs i d inside =
 pub flat_map-split : {X : Type 0} (f : X → List ℕ) (xs : List X) (i : ℕ) → flat_map f xs ≡ flat_map f (take i xs) ++ flat_map f (drop i xs)
 flat_map-split f xs i = ap (flat_map f) (sym (take-append-drop i xs)) ∙ flat_map-append f (take i xs) (drop i xs)
 
+-- nothing was written yet
+pub none_written : (device : Device) (count : ℕ) → count < max_interruptions → HasWritten device device count count [] true
+none_written device count patient = record {
+  written = ([], ([], refl), Appends-nil _, λ yes. refl);
+  tries = record { counts = counts_none device count; bounded = omega arith; patient = λ yes. patient; failed = λ no. absurd (cc) };
+}
+
 -- a list written one by one: it breaks off at an element
 pub each_cut : {X : Type 0} {a b c : Device} {m j k : ℕ} {done : Bool} (f : X → List ℕ) (xs : List X) (i : ℕ) (d : X) → i < length xs
     → HasWritten a b m j (flat_map f (take i xs)) true → HasWritten b c j k (f (get_or xs i d)) done → done ≡ false → HasWritten a c m k (flat_map f xs) false
@@ -78,6 +86,11 @@ pub each_next : {X : Type 0} {a b c : Device} {m j k : ℕ} {done : Bool} (f : X
     → HasWritten a b m j (flat_map f (take i xs)) true → HasWritten b c j k (f (get_or xs i d)) done → done ≡ true → HasWritten a c m k (flat_map f (take (i + 1) xs)) true
 each_next {X} {a} {b} {c} {m} {j} {k} f xs i d inside before next whole =
     writes_as (sym (flat_map-more f xs i d inside)) (writes_then before (subst (HasWritten b c j k (f (get_or xs i d))) whole next))
+
+-- and it is whole
+pub each_whole : {X : Type 0} {a b : Device} {m j : ℕ} (f : X → List ℕ) (xs : List X) (i : ℕ) → length xs ≤ i
+    → HasWritten a b m j (flat_map f (take i xs)) true → HasWritten a b m j (flat_map f xs) true
+each_whole f xs i all writes = writes_as (ap (flat_map f) (take_all i xs all)) writes
 
 -- a text that was written whole, and sent on or not
 pub kept_at : (a b c : Option (List ℕ)) (x : List ℕ) (first done : Bool) → first ≡ true → WritesIf a b x first → Keeps b c → WritesIf a c x done
