@@ -1,4 +1,4 @@
-use Rattle.std.proofs.Common.{◌≡◌, ◌<◌, ◌≤◌, ◌++◌, length, take, sym, ap, ◌∙◌, subst, arith, inr}
+use Rattle.std.proofs.Common.{◌≡◌, ◌<◌, ◌≤◌, ◌++◌, length, take, ◌⊎◌, sym, ap, ◌∙◌, subst, arith, inl, inr}
 use Rattle.std.proofs.lemmas.Grind.{common_steps}
 use Rattle.httparse.specs.Grammar.{HasNoSection}
 use Rattle.up_wire.specs.Limits.{max_head}
@@ -10,6 +10,19 @@ use Rattle.up_wire.proofs.EmptyLines.{section_at_line, part_no_section, line_no_
 use Rattle.up_wire.proofs.Lines.{rest_of, front_of}
 use Rattle.up_wire.proofs.Counting.{took_on, took_as, took_so}
 use Rattle.up_wire.proofs.chunks.read_trailers.Goals as goal
+
+bad_so_far : {A B C : Type 0} → A ⊎ B → A ⊎ (B ⊎ C)
+bad_so_far (inl a) = inl a
+bad_so_far (inr b) = inr (inl b)
+
+pub returns-in-Bad : goal.returns-in-Bad
+returns-in-Bad g c =
+    let old = c.lines.invariant in
+    let a = c.in-Whole.ensures.answer in
+    let text = c.lines.text.items in
+    let bad = subst (λ t. AreParsed t Trailers.Bad) (c.deref-then-start-eq0.ensures.value ∙ a.is.0) c.in-Bad.ensures in
+    let short : length (text ++ a.input) ≤ max_head = omega (arith, ap length a.is.0, c.in-Whole.ensures.within) in
+    record { input = text ++ a.input; ending = a.ending; took = took_on old.took a.took; is = (short, bad_so_far bad) }
 
 pub returns-in-Whole-parse_trailers : goal.returns-in-Whole-parse_trailers
 returns-in-Whole-parse_trailers g c =
@@ -100,3 +113,17 @@ slice_bounds-stop_behind-end g c = grind (arith, common_steps)
 
 pub slice_bounds-stop_behind-end-in-Failed : goal.slice_bounds-stop_behind-end-in-Failed
 slice_bounds-stop_behind-end-in-Failed g c = grind (arith, common_steps)
+
+pub stop_behind-requires : goal.stop_behind-requires
+stop_behind-requires g c =
+    let a = c.in-Ended.ensures.answer in
+    let text = c.lines.text.items in
+    let lines = front_of text a.input c.deref-in-Ended.result.now c.len-start.result (c.deref-in-Ended.ensures.value ∙ a.is.0) (omega (arith, c.len-start.ensures)) in
+    subst HasNoSection (sym lines) c.lines.invariant.no_section
+
+pub stop_behind-requires-in-Failed : goal.stop_behind-requires-in-Failed
+stop_behind-requires-in-Failed g c =
+    let a = c.in-Failed.ensures.answer in
+    let text = c.lines.text.items in
+    let lines = front_of text a.input c.deref-in-Failed.result.now c.len-start.result (c.deref-in-Failed.ensures.value ∙ a.is.0) (omega (arith, c.len-start.ensures)) in
+    subst HasNoSection (sym lines) c.lines.invariant.no_section
