@@ -33,16 +33,15 @@ impl Head {
         self.method.as_str() == "HEAD"
     }
 
-    /// The message with this head and body.
-    pub(crate) fn into_message(self, body: Sequence<u8>) -> Message
+    /// The message with this head and body. `bare` is whether the method is HEAD.
+    pub(crate) fn into_message(self, body: Sequence<u8>, bare: bool) -> Message
         ensures method { result.method ≡ self.method }
         ensures target { result.target ≡ self.target }
         ensures fields { result.fields ≡ self.fields }
         ensures body { result.body ≡ body }
-        ensures bare { result.bare ≡ bytes_eq self.method (codes "HEAD") }
+        ensures bare { result.bare ≡ bare }
         ensures close { result.close ≡ closes self.minor self.fields }
     {
-        let bare = self.is_bare();
         let close = closes(self.minor, self.fields.as_slice());
         Message {
             method: self.method,
@@ -74,13 +73,10 @@ pub(crate) fn parse(alloc: Global, text: &[u8]) -> Parsed
 {
     let mut spans = [EMPTY_HEADER_SPAN; MAX_FIELDS];
     match parse_request(text, &mut spans) {
-        Ok(Status::Complete(found)) => {
-            let bare = found.method.of(text) == b"HEAD".as_slice();
-            match head_of(alloc, text, &spans, found) {
-                Ok(head) => Parsed::Whole(head),
-                Err(_) => Parsed::NoMemory(bare),
-            }
-        }
+        Ok(Status::Complete(found)) => match head_of(alloc, text, &spans, found) {
+            Ok(head) => Parsed::Whole(head),
+            Err(_) => Parsed::NoMemory(found.method.of(text) == b"HEAD".as_slice()),
+        },
         Ok(Status::Partial) => Parsed::Partial,
         Err(Error::TooManyHeaders) => Parsed::TooManyFields,
         Err(_) => Parsed::Invalid,

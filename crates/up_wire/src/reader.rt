@@ -58,8 +58,8 @@ pub fn read_message<R: Source, W: Sink>(
         };
     }
     match read_body(alloc, source, &mut interruptions, limits.max_body, framing) {
-        BodyRead::Whole(body) => Taken::Message(head.into_message(Sequence::from_vec(body))),
-        BodyRead::Cut(body) => Taken::Cut(head.into_message(Sequence::from_vec(body))),
+        BodyRead::Whole(body) => Taken::Message(head.into_message(Sequence::from_vec(body), bare)),
+        BodyRead::Cut(body) => Taken::Cut(head.into_message(Sequence::from_vec(body), bare)),
         BodyRead::Fault(fault) => Taken::Fault { fault, bare },
     }
 }

@@ -111,7 +111,7 @@ returns-in-Whole-read_body g c =
         text = b.input;
         is_body = subst (λ bytes. IsBody limit c.in-Ok.framing bytes b.input) (sym (m.ensures.body ∙ c.from_vec.ensures)) b.is.0;
         behind_is = sym (append-nil b.input);
-        parts = parts_are h head m.result has m.ensures.method m.ensures.target m.ensures.fields m.ensures.bare m.ensures.close;
+        parts = parts_are h head m.result has m.ensures.method m.ensures.target m.ensures.fields (m.ensures.bare ∙ c.is_bare-bare.ensures) m.ensures.close;
       };
       is_interim = (head, b.input, whole, due_is limit h head c.in-Ok.framing written.0 has framed all);
       is_unwritten = λ failed. absurd (cc (failed.1));
@@ -148,7 +148,7 @@ returns-in-Cut g c =
           framing = c.in-Ok.framing;
           is_framed = framed;
           is_cut = subst (λ bytes. IsCutBody limit c.in-Ok.framing bytes b.input) (sym (m.ensures.body ∙ c.from_vec-in-Cut.ensures)) b.is.0;
-          parts = parts_are h head m.result has m.ensures.method m.ensures.target m.ensures.fields m.ensures.bare m.ensures.close;
+          parts = parts_are h head m.result has m.ensures.method m.ensures.target m.ensures.fields (m.ensures.bare ∙ c.is_bare-bare.ensures) m.ensures.close;
         },
         b.is.1,
       );
