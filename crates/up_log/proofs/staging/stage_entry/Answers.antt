@@ -1,4 +1,6 @@
 use Rattle.std.proofs.Common.{◌≡◌, ◌≤◌, ◌++◌, [], ℕ, List, length, IfOk, arith, ◌∙◌, ap, sym, subst, append_assoc, length-append}
+use Rattle.std.proofs.lemmas.Grind.{common_steps}
+use Rattle.std.proofs.lemmas.Result.{err_from_is_err_and}
 use Rattle.up_log.specs.Spelling.{entry}
 use Rattle.up_log.specs.Staging.{IsStagedTo}
 use Rattle.up_log.proofs.Pieces.{put_more, flushed, flush_touches, if_flushed}
@@ -26,3 +28,19 @@ returns-clause-staged g c = λ start size done first s fits.
       flush_touches g.D.Disk start size ((done ++ front) ++ back) first c.write_on.new.disk new c.in_ok-next.next back s3 in_all v.others v.crash v.calm,
       subst (λ (l : List ℕ). IfOk r (λ next. IsStagedTo g.D.Disk start size l first new next c.clear.new.self.items)) are s5,
     )
+
+pub returns-in_err-put-clause-staged : goal.returns-in_err-put-clause-staged
+returns-in_err-put-clause-staged g c = λ start size done first s fits. rw (err_from_is_err_and c.from_residual.result c.from_residual.ensures.1).1 (s.touched, tt)
+
+pub returns-in_err-next-clause-staged : goal.returns-in_err-next-clause-staged
+returns-in_err-next-clause-staged g c = λ start size done first s fits.
+    let front = c.parts.result.0.now in
+    let room_is = c.deref.ensures.value ∙ c.in_ok-put.ensures.ok in
+    let s1 = subst (IsStagedTo g.D.Disk start size (done ++ front) first c.args.disk.now c.args.at) (sym room_is) (put_more g.D.Disk start size done front first c.args.disk.now c.args.at c.args.room.now.items s) in
+    let w = c.write_on.ensures in
+    let touched = flush_touches g.D.Disk start size (done ++ front) first c.args.disk.now c.write_on.new.disk c.args.at c.deref.result.now s1
+    (omega (arith, fits, ap length c.parts.ensures, length-append done front, length-append front c.parts.result.1.now)) w.others w.crash w.calm in
+    rw (err_from_is_err_and c.from_residual-in_err-next.result c.from_residual-in_err-next.ensures.1).1 (touched, tt)
+
+pub returns-then-is_empty-clause-staged : goal.returns-then-is_empty-clause-staged
+returns-then-is_empty-clause-staged g c = grind (arith, common_steps)
