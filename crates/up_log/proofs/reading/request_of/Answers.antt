@@ -1,0 +1,48 @@
+use Rattle.std.proofs.Common.{arith}
+use Rattle.std.proofs.lemmas.Grind.{common_steps}
+use Rattle.up_log.specs.Reading.{asked_for_at}
+use Rattle.up_log.proofs.reading.request_of.Goals as goal
+
+pub returns-in_err-new-in-1 : goal.returns-in_err-new-in-1
+unfolding asked_for_at
+returns-in_err-new-in-1 c = grind (arith, common_steps)
+
+pub returns-in_err-number-in-2 : goal.returns-in_err-number-in-2
+unfolding asked_for_at
+returns-in_err-number-in-2 c = grind (arith, common_steps)
+
+pub returns-in_err-patch-in-3 : goal.returns-in_err-patch-in-3
+unfolding asked_for_at
+returns-in_err-patch-in-3 c = grind (arith, common_steps)
+
+pub returns-in_err-number-in-4 : goal.returns-in_err-number-in-4
+unfolding asked_for_at
+returns-in_err-number-in-4 c = grind (arith, common_steps)
+
+pub returns-in_err-number-in-5 : goal.returns-in_err-number-in-5
+unfolding asked_for_at
+returns-in_err-number-in-5 c = grind (arith, common_steps)
+
+pub returns-in_ok-new-in-1 : goal.returns-in_ok-new-in-1
+unfolding asked_for_at
+returns-in_ok-new-in-1 c = grind (arith, common_steps)
+
+pub returns-in_ok-number-in-2 : goal.returns-in_ok-number-in-2
+unfolding asked_for_at
+returns-in_ok-number-in-2 c = grind (arith, common_steps)
+
+pub returns-in_ok-patch-in-3 : goal.returns-in_ok-patch-in-3
+unfolding asked_for_at
+returns-in_ok-patch-in-3 c = grind (arith, common_steps)
+
+pub returns-in_ok-number-in-4 : goal.returns-in_ok-number-in-4
+unfolding asked_for_at
+returns-in_ok-number-in-4 c = grind (arith, common_steps)
+
+pub returns-in_ok-number-in-5 : goal.returns-in_ok-number-in-5
+unfolding asked_for_at
+returns-in_ok-number-in-5 c = grind (arith, common_steps)
+
+pub returns-in_default : goal.returns-in_default
+unfolding asked_for_at
+returns-in_default c = grind (arith, common_steps)
