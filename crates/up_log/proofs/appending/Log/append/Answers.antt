@@ -1,4 +1,5 @@
 use Rattle.std.proofs.Common.{◌≡◌, ◌+◌, length, inl, refl, arith}
+use Rattle.std.proofs.lemmas.Grind.{common_steps}
 use Rattle.up_log.specs.Staging.{closed_body}
 use Rattle.up_log.proofs.Crash.{either_settled, next_place, on_err, opened, when_ok}
 use Rattle.up_log.proofs.Pieces.{body_leaves, body_rests, body_stands, opening_leaves}
@@ -46,3 +47,33 @@ returns-clause-durable g c = λ setup batches s.
       durable = c.in_ok-write_synced.ensures.synced;
       usable = c.in_ok-write_synced.ensures.usable;
     }
+
+pub returns-in_err-size-clause-crash : goal.returns-in_err-size-clause-crash
+returns-in_err-size-clause-crash g c = grind (arith, common_steps)
+
+pub returns-in_err-size-clause-kept : goal.returns-in_err-size-clause-kept
+returns-in_err-size-clause-kept g c = grind (arith, common_steps)
+
+pub returns-in_err-size-clause-memory : goal.returns-in_err-size-clause-memory
+returns-in_err-size-clause-memory g c = grind (arith, common_steps)
+
+pub returns-in_default-clause-crash : goal.returns-in_default-clause-crash
+returns-in_default-clause-crash g c = grind (arith, common_steps)
+
+pub returns-in_default-clause-kept : goal.returns-in_default-clause-kept
+returns-in_default-clause-kept g c = grind (arith, common_steps)
+
+pub returns-in_err-staged-clause-memory : goal.returns-in_err-staged-clause-memory
+returns-in_err-staged-clause-memory g c = grind (arith, common_steps)
+
+pub returns-in_err-write_synced-clause-kept : goal.returns-in_err-write_synced-clause-kept
+returns-in_err-write_synced-clause-kept g c = grind (arith, common_steps)
+
+pub returns-in_err-write_synced-clause-memory : goal.returns-in_err-write_synced-clause-memory
+returns-in_err-write_synced-clause-memory g c = grind (arith, common_steps)
+
+pub returns-then-self-clause-crash : goal.returns-then-self-clause-crash
+returns-then-self-clause-crash g c = grind (arith, common_steps)
+
+pub returns-then-self-clause-kept : goal.returns-then-self-clause-kept
+returns-then-self-clause-kept g c = grind (arith, common_steps)
