@@ -1,6 +1,6 @@
 use Rattle.std.specs.Prelude.{length, slice_index_or}
 use Rattle.up_queue.specs.EndViews.{no_queue}
-use Rattle.up_test_server.proofs.connections.accept.ends_where_the_listener_is_gone.Given as goal
+use Rattle.up_test_server.proofs.connections.accept.counted.Given as goal
 
 abbrev pub ghosts-counts-B-Ledger : goal.ghosts-counts-B-Ledger
 ghosts-counts-B-Ledger g a = record { name = a.parts.name; parts = a.parts.parts }
