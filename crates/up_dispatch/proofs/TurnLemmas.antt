@@ -1,7 +1,13 @@
 -- Turns in a row, and that the last one ends a conversation.
-use Rattle.std.proofs.Common.{◌≡◌, ℕ, zero, suc, eqb, true, add-one, ◌+◌, ◌≤◌, Bool, Option, Some, None, List, refl, sym, subst, ⊎_elim, ◌<◌, arith}
+use Rattle.std.proofs.Common.{◌≡◌, ℕ, zero, suc, eqb, true, add-one, ◌+◌, ◌≤◌, Bool, Option, Some, None, Result, Ok, Err, List, refl, sym, ap, subst, ⊎_elim, ◌<◌, arith}
 use Rattle.std.proofs.lemmas.Bool.{cases_lt, eq-eqb}
-use Rattle.up_dispatch.specs.Turn.{Answering, IsFaultSent, IsServed, Sends, ConversationState, TakesTurn, TurnsLeadTo, unanswered}
+use Rattle.up_dispatch.specs.Answering.{Drawing, Serves, answers_with, keeper_state}
+use Rattle.up_dispatch.specs.Keeps.{Keeping}
+use Rattle.up_dispatch.specs.Turn.{Answering, IsCutCarriedOut, IsCutTurn, IsFaultSent, IsServed, Sends, ConversationState, TakesTurn, TurnsLeadTo, unanswered}
+use Rattle.up_headers.specs.declared.header_fault.HeaderFault.{HeaderFault}
+use Rattle.up_headers.specs.declared.request.Request.{Request}
+use Rattle.up_headers.specs.declared.request.Request.TheVariants as request
+use Rattle.up_message.specs.declared.message.Message.{Message}
 use Rattle.up_dispatch.specs.declared.conversation.Ended.{Ended}
 use Rattle.up_wire.specs.Device.{Device}
 use Rattle.up_wire.specs.Response.{response_text}
@@ -53,3 +59,22 @@ passes_few answers max_size (suc turns) old new least passes =
     let turn = subst (λ b. TakesTurn answers max_size b passes.0 new None) (eq-eqb (turns + 1) 10000 all) passes.2 in
     last_served answers turn.taken max_size passes.0.keeper_state new.keeper_state turn.sink new.sink turn.is_served)
     (cases_lt 10000 (turns + 1))
+
+-- only an append was carried out, and it takes no id, so the source of ids is as it was
+cut_serves :
+    {S D : Type 0} (k : Keeping S) (draws : Drawing D) (ids : D) (s t : S) (read : Result Request HeaderFault)
+    → IsCutCarriedOut (answers_with k 0) s t read
+    → IsCutCarriedOut (Serves k draws) (keeper_state s ids) (keeper_state t ids) read
+cut_serves k draws ids s t (Err fault) same = ap (λ x. keeper_state x ids) same
+cut_serves k draws ids s t (Ok request.Options) same = ap (λ x. keeper_state x ids) same
+cut_serves k draws ids s t (Ok (request.Create made)) same = ap (λ x. keeper_state x ids) same
+cut_serves k draws ids s t (Ok (request.Head u)) same = ap (λ x. keeper_state x ids) same
+cut_serves k draws ids s t (Ok (request.Patch p)) done = (done.0, record { id = 0; takes = (refl, refl); answered = done.1 })
+cut_serves k draws ids s t (Ok (request.Delete u)) same = ap (λ x. keeper_state x ids) same
+cut_serves k draws ids s t (Ok (request.Get u)) same = ap (λ x. keeper_state x ids) same
+
+pub cut_turn :
+    {S D : Type 0} (k : Keeping S) (draws : Drawing D) (ids : D) (s t : S) (m : Message) (max_size : ℕ)
+    → IsCutTurn (answers_with k 0) m max_size s t
+    → IsCutTurn (Serves k draws) m max_size (keeper_state s ids) (keeper_state t ids)
+cut_turn k draws ids s t m max_size done = (done.0, done.1, cut_serves k draws ids s t done.0 done.2)

@@ -18,6 +18,10 @@ IsResponseTo (Err refusal) response = IsReply (response_of refusal) response
 abbrev pub Answered : {S : Type 0} → Keeping S → S → Request → ℕ → Response → S → Type 0
 Answered k s request id response t = (result : Result Done Refusal) × Keeps k s request id result t × IsResponseTo result response
 
+-- how a keeper and the closures answer requests, if each has this id
+abbrev pub answers_with : {S : Type 0} → Keeping S → ℕ → S → S → Request → Response → Type 0
+answers_with k id s t request response = Answered k s request id response t
+
 -- what a source of ids may give: the source before the call, the id, and the source after it
 abbrev pub Drawing : Type 0 → Type 1
 Drawing D = D → ℕ → D → Type 0

@@ -2,10 +2,10 @@
 ghost use Rattle.std.specs.Prelude.{◌≡◌, ◌≤◌};
 ghost use Rattle.up_hooks.specs.MayAnswer.{ClosuresMayAnswer};
 ghost use Rattle.up_wire.specs.Response.{response_text};
-ghost use Rattle.up_dispatch.specs.Answering.{Serves, TakesId, keeper_state};
+ghost use Rattle.up_dispatch.specs.Answering.{Serves, TakesId, answers_with, keeper_state};
 ghost use Rattle.up_dispatch.specs.Exchanges.{KeepsBorrows, stand_in};
 ghost use Rattle.up_dispatch.specs.Keeps.{keeping};
-ghost use Rattle.up_dispatch.specs.Turn.{IsTurn, IsCutTurn, Converses, Sends, TakesTurn, unanswered};
+ghost use Rattle.up_dispatch.specs.Turn.{IsTurn, IsCutTurn, IsFaultSent, Converses, Sends, TakesTurn, unanswered};
 
 use crate::answering::answer;
 use crate::exchange::Exchange;
@@ -72,32 +72,24 @@ fn answer_to<K: Keeper, I: Ids>(
 }
 
 /// Carries out an append whose body broke off, with the bytes that came. Any other message that broke off does nothing.
-fn carry_out_cut<K: Keeper, I: Ids>(
+fn carry_out_cut<K: Keeper>(
     alloc: Global,
     keeper: &mut K,
     hooks: &PreHooks,
-    ids: &mut I,
     message: Message,
     max_size: u64,
 )
     requires small { max_size ≤ MAX_UPLOAD_BYTES }
     ensures turn { IsCutTurn
-        (Serves (keeping K.plans K.commits (ClosuresMayAnswer hooks.now)) I.draws) message max_size
-        (keeper_state (K.state keeper.old) ids.old) (keeper_state (K.state keeper.new) ids.new) }
+        (answers_with (keeping K.plans K.commits (ClosuresMayAnswer hooks.now)) 0) message max_size
+        (K.state keeper.old) (K.state keeper.new) }
     ensures lender { K.lender keeper.new ≡ K.lender keeper.old }
 {
     match request_of(alloc, message, max_size) {
-        Ok(request) => match request {
-            Request::Patch(patch) => {
-                answer(alloc, keeper, hooks, Request::Patch(patch), Id::new(0));
-            }
-            Request::Options => {}
-            Request::Create(_) => {}
-            Request::Head(_) => {}
-            Request::Delete(_) => {}
-            Request::Get(_) => {}
-        },
-        Err(_) => {}
+        Ok(Request::Patch(patch)) => {
+            answer(alloc, keeper, hooks, Request::Patch(patch), Id::new(0));
+        }
+        _ => {}
     }
 }
 
@@ -123,6 +115,21 @@ fn send<W: Sink>(sink: &mut W, response: &Response, bare: bool, close: bool) -> 
     }
 }
 
+/// Answers a message that can't be read, which closes the conversation. After a failed read or write nothing is
+/// answered. Returns how the conversation ended.
+fn answer_fault<W: Sink>(alloc: Global, sink: &mut W, fault: WireFault, bare: bool) -> Option<Ended>
+    ensures { IsFaultSent (unanswered fault) fault bare
+        (W.device sink.old) (W.device sink.new) result }
+{
+    match unanswered(fault) {
+        Some(ended) => Some(ended),
+        None => {
+            let response = reply_to_wire_fault(alloc, fault);
+            send(sink, &response, bare, true)
+        }
+    }
+}
+
 /// Reads a message and answers it. Returns how the conversation ended, if it did. A message that can't be read is
 /// answered and closes the conversation. After a failed read or write, or if a body broke off, nothing is answered.
 fn take_turn<K: Keeper, I: Ids, R: Source, W: Sink>(
@@ -145,16 +152,10 @@ fn take_turn<K: Keeper, I: Ids, R: Source, W: Sink>(
     match read_message(alloc, exchange.source, exchange.sink, &limits) {
         Taken::End => Some(Ended::Closed),
         Taken::Cut(message) => {
-            carry_out_cut(alloc, keeper, hooks, exchange.ids, message, max_size);
+            carry_out_cut(alloc, keeper, hooks, message, max_size);
             Some(Ended::Cut)
         }
-        Taken::Fault { fault, bare } => match unanswered(fault) {
-            Some(ended) => Some(ended),
-            None => {
-                let response = reply_to_wire_fault(alloc, fault);
-                send(exchange.sink, &response, bare, true)
-            }
-        },
+        Taken::Fault { fault, bare } => answer_fault(alloc, exchange.sink, fault, bare),
         Taken::Message(message) => {
             let bare = message.bare;
             let close = is_last | message.close;

@@ -1,11 +1,11 @@
-use Rattle.std.proofs.Common.{◌≡◌, ◌∙◌, List, get_or, length, vec_len, arith, sym, ap, subst}
+use Rattle.std.proofs.Common.{◌≡◌, ◌∙◌, List, get_or, vec_len, arith, sym, ap, subst}
 use Rattle.std.proofs.lemmas.List.Elements.{All-get_or}
 use Rattle.up_events.specs.declared.event.Accepted.{Accepted}
 use Rattle.up_events.specs.Log.{log_of}
 use Rattle.up_events.specs.Records.{lane_log}
 use Rattle.up_lanes.specs.HowOf.{is_drained}
 use Rattle.up_dispatch.specs.QueuedUpTo.{IsQueuedUpTo}
-use Rattle.up_dispatch.specs.Reports.{IsHandedOver, TellsUploads}
+use Rattle.up_dispatch.specs.Reports.{IsHandedOver}
 use Rattle.up_dispatch.specs.BoardView.{BoardView}
 use Rattle.up_dispatch.proofs.Uploads.{tells_uploads}
 use Rattle.up_dispatch.proofs.inside.Inside.completed.Goals as goal

@@ -1,4 +1,4 @@
-use Rattle.std.proofs.Common.{◌≡◌, not, List, length, subst, sym}
+use Rattle.std.proofs.Common.{not, List, subst, sym}
 use Rattle.up_commits.specs.Follows.{Following, IsBookAfter, IsBookOf}
 use Rattle.up_log.specs.declared.entry.Entry.{Entry}
 use Rattle.up_machine.specs.Decision.{IsExpectedOrNoMemory, decide}
