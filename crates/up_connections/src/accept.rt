@@ -42,23 +42,7 @@ pub struct Visits<'a, N, S> {
     pub service: &'a S,
 }
 
-/// Serves a connection. The limit counts it out when it has ended.
-fn serve_one<B: Naming, I: Ids, S: Service, T: Wait>(
-    rt: &T,
-    alloc: Global,
-    context: &ConnectionContext<'_, B, I>,
-    hooks: &PreHooks,
-    service: &S,
-    stream: TcpStream,
-)
-    requires same { B.history ≡ S.history }
-{
-    context.begin();
-    serve_connection(rt, alloc, context, hooks, service, stream);
-    context.end(rt);
-}
-
-/// Serves a connection, and then others as they are handed over.
+/// Serves a connection, and then others as they are handed over. The limit counts each out when it has ended.
 fn serve_in_turn<B: Naming, I: Ids, S: Service, T: Wait>(
     rt: &T,
     alloc: Global,
@@ -74,7 +58,9 @@ fn serve_in_turn<B: Naming, I: Ids, S: Service, T: Wait>(
         let Some(stream) = next else {
             break;
         };
-        serve_one(rt, alloc, context, hooks, service, stream);
+        context.begin();
+        serve_connection(rt, alloc, context, hooks, service, stream);
+        context.end(rt);
         next = context.pool.next(rt);
     }
 }

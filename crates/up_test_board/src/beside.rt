@@ -35,6 +35,22 @@ fn new_board<B: Naming>(
     }
 }
 
+/// The two lanes of a board, each with a post-hook.
+fn lanes_of<B: Naming, H: PostHook + Drop>(
+    mut takes: Vec<TakeEnd>,
+    hooks: (H, H),
+) -> (Lane<H>, Lane<H>)
+    requires two { length takes.items ≡ 2 }
+    requires ends { EachAt (λ k e. (e.taken ≡ []) × (e.queue ≡ B.queue k)) takes.items }
+    requires first { H.is_sound hooks.0 × (H.handed hooks.0 ≡ []) }
+    requires second { H.is_sound hooks.1 × (H.handed hooks.1 ≡ []) }
+    ensures even { result.0.queue ≡ B.queue result.0.lane }
+    ensures odd { result.1.queue ≡ B.queue result.1.lane }
+{
+    let (odd, even) = (takes.pop().unwrap(), takes.pop().unwrap());
+    (Lane::new(0, even, hooks.0), Lane::new(1, odd, hooks.1))
+}
+
 /// A new board with these parts, which have two queues, and a lane with a post-hook for each queue. The board keeps the
 /// accepted changes if `keeps`, and otherwise counts them.
 pub fn open_board<B: Naming, H: PostHook + Drop>(
@@ -51,13 +67,10 @@ pub fn open_board<B: Naming, H: PostHook + Drop>(
     ensures own { IfOk result (λ r. All (λ l. l.queue ≡ B.queue l.lane) r.1.items) }
 {
     let (board, takes) = new_board::<B>(alloc, parts, keeps)?;
-    let mut takes = takes.into_iter();
-    let (Some(first), Some(second)) = (takes.next(), takes.next()) else {
-        return Err("two queues".into());
-    };
+    let (even, odd) = lanes_of::<B, H>(takes, hooks);
     let mut lanes = Vec::new(alloc);
-    lanes.push(Lane::new(0, first, hooks.0))?;
-    lanes.push(Lane::new(1, second, hooks.1))?;
+    lanes.push(even)?;
+    lanes.push(odd)?;
     Ok((board, lanes))
 }
 

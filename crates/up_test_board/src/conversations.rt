@@ -8,8 +8,8 @@ use std::process::Abort;
 use std::sync::{Mutex, Wait};
 use std::test::Fail;
 use up_dispatch::{
-    Board, BoardParts, Counting, Ended, Exchange, Ids, Keeper, Lent, Naming, Seated, SharedIds,
-    converse,
+    Board, BoardParts, Counting, Ended, Exchange, Ids, Keeper, Lent, Naming, Seat, Seated,
+    SharedIds, converse,
 };
 use up_events::Id;
 use up_hooks::PreHooks;
@@ -26,6 +26,14 @@ const CUT: &str =
 
 /// Asks for the state of the upload.
 const HEAD: &str = "HEAD /files/00000000000000000000000000000001 HTTP/1.1\r\nHost: a\r\n\r\n";
+
+/// The response to the creation.
+const CREATED: &str = "HTTP/1.1 201 Created\r\nTus-Resumable: 1.0.0\r\nCache-Control: no-store\r\n\
+    Location: /files/00000000000000000000000000000001\r\nContent-Length: 0\r\n\r\n";
+
+/// The state of an upload with four of ten bytes.
+const FOUR: &str = "HTTP/1.1 200 OK\r\nTus-Resumable: 1.0.0\r\nCache-Control: no-store\r\n\
+    Upload-Offset: 4\r\nUpload-Length: 10\r\n\r\n";
 
 /// Two creations, a removal of the upload with the id 5, and another creation.
 const CREATIONS: &str =
@@ -73,31 +81,29 @@ fn hold<K: Keeper, I: Ids, R: Abort>(
     Ok(())
 }
 
-/// The append gets no response.
-fn breaks_off<K: Keeper, I: Ids, R: Abort>(
+/// The same from a seat of a board, with these ids.
+fn hold_from<B: Naming, R: Wait + Abort>(
     rt: &R,
     alloc: Global,
-    keeper: &mut K,
-    ids: &mut I,
+    board: &Board<B>,
+    seat: &mut Seat<B>,
+    ids: &Mutex<Counting>,
+    asked: &str,
+    wanted: (Ended, &str),
 ) -> Result<(), Fail> {
-    let created = "HTTP/1.1 201 Created\r\nTus-Resumable: 1.0.0\r\nCache-Control: no-store\r\n\
-        Location: /files/00000000000000000000000000000001\r\nContent-Length: 0\r\n\r\n";
-    hold(rt, alloc, keeper, ids, CUT, (Ended::Cut, created))
+    let mut keeper = Seated::new(rt, board, seat);
+    hold(
+        rt,
+        alloc,
+        &mut keeper,
+        &mut SharedIds { rt, ids },
+        asked,
+        wanted,
+    )
 }
 
-/// The bytes that arrived before it broke off are there.
-fn has_four<K: Keeper, I: Ids, R: Abort>(
-    rt: &R,
-    alloc: Global,
-    keeper: &mut K,
-    ids: &mut I,
-) -> Result<(), Fail> {
-    let standing = "HTTP/1.1 200 OK\r\nTus-Resumable: 1.0.0\r\nCache-Control: no-store\r\n\
-        Upload-Offset: 4\r\nUpload-Length: 10\r\n\r\n";
-    hold(rt, alloc, keeper, ids, HEAD, (Ended::Closed, standing))
-}
-
-/// The upload is created from one seat and requested from the other, with one source of ids.
+/// The upload is created from one seat and requested from the other, with one source of ids. The append gets no
+/// response, and the bytes that arrived before it broke off are there.
 fn talk_from_two_seats<B: Naming, R: Wait + Abort>(
     rt: &R,
     alloc: Global,
@@ -107,18 +113,23 @@ fn talk_from_two_seats<B: Naming, R: Wait + Abort>(
         return Err("a seat".into());
     };
     let ids = Mutex::new(Counting::new());
-    let mut shared = SharedIds { rt, ids: &ids };
-    breaks_off(
+    hold_from(
         rt,
         alloc,
-        &mut Seated::new(rt, board, &mut first),
-        &mut shared,
+        board,
+        &mut first,
+        &ids,
+        CUT,
+        (Ended::Cut, CREATED),
     )?;
-    has_four(
+    hold_from(
         rt,
         alloc,
-        &mut Seated::new(rt, board, &mut second),
-        &mut shared,
+        board,
+        &mut second,
+        &ids,
+        HEAD,
+        (Ended::Closed, FOUR),
     )?;
     assert_eq!(rt; (first.count(), second.count()), (2, 0));
     Ok(())

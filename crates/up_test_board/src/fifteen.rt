@@ -13,7 +13,7 @@ use std::process::Abort;
 use std::sync::Wait;
 use std::test::Fail;
 use std::thread::Threads;
-use up_dispatch::{BoardParts, Keeper, LaneReport, Naming, Report, Seated, answer};
+use up_dispatch::{Board, BoardParts, Keeper, LaneReport, Naming, Report, Seat, Seated, answer};
 use up_events::{Accepted, Event, Hook, Id, Kind};
 use up_headers::Request;
 use up_hooks::{Outcome, PostHook, PreHooks, Recorder};
@@ -27,7 +27,7 @@ pub fn status_of<K: Keeper>(alloc: Global, keeper: &mut K, request: Request, id:
 }
 
 /// Creates five uploads of two bytes, then appends a byte to each, and then the other byte to each.
-pub fn fifteen<K: Keeper, R: Abort>(rt: &R, alloc: Global, keeper: &mut K) -> Result<(), Fail> {
+fn fifteen<K: Keeper, R: Abort>(rt: &R, alloc: Global, keeper: &mut K) -> Result<(), Fail> {
     for number in 1..6u8 {
         let id = Id::new(u128::from(number));
         let request = creation(alloc, Some(2));
@@ -40,6 +40,19 @@ pub fn fifteen<K: Keeper, R: Abort>(rt: &R, alloc: Global, keeper: &mut K) -> Re
         }
     }
     Ok(())
+}
+
+/// A seat of the board from which these requests were made.
+pub fn answered<B: Naming, R: Wait + Abort>(
+    rt: &R,
+    alloc: Global,
+    board: &Board<B>,
+) -> Result<Seat<B>, Fail> {
+    let Some(mut seat) = board.seat(rt) else {
+        return Err("a seat".into());
+    };
+    fifteen(rt, alloc, &mut Seated::new(rt, board, &mut seat))?;
+    Ok(seat)
 }
 
 fn made(id: u128) -> Accepted {
@@ -134,10 +147,7 @@ fn crowded<B: Naming + Send + Sync, H: PostHook + Drop, R: Threads + Wait + Abor
     requires second { H.is_sound hooks.1 × (H.handed hooks.1 ≡ []) }
 {
     let (board, lanes) = open_board::<B, _>(alloc, parts, hooks, true)?;
-    let Some(mut seat) = board.seat(rt) else {
-        return Err("a seat".into());
-    };
-    fifteen(rt, alloc, &mut Seated::new(rt, &board, &mut seat))?;
+    let seat = answered(rt, alloc, &board)?;
     board.close(rt);
     board.close(rt);
     let ends = run_each(rt, &board, &board, lanes)?;

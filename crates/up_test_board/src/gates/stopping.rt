@@ -3,7 +3,7 @@ ghost use Rattle.std.specs.Prelude.{◌≡◌, All, [], IfOk, length};
 ghost use Rattle.up_dispatch.specs.Parts.{IsNamed};
 
 use crate::beside::{finished, open_board, run_beside};
-use crate::fifteen::{events_of_lane_0, fifteen};
+use crate::fifteen::{answered, events_of_lane_0};
 use crate::lanes::parts::Listing;
 use std::alloc::{AllocError, Global};
 use std::marker::{Brand, Send, Sync};
@@ -12,20 +12,9 @@ use std::sync::Wait;
 use std::test::Fail;
 use std::thread;
 use std::thread::Threads;
-use up_dispatch::{Board, BoardParts, LaneReport, Naming, Report, Seat, Seated};
+use up_dispatch::{Board, BoardParts, LaneReport, Naming, Report};
 use up_hooks::PostHook;
 use up_lanes::{How, Lane, LaneEnd};
-
-/// The requests get their responses from the seat.
-fn answered<B: Naming, R: Wait + Abort>(
-    rt: &R,
-    alloc: Global,
-    board: &Board<B>,
-    mut seat: Seat<B>,
-) -> Result<Seat<B>, Fail> {
-    fifteen(rt, alloc, &mut Seated::new(rt, board, &mut seat))?;
-    Ok(seat)
-}
 
 /// Checks that lane 0 stopped after two events.
 fn has_stopped(rt: &impl Abort, ends: &[LaneEnd<Listing>]) -> Result<(), Fail> {
@@ -88,17 +77,8 @@ fn stopped<B: Naming + Send + Sync, R: Threads + Wait + Abort + Sync>(
     requires second { ⟦<Listing as PostHook>⟧.handed hooks.1 ≡ [] }
 {
     let (board, lanes) = open_board::<B, _>(alloc, parts, hooks, true)?;
-    let Some(seat) = board.seat(rt) else {
-        return Err("a seat".into());
-    };
     let shared = &board;
-    let (seat, ends) = run_beside(
-        rt,
-        shared,
-        shared,
-        lanes,
-        || answered(rt, alloc, shared, seat),
-    );
+    let (seat, ends) = run_beside(rt, shared, shared, lanes, || answered(rt, alloc, shared));
     let (seat, ends) = (seat?, ends?);
     has_stopped(rt, &ends)?;
     let ends = ends_of(rt, &board, ends, is_resumed)?;

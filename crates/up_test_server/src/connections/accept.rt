@@ -8,6 +8,7 @@ use std::cell::Cell;
 use std::marker::{Brand, Send, Sync};
 use std::net::TcpListener;
 use std::os::fd::AsRawFd;
+use std::process::Abort;
 use std::sync::Wait;
 use std::test::Fail;
 use std::thread::Threads;
@@ -53,11 +54,23 @@ fn counts<B: Naming + Send + Sync, N: Notices, T: Threads + Wait + Sync>(
     Ok(counts)
 }
 
-#[test]
-fn serves_three_from_one_seat(rt: HostRuntime) -> Result<(), Fail> {
-    let listener = TcpListener::bind(&rt, "127.0.0.1:0")?;
-    let address = listener.local_addr()?;
-    let mut clients = ask_each(&rt, address, &[ASKED; 3])?;
+/// The same with a board of one lane.
+fn counted<N: Notices, T: Threads + Wait + Sync>(
+    rt: &T,
+    alloc: Global,
+    listener: &TcpListener,
+    visits: &Visits<'_, N, AtOnce>,
+) -> Result<Vec<u64>, Fail> {
+    let parts = BoardParts::new(alloc, 1, 8)?;
+    counts::<Brand, _, _>(rt, alloc, parts, listener, visits)
+}
+
+/// Serves three connections, one after the other, and checks the number of changes from the only seat.
+fn hold_three<T: Threads + Wait + Abort + Sync>(
+    rt: &T,
+    alloc: Global,
+    listener: &TcpListener,
+) -> Result<(), Fail> {
     let visits = Visits {
         service: &AtOnce,
         connections: Some(3),
@@ -67,9 +80,16 @@ fn serves_three_from_one_seat(rt: HostRuntime) -> Result<(), Fail> {
         ending: None,
         notices: &Silent,
     };
-    let parts = BoardParts::new(rt.alloc(), 1, 8)?;
-    let made = counts::<Brand, _, _>(&rt, rt.alloc(), parts, &listener, &visits)?;
+    let made = counted(rt, alloc, listener, &visits)?;
     assert_eq!(rt; made.as_slice(), [3u64].as_slice());
+    Ok(())
+}
+
+#[test]
+fn serves_three_from_one_seat(rt: HostRuntime) -> Result<(), Fail> {
+    let listener = TcpListener::bind(&rt, "127.0.0.1:0")?;
+    let mut clients = ask_each(&rt, listener.local_addr()?, &[ASKED; 3])?;
+    hold_three(&rt, rt.alloc(), &listener)?;
     for client in &mut clients {
         hold_answer(
             &rt,
@@ -97,8 +117,7 @@ fn ends_where_the_listener_is_gone(rt: HostRuntime) -> Result<(), Fail> {
         ending: None,
         notices: &last,
     };
-    let parts = BoardParts::new(rt.alloc(), 1, 8)?;
-    let made = counts::<Brand, _, _>(&rt, rt.alloc(), parts, &listener, &visits)?;
+    let made = counted(&rt, rt.alloc(), &listener, &visits)?;
     assert_eq!(rt; made.as_slice(), [0u64].as_slice());
     assert_eq!(rt; last.0.get(), Some(Entrance::Gone(libc::EINVAL)));
     Ok(())

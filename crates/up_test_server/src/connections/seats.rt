@@ -19,6 +19,36 @@ fn make<B: Naming, R: Wait>(rt: &R, alloc: Global, board: &Board<B>, seat: &mut 
     let _ = board.commit(rt, alloc, seat, request, Id::new(7), &Asked::Allowed);
 }
 
+/// Takes a seat, creates an upload from it, and puts it back.
+fn use_one<B: Naming, R: Wait>(
+    rt: &R,
+    alloc: Global,
+    board: &Board<B>,
+    seats: &Seats<B>,
+) -> Result<(), Fail> {
+    let Some(mut seat) = seats.pop(rt, board) else {
+        return Err("a first seat".into());
+    };
+    make(rt, alloc, board, &mut seat);
+    seats.put_back(rt, seat);
+    Ok(())
+}
+
+/// Takes two seats, of which the first was used, and puts them back, the second first.
+fn swap_two<B: Naming, R: Wait + Abort>(
+    rt: &R,
+    board: &Board<B>,
+    seats: &Seats<B>,
+) -> Result<(), Fail> {
+    let (Some(again), Some(second)) = (seats.pop(rt, board), seats.pop(rt, board)) else {
+        return Err("two seats".into());
+    };
+    assert_eq!(rt; (again.count(), second.count()), (1, 0));
+    seats.put_back(rt, second);
+    seats.put_back(rt, again);
+    Ok(())
+}
+
 /// Puts back a seat from which an upload was created, and takes it again before a new one.
 fn taken_again<B: Naming, R: Wait + Abort>(
     rt: &R,
@@ -31,17 +61,8 @@ fn taken_again<B: Naming, R: Wait + Abort>(
 {
     let (board, _takes) = Board::<B>::new(alloc, parts, 1)?;
     let seats = Seats::new(alloc, 2)?;
-    let Some(mut first) = seats.pop(rt, &board) else {
-        return Err("a first seat".into());
-    };
-    make(rt, alloc, &board, &mut first);
-    seats.put_back(rt, first);
-    let (Some(again), Some(second)) = (seats.pop(rt, &board), seats.pop(rt, &board)) else {
-        return Err("two seats".into());
-    };
-    assert_eq!(rt; (again.count(), second.count()), (1, 0));
-    seats.put_back(rt, second);
-    seats.put_back(rt, again);
+    use_one(rt, alloc, &board, &seats)?;
+    swap_two(rt, &board, &seats)?;
     let mut counts = Vec::new(alloc);
     for seat in seats.into_inner() {
         counts.push(seat.count())?;

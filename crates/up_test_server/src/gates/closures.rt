@@ -6,10 +6,12 @@ use crate::clients::{ask, hold_answer};
 use crate::serving::reported;
 use std::alloc::Global;
 use std::io::{Read, Write};
+use std::marker::Sync;
 use std::net::{TcpListener, TcpStream};
-use std::sync::Arc;
+use std::sync::{Arc, Wait};
 use std::test::Fail;
 use std::thread;
+use std::thread::Threads;
 use up_connections::{Patience, Silent, Visits};
 use up_dispatch::AtOnce;
 use up_events::Event;
@@ -34,6 +36,36 @@ fn asks_meanwhile(alloc: Global, mut stream: TcpStream, gate: &Gate) -> Result<V
     Ok(answer)
 }
 
+/// Serves two connections with these closures. The second sends its request once the closure was called. Returns the
+/// report, and the response to that request.
+fn served<R: Threads + Wait + Eprint + Sync>(
+    rt: &R,
+    alloc: Global,
+    hooks: PreHooks,
+    listener: TcpListener,
+    stream: TcpStream,
+    gate: &Gate,
+) -> Result<(Vec<u8>, Vec<u8>), Fail> {
+    let visits = Visits {
+        service: &AtOnce,
+        connections: Some(2),
+        open: 2,
+        patience: Patience::default(),
+        watch: None,
+        ending: None,
+        notices: &Silent,
+    };
+    let done = |_: &Event| Outcome::Done;
+    let settings = Settings::default();
+    let (report, told) = thread::join(
+        rt,
+        || reported(rt, alloc, hooks, done, &settings, listener, &visits),
+        || asks_meanwhile(alloc, stream, gate),
+    );
+    let told = told?;
+    Ok((report?, told))
+}
+
 #[test]
 fn a_closure_waits_for_another_connection(rt: HostRuntime) -> Result<(), Fail> {
     let listener = TcpListener::bind(&rt, "127.0.0.1:0")?;
@@ -48,24 +80,8 @@ fn a_closure_waits_for_another_connection(rt: HostRuntime) -> Result<(), Fail> {
     let mut hooks = Vec::new(rt.alloc());
     hooks.push(PreHook::new(Point::Create, Box::new(rt.alloc(), judge)?))?;
     let hooks = PreHooks::new(hooks);
-    let shared = &*gate;
-    let visits = Visits {
-        service: &AtOnce,
-        connections: Some(2),
-        open: 2,
-        patience: Patience::default(),
-        watch: None,
-        ending: None,
-        notices: &Silent,
-    };
-    let done = |_: &Event| Outcome::Done;
-    let settings = Settings::default();
-    let (report, told) = thread::join(
-        &rt,
-        || reported(&rt, rt.alloc(), hooks, done, &settings, listener, &visits),
-        || asks_meanwhile(rt.alloc(), stream, shared),
-    );
-    assert!(rt; told?.starts_with(b"HTTP/1.1 404 "));
-    assert_eq!(rt; str::from_utf8(&report?)?, REPORT);
+    let (report, told) = served(&rt, rt.alloc(), hooks, listener, stream, &gate)?;
+    assert!(rt; told.starts_with(b"HTTP/1.1 404 "));
+    assert_eq!(rt; str::from_utf8(&report)?, REPORT);
     hold_answer(&rt, rt.alloc(), &mut client, b"HTTP/1.1 201 ", b"")
 }

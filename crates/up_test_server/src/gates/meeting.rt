@@ -5,13 +5,18 @@ ghost use Rattle.up_hooks.specs.Recorded.{has_code};
 use crate::clients::{ask_each, hold_answer};
 use crate::replaying::replayed;
 use crate::serving::reported;
+use std::alloc::Global;
+use std::marker::Sync;
 use std::net::TcpListener;
+use std::sync::Wait;
 use std::sync::atomic::{AtomicBool, Ordering};
 use std::test::Fail;
+use std::thread::Threads;
 use up_connections::{Patience, Silent, Visits};
 use up_dispatch::AtOnce;
 use up_events::Event;
 use up_hooks::{Outcome, PreHooks};
+use up_server::ServerFault;
 use up_test_board::{POST, is_set_in_time};
 use up_wire::Input;
 use up_words::Settings;
@@ -85,18 +90,18 @@ fn post_hooks_of_two_lanes_meet(rt: HostRuntime) -> Result<(), Fail> {
     Ok(())
 }
 
-#[test]
-fn post_hooks_meet_by_two_connections(rt: HostRuntime) -> Result<(), Fail> {
-    let listener = TcpListener::bind(&rt, "127.0.0.1:0")?;
-    let address = listener.local_addr()?;
-    let mut clients = ask_each(&rt, address, &[POST, POST])?;
+/// The report of a server that serves two connections, one after the other, and whose post-hooks meet.
+fn met<R: Threads + Wait + Eprint + Sync>(
+    rt: &R,
+    alloc: Global,
+    listener: TcpListener,
+) -> Result<Vec<u8>, ServerFault> {
     let meeting = Meeting::new();
     let shared = &meeting;
     let answer = move |event: &Event| -> Outcome
         ensures { IsTrue (has_code result) }
     { shared.answer(event) };
-    let hooks = PreHooks::new(Vec::new(rt.alloc()));
-    let settings = Settings::default();
+    let hooks = PreHooks::new(Vec::new(alloc));
     let visits = Visits {
         service: &AtOnce,
         connections: Some(2),
@@ -106,7 +111,22 @@ fn post_hooks_meet_by_two_connections(rt: HostRuntime) -> Result<(), Fail> {
         ending: None,
         notices: &Silent,
     };
-    let report = reported(&rt, rt.alloc(), hooks, answer, &settings, listener, &visits)?;
+    reported(
+        rt,
+        alloc,
+        hooks,
+        answer,
+        &Settings::default(),
+        listener,
+        &visits,
+    )
+}
+
+#[test]
+fn post_hooks_meet_by_two_connections(rt: HostRuntime) -> Result<(), Fail> {
+    let listener = TcpListener::bind(&rt, "127.0.0.1:0")?;
+    let mut clients = ask_each(&rt, listener.local_addr()?, &[POST, POST])?;
+    let report = met(&rt, rt.alloc(), listener)?;
     assert_eq!(rt; str::from_utf8(&report)?, REPORT);
     for client in &mut clients {
         hold_answer(&rt, rt.alloc(), client, b"HTTP/1.1 201 ", b"")?;

@@ -171,6 +171,31 @@ fn hold(
     Ok(())
 }
 
+/// Serves three connections with a lane that has this post-hook. The third one is silent, and is shut down once the
+/// post-hook has reported three events.
+fn served_meanwhile<'a, T: Threads + Wait + Eprint + Sync>(
+    rt: &T,
+    alloc: Global,
+    listener: TcpListener,
+    silent: &TcpStream,
+    post_hook: Scarce<'a>,
+    told: &AtomicU64,
+) -> Result<Report<Scarce<'a>>, NoMemory>
+    requires { post_hook.events.items ≡ [] }
+{
+    let (report, _) = thread::join(
+        rt,
+        ||
+            requires { post_hook.events.items ≡ [] }
+        { served(rt, alloc, listener, 3, post_hook) },
+        || {
+            wait_for(rt, told, 3);
+            silent.shutdown(Shutdown::Both)
+        },
+    );
+    report
+}
+
 #[test]
 fn a_lane_goes_on_while_the_server_runs(rt: HostRuntime) -> Result<(), Fail> {
     let listener = TcpListener::bind(&rt, "127.0.0.1:0")?;
@@ -179,21 +204,28 @@ fn a_lane_goes_on_while_the_server_runs(rt: HostRuntime) -> Result<(), Fail> {
     let silent = TcpStream::connect(&rt, address)?;
     let told = AtomicU64::new(0);
     let hook = Scarce::new(rt.alloc(), 3, &told);
-    let (report, _) = thread::join(
-        &rt,
-        ||
-            requires { hook.events.items ≡ [] }
-        { served(&rt, rt.alloc(), listener, 3, hook) },
-        || {
-            wait_for(&rt, &told, 3);
-            silent.shutdown(Shutdown::Both)
-        },
-    );
-    hold(&rt, &report?, How::Drained, 3, 0)?;
+    let report = served_meanwhile(&rt, rt.alloc(), listener, &silent, hook, &told)?;
+    hold(&rt, &report, How::Drained, 3, 0)?;
     for client in &mut clients {
         hold_answer(&rt, rt.alloc(), client, b"HTTP/1.1 20", b"\r\n\r\n")?;
     }
     Ok(())
+}
+
+/// Serves two connections with a lane whose post-hook runs out of memory `refusals` times, and checks how it ended.
+fn hold_end(
+    rt: &(impl Threads + Wait + Eprint + Abort + Sync),
+    alloc: Global,
+    listener: TcpListener,
+    refusals: u64,
+    how: How,
+    count: usize,
+    left: u64,
+) -> Result<(), Fail> {
+    let told = AtomicU64::new(0);
+    let hook = Scarce::new(alloc, refusals, &told);
+    let report = served(rt, alloc, listener, 2, hook)?;
+    hold(rt, &report, how, count, left)
 }
 
 #[test]
@@ -201,10 +233,7 @@ fn a_lane_is_tried_three_times_more_at_the_end(rt: HostRuntime) -> Result<(), Fa
     for (refusals, how, count, left) in [(3, How::Drained, 3, 0), (u64::MAX, How::Stopped, 0, 3)] {
         let listener = TcpListener::bind(&rt, "127.0.0.1:0")?;
         let _clients = ask_each(&rt, listener.local_addr()?, &ASKED)?;
-        let told = AtomicU64::new(0);
-        let hook = Scarce::new(rt.alloc(), refusals, &told);
-        let report = served(&rt, rt.alloc(), listener, 2, hook)?;
-        hold(&rt, &report, how, count, left)?;
+        hold_end(&rt, rt.alloc(), listener, refusals, how, count, left)?;
     }
     Ok(())
 }

@@ -15,18 +15,3 @@ pieces-preserved-in-Took g c =
 
 pub returns : goal.returns
 returns g c = grind (arith, common_steps)
-
-pub pieces-init : goal.pieces-init
-pieces-init g c = grind (arith, common_steps)
-
-pub returns-then-interruptions-eq-MAX_INTERRUPTIONS : goal.returns-then-interruptions-eq-MAX_INTERRUPTIONS
-returns-then-interruptions-eq-MAX_INTERRUPTIONS g c = grind (arith, common_steps)
-
-pub pieces-preserved : goal.pieces-preserved
-pieces-preserved g c = grind (arith, common_steps)
-
-pub returns-in-Failed : goal.returns-in-Failed
-returns-in-Failed g c = grind (arith, common_steps)
-
-pub pieces-smaller-in-Took : goal.pieces-smaller-in-Took
-pieces-smaller-in-Took g c = grind (arith, common_steps)
