@@ -30,27 +30,16 @@ reply_with (Some status) text = refused_with status text
 
 -- the answer to a message that can't be read
 abbrev pub reply_to_wire_fault : WireFault → Response
-reply_to_wire_fault unread.BadHead = reply_with (wire_fault_status unread.BadHead) (wire_fault_line unread.BadHead)
-reply_to_wire_fault unread.HeadTooLarge = reply_with (wire_fault_status unread.HeadTooLarge) (wire_fault_line unread.HeadTooLarge)
-reply_to_wire_fault unread.BadFraming = reply_with (wire_fault_status unread.BadFraming) (wire_fault_line unread.BadFraming)
-reply_to_wire_fault unread.UnknownCoding = reply_with (wire_fault_status unread.UnknownCoding) (wire_fault_line unread.UnknownCoding)
-reply_to_wire_fault unread.BodyTooLarge = reply_with (wire_fault_status unread.BodyTooLarge) (wire_fault_line unread.BodyTooLarge)
-reply_to_wire_fault unread.ReadFailed = reply_with (wire_fault_status unread.ReadFailed) (wire_fault_line unread.ReadFailed)
 reply_to_wire_fault unread.NoMemory = out_of_memory
-reply_to_wire_fault unread.WriteFailed = reply_with (wire_fault_status unread.WriteFailed) (wire_fault_line unread.WriteFailed)
+reply_to_wire_fault other = reply_with (wire_fault_status other) (wire_fault_line other)
 
 -- the answer to a message that is not a request
 abbrev pub reply_to_header_fault : HeaderFault → Response
 reply_to_header_fault fault.Version = version_refused_with (header_fault_status fault.Version) (header_fault_line fault.Version)
-reply_to_header_fault fault.NoSuchPath = refused_with (header_fault_status fault.NoSuchPath) (header_fault_line fault.NoSuchPath)
 reply_to_header_fault (fault.Method of_upload) =
     method_refused_with (header_fault_status (fault.Method of_upload)) (header_fault_line (fault.Method of_upload)) of_upload
-reply_to_header_fault fault.Repeated = refused_with (header_fault_status fault.Repeated) (header_fault_line fault.Repeated)
-reply_to_header_fault fault.BadLength = refused_with (header_fault_status fault.BadLength) (header_fault_line fault.BadLength)
-reply_to_header_fault fault.TooLong = refused_with (header_fault_status fault.TooLong) (header_fault_line fault.TooLong)
-reply_to_header_fault fault.BadConcat = refused_with (header_fault_status fault.BadConcat) (header_fault_line fault.BadConcat)
-reply_to_header_fault fault.BadMetadata = refused_with (header_fault_status fault.BadMetadata) (header_fault_line fault.BadMetadata)
 reply_to_header_fault fault.NoMemory = out_of_memory
+reply_to_header_fault other = refused_with (header_fault_status other) (header_fault_line other)
 
 -- it is this response, or the answer that memory ran out
 abbrev pub IsReply : Response → Response → Type 0
