@@ -2,7 +2,7 @@
 ghost use Rattle.std.specs.Prelude.{◌≡◌, IfOk, vec_len};
 ghost use Rattle.up_dispatch.specs.Lists.{EachAt};
 
-use crate::lanes::{end_all, start_all};
+use crate::lanes::{end_all, start_each};
 use crate::runner::{LaneNotices, Runner};
 use std::alloc::{AllocError, Global};
 use std::marker::{Send, Sync};
@@ -48,7 +48,13 @@ pub fn run_beside<
             ensures ends { IfOk result (λ r. EachAt (λ k e. H.is_sound e.hook
                 × (e.lane ≡ k) × (e.take_end.queue ≡ B.queue k)) r.1.items) }
         {
-            let running = start_all(scope, rt, alloc, runner, lanes)?;
+            let running = match start_each(scope, rt, alloc, runner, lanes) {
+                Ok(running) => running,
+                Err(error) => {
+                    runner.close(rt);
+                    return Err(error);
+                }
+            };
             let done = work();
             let ends = end_all(rt, runner, running)?;
             Ok((done, ends))

@@ -48,7 +48,7 @@ impl<H: PostHook> Promise<LaneEnd<H>> for OfLane<H> {
 
 /// Starts a thread for each lane. `AllocError` if one can't be started. The lanes that were started then run until the
 /// board is closed.
-fn start_each<
+pub fn start_each<
     's,
     E,
     B: Naming + Send + Sync,
@@ -73,34 +73,6 @@ fn start_each<
         running.push(scope.spawn_with(promise, move || runner.run(rt, lane))?)?;
     }
     Ok(running)
-}
-
-/// Starts a thread for each lane. `AllocError` if one can't be started. The board is then closed, so that the lanes
-/// that were started end.
-pub fn start_all<
-    's,
-    E,
-    B: Naming + Send + Sync,
-    N: LaneNotices,
-    H: PostHook + Drop + 's,
-    T: Threads + Wait + Sync,
->(
-    scope: &Scope<'s, E>,
-    rt: &'s T,
-    alloc: Global,
-    runner: &'s Runner<'s, B, N>,
-    lanes: Vec<Lane<H>>,
-) -> Result<Vec<PromisedHandle<LaneEnd<H>, OfLane<H>>>, AllocError>
-    requires { EachAt (λ k l. (l.lane ≡ k) × (l.queue ≡ B.queue k)) lanes.items }
-    ensures count { IfOk result (λ v. vec_len v ≡ vec_len lanes) }
-    ensures lanes { IfOk result (λ v. EachAt (λ k h. (h.promise.0.value.lane ≡ k)
-        × (h.promise.0.value.queue ≡ B.queue k)) v.items) }
-{
-    let running = start_each(scope, rt, alloc, runner, lanes);
-    if running.is_err() {
-        runner.close(rt);
-    }
-    running
 }
 
 /// Closes the board, and waits until each lane has ended. `AllocError` if memory runs out.
