@@ -186,8 +186,8 @@ impl Course {
         }
     }
 
-    /// Adds the result of a request. If there is a change, it must be the last of the journal; otherwise the book must be
-    /// unchanged.
+    /// Adds the result of a request. If there is a change, it must be the last of the journal; otherwise the book must
+    /// be unchanged.
     fn commit(&mut self, words: &mut String, alloc: Global, row: &str) -> Result<(), RowFault> {
         let before = words::state(alloc, &self.book)?;
         let count = self.book.journal().accepted().len();

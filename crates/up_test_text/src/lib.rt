@@ -1,5 +1,5 @@
-//! Texts for bytes, with Rust's escapes: `\r`, `\n`, `\t`, `\\`, `\'`, `\"` and `\xHH`; the first line in which two texts
-//! differ; and responses as text.
+//! Texts for bytes, with Rust's escapes: `\r`, `\n`, `\t`, `\\`, `\'`, `\"` and `\xHH`; the first line in which two
+//! texts differ; and responses as text.
 #![tactic(auto)]
 
 ghost use Rattle.std.specs.Prelude.{◌<◌, IfOk, length};

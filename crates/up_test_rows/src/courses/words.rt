@@ -15,8 +15,8 @@ pub fn push_refusal(words: &mut String, alloc: Global, refusal: &Refusal) -> Res
     Ok(push_response(words, &response)?)
 }
 
-/// Adds the question for closures as "Create None Plain 0/Some(5) [name: ab; ]": point, target, kind, offset and length,
-/// and pairs.
+/// Adds the question for closures as "Create None Plain 0/Some(5) [name: ab; ]": point, target, kind, offset and
+/// length, and pairs.
 fn push_ask(words: &mut String, ask: &Ask) -> Result<(), AllocError> {
     let (point, target, kind, offset, length) = (
         ask.point, ask.target, ask.kind, ask.offset, ask.length,
