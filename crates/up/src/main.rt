@@ -30,14 +30,14 @@ use up_server::{EventLines, ServerFault};
 use up_wire::Output;
 use up_words::{Words, WordsFault, words};
 
-/// Serves as the arguments ask.
+/// Serves as the arguments ask. Takes the listener and the files, if there are any.
 fn run_by_words<
     R: Input + Print + Eprint + AllocGlobal + Clock + RandomSource + Threads + Wait + Sync,
 >(
     rt: &R,
     words: &Words,
-    listener: Option<TcpListener>,
-    files: Option<StoreFiles<'_>>,
+    listener: &mut Option<TcpListener>,
+    files: &mut Option<StoreFiles<'_>>,
 ) -> Result<(), Fault> {
     let lines = EventLines::new(Output::new(BufWriter::new(rt.alloc(), io::writer(rt))?));
     let wanted = match &words.serve {
@@ -73,7 +73,7 @@ fn asked<R: Print>(rt: &R, alloc: Global, arguments: Vec<String>) -> Result<Opti
     }
 }
 
-/// Listens if the arguments ask for it, and serves.
+/// Listens if the arguments ask for it, and serves. Takes the files, if there are any.
 fn run<
     R: Input
         + Print
@@ -85,12 +85,12 @@ fn run<
         + Threads
         + Wait
         + Sync,
->(rt: &R, words: &Words, files: Option<StoreFiles<'_>>) -> Result<(), Fault> {
-    let listener = match &words.serve {
+>(rt: &R, words: &Words, files: &mut Option<StoreFiles<'_>>) -> Result<(), Fault> {
+    let mut listener = match &words.serve {
         Some(serving) => Some(listen(rt, serving)?),
         None => None,
     };
-    run_by_words(rt, words, listener, files)
+    run_by_words(rt, words, &mut listener, files)
 }
 
 /// What the arguments ask for, and the files of the store if they ask for one, which are then open. `None` if they only
@@ -105,7 +105,7 @@ fn prepared(rt: &HostRuntime) -> Result<Option<(Words, Option<StoreFiles<'_>>)>,
 
 fn main(rt: HostRuntime) -> ExitCode {
     let ended = match prepared(&rt) {
-        Ok(Some((words, files))) => run(&rt, &words, files),
+        Ok(Some((words, mut files))) => run(&rt, &words, &mut files),
         Ok(None) => Ok(()),
         Err(fault) => Err(fault),
     };

@@ -20,7 +20,7 @@ use up_wire::Sink;
 use up_words::Words;
 
 /// Serves what the arguments ask for, with the closures for their rules. These are asked in the order in which the help
-/// lists the rules. The error says why the run failed.
+/// lists the rules. Takes the listener and the files, if there are any. The error says why the run failed.
 pub fn run_by_rules<
     'a,
     R: Input + Print + Eprint + AllocGlobal + Clock + RandomSource + Threads + Wait + Sync + 'a,
@@ -29,8 +29,8 @@ pub fn run_by_rules<
     rt: &'a R,
     words: &'a Words,
     lines: Option<&'a EventLines<W>>,
-    listener: Option<TcpListener>,
-    files: Option<StoreFiles<'_>>,
+    listener: &mut Option<TcpListener>,
+    files: &mut Option<StoreFiles<'_>>,
 ) -> Result<(), Fault> {
     let mut hooks = Vec::new(rt.alloc());
     for rule in rules_of(rt.alloc(), words)? {

@@ -1,6 +1,6 @@
 //! A run of the server, once the closures of its rules are made.
 ghost use Rattle.std.specs.Prelude.{◌≡◌, [], All, IsTrue, List, length};
-ghost use Rattle.up_hooks.specs.Recorded.{has_code};
+ghost use Rattle.up_hooks.specs.Recorded.{AnswersWithCodes, has_code};
 ghost use Rattle.up_log.specs.Logs.{IsReaderAt};
 ghost use Rattle.up_log.specs.declared.entry.Entry.{Entry as Logged};
 
@@ -24,7 +24,7 @@ use up_dispatch::{AtOnce, Service};
 use up_events::Event;
 use up_handed::continue_each;
 use up_history::Chronicle;
-use up_hooks::{Outcome, PostHook, PreHooks, Recorder, Teller, new_recorders, new_tellers};
+use up_hooks::{Outcome, PostHook, PreHooks, Teller, new_recorders, new_tellers};
 use up_server::{Connections, EventLines, Hooks, ServerFault, Shown, keep_serving, replay, serve};
 use up_store::{EndedUploads, Folder, Histories, Keeping, LogFile, Shortening, StoreNotices};
 use up_tie::Site;
@@ -94,8 +94,8 @@ fn is_counted(words: &Words) -> bool {
     }
 }
 
-/// Serves what the words ask for, with these closures. The post-hooks write each event as a line, if there are lines,
-/// and return `Done`.
+/// Serves what the words ask for, with these closures. Takes the listener and the files, if there are any. The
+/// post-hooks write each event as a line, if there are lines, and return `Done`.
 pub fn run_with<
     'a,
     R: Input + Print + Eprint + AllocGlobal + Clock + RandomSource + Threads + Wait + Sync + 'a,
@@ -104,9 +104,9 @@ pub fn run_with<
     rt: &'a R,
     words: &'a Words,
     lines: Option<&'a EventLines<W>>,
-    listener: Option<TcpListener>,
+    listener: &mut Option<TcpListener>,
     hooks: PreHooks,
-    files: Option<StoreFiles<'_>>,
+    files: &mut Option<StoreFiles<'_>>,
 ) -> Result<(), Fault> {
     let answer = move |event: &Event| -> Outcome
         ensures { IsTrue (has_code result) }
@@ -116,7 +116,7 @@ pub fn run_with<
             None => Outcome::Done,
         }
     };
-    let settings = match &files {
+    let settings = match &*files {
         Some(files) => files.settings,
         None => words.settings,
     };
@@ -127,23 +127,12 @@ pub fn run_with<
         watch: watch_of(words),
         ending: ending_of(rt.alloc(), words)?,
     };
-    match (listener, files) {
-        (Some(listener), Some(files)) => {
-            match new_tellers(rt.alloc(), settings.lanes, answer) {
-                Ok(tellers) => run_stored(rt, &beside, listener, hooks, tellers, files),
-                Err(_) => Err(Fault::Server(ServerFault::Memory)),
-            }
-        }
+    match (listener.take(), files.take()) {
+        (Some(listener), Some(files)) => { run_stored(rt, &beside, listener, hooks, answer, files) }
         (Some(listener), None) if is_counted(words) => {
-            match new_tellers(rt.alloc(), settings.lanes, answer) {
-                Ok(tellers) => run_counted(rt, &beside, listener, hooks, tellers),
-                Err(_) => Err(Fault::Server(ServerFault::Memory)),
-            }
+            run_counted(rt, &beside, listener, hooks, answer)
         }
-        (listener, _) => match new_recorders(rt.alloc(), settings.lanes, answer) {
-            Ok(recorders) => run_over(rt, &beside, listener, hooks, recorders),
-            Err(_) => Err(Fault::Server(ServerFault::Memory)),
-        },
+        (listener, _) => run_over(rt, &beside, listener, hooks, answer),
     }
 }
 
@@ -185,24 +174,26 @@ fn run_on<
     Ok(())
 }
 
-/// Serves what the listener accepts, with uploads in memory alone.
+/// Serves what the listener accepts, with uploads in memory alone. The post-hooks return what `answer` does.
 fn run_counted<
-    F: Fn(&Event) -> Outcome + Send + Drop,
+    F: Fn(&Event) -> Outcome + Send + Copy + Drop,
     R: Print + Eprint + AllocGlobal + Clock + RandomSource + Threads + Wait + Sync,
 >(
     rt: &R,
     beside: &Beside<'_, R>,
     listener: TcpListener,
     hooks: PreHooks,
-    tellers: Vec<Teller<F>>,
+    answer: F,
 ) -> Result<(), Fault>
-    requires one_for_each { length tellers.items ≡ beside.now.settings.lanes }
-    requires new { All (λ t. ⟦<Teller<F> as PostHook>⟧.is_sound t
-        × (⟦<Teller<F> as PostHook>⟧.handed t ≡ [])) tellers.items }
+    requires callable { F.IsAlwaysCallable answer }
+    requires codes { AnswersWithCodes F.Fn answer }
 {
-    match visits_of(beside, &AtOnce) {
-        Some(visits) => run_on(rt, beside, &visits, listener, hooks, tellers),
-        None => Ok(()),
+    let Some(visits) = visits_of(beside, &AtOnce) else {
+        return Ok(());
+    };
+    match new_tellers(rt.alloc(), beside.settings.lanes, answer) {
+        Ok(tellers) => run_on(rt, beside, &visits, listener, hooks, tellers),
+        Err(_) => Err(Fault::Server(ServerFault::Memory)),
     }
 }
 
@@ -301,44 +292,51 @@ fn run_named<
     Ok(())
 }
 
-/// Serves what the listener accepts, over the files of a store.
+/// Serves what the listener accepts, over the files of a store. The post-hooks return what `answer` does.
 fn run_stored<
-    F: Fn(&Event) -> Outcome + Send + Drop,
+    F: Fn(&Event) -> Outcome + Send + Copy + Drop,
     R: Print + Eprint + AllocGlobal + Clock + RandomSource + Threads + Wait + Sync,
 >(
     rt: &R,
     beside: &Beside<'_, R>,
     listener: TcpListener,
     hooks: PreHooks,
-    tellers: Vec<Teller<F>>,
+    answer: F,
     files: StoreFiles<'_>,
 ) -> Result<(), Fault>
-    requires one_for_each { length tellers.items ≡ beside.now.settings.lanes }
     requires same { files.settings.lanes ≡ beside.now.settings.lanes }
-    requires new { All (λ t. ⟦<Teller<F> as PostHook>⟧.is_sound t
-        × (⟦<Teller<F> as PostHook>⟧.handed t ≡ [])) tellers.items }
+    requires callable { F.IsAlwaysCallable answer }
+    requires codes { AnswersWithCodes F.Fn answer }
 {
     let histories = Histories::new();
-    run_named::<Brand, Brand, _, _>(rt, beside, listener, hooks, tellers, files, histories)
+    match new_tellers(rt.alloc(), beside.settings.lanes, answer) {
+        Ok(tellers) => run_named::<Brand, Brand, _, _>(
+            rt, beside, listener, hooks, tellers, files, histories,
+        ),
+        Err(_) => Err(Fault::Server(ServerFault::Memory)),
+    }
 }
 
-/// Serves what the listener accepts, or else standard input, with these closures and post-hooks.
+/// Serves what the listener accepts, or else standard input, with these closures. The post-hooks return what `answer`
+/// does.
 fn run_over<
-    F: Fn(&Event) -> Outcome + Send + Drop,
+    F: Fn(&Event) -> Outcome + Send + Copy + Drop,
     R: Input + Print + Eprint + AllocGlobal + Clock + RandomSource + Threads + Wait + Sync,
 >(
     rt: &R,
     beside: &Beside<'_, R>,
     listener: Option<TcpListener>,
     hooks: PreHooks,
-    recorders: Vec<Recorder<F>>,
+    answer: F,
 ) -> Result<(), Fault>
-    requires one_for_each { length recorders.items ≡ beside.now.settings.lanes }
-    requires new { All (λ r. ⟦<Recorder<F> as PostHook>⟧.is_sound r
-        × (⟦<Recorder<F> as PostHook>⟧.handed r ≡ [])) recorders.items }
+    requires callable { F.IsAlwaysCallable answer }
+    requires codes { AnswersWithCodes F.Fn answer }
 {
     let alloc = rt.alloc();
     let settings = &beside.settings;
+    let Ok(recorders) = new_recorders(alloc, settings.lanes, answer) else {
+        return Err(Fault::Server(ServerFault::Memory));
+    };
     let hooks = Hooks {
         pre: hooks,
         post: recorders,
