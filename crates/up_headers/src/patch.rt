@@ -69,6 +69,7 @@ fn is_media(text: &[u8]) -> bool
     )
 }
 
+/// The text before its first semicolon, or all of it if it has none.
 fn before_semicolon(text: &[u8]) -> &[u8]
     ensures { result.now ≡ before_semicolon text.now }
 {

@@ -14,6 +14,7 @@ use sqlite_disk::Disk;
 use std::alloc::Global;
 use up_message::Sequence;
 
+/// The log's fault for bytes that were not read as a batch.
 fn log_fault(fault: Unread) -> LogFault
     ensures { IsDamaged result → fault ≡ Damaged }
 {

@@ -33,12 +33,14 @@ fn whole_heading(alloc: Global, setup: Setup) -> Result<Vec<u8>, AllocError>
     Ok(bytes)
 }
 
+/// Whether the bytes are the same.
 fn are_same(bytes: &[u8], others: &[u8]) -> bool
     ensures { IsTrue result → bytes.now ≡ others.now }
 {
     bytes == others
 }
 
+/// Whether the bytes begin with `front`.
 fn begins_with(bytes: &[u8], front: &[u8]) -> bool
     ensures { IsTrue result → take (length front.now) bytes.now ≡ front.now }
 {
@@ -98,6 +100,8 @@ fn refusal(front: &[u8], setup: Setup) -> LogFault
     difference(version, lanes, max_size, setup)
 }
 
+/// The first way in which the numbers of a heading differ from those of the setup: its version, its lanes or its
+/// maximum size.
 fn difference(version: u64, lanes: u64, max_size: u64, setup: Setup) -> LogFault
     ensures { IsUnusableLog result }
 {

@@ -13,6 +13,7 @@ use up_events::{Id, Kind};
 use up_headers::{NewUpload, NotDigits, Pairs, Patch, Request};
 use up_message::{Piece, Sequence};
 
+/// A number of eight bytes, the lowest first, and what follows it.
 #[tactic(auto, unfolding(crate::specs::Reading::word_at))]
 pub(crate) fn word_of(bytes: &[u8]) -> Result<(u64, &[u8]), Unread>
     ensures exact { ReadsAs (λ x. (x.0, x.1.now)) result (word_at bytes.now) }
@@ -31,6 +32,7 @@ pub(crate) fn word_of(bytes: &[u8]) -> Result<(u64, &[u8]), Unread>
     }
 }
 
+/// A number of sixteen bytes, the lowest first, and what follows it.
 #[tactic(auto, unfolding(crate::specs::Reading::id_at))]
 fn number_of(bytes: &[u8]) -> Result<(u128, &[u8]), Unread>
     ensures { ReadsAs (λ x. (x.0, x.1.now)) result (id_at bytes.now) }
@@ -41,6 +43,7 @@ fn number_of(bytes: &[u8]) -> Result<(u128, &[u8]), Unread>
     Ok((number, rest))
 }
 
+/// A copy of bytes with their count before them, and what follows them.
 #[tactic(auto, unfolding(crate::specs::Reading::text_at))]
 fn text_of(alloc: Global, bytes: &[u8]) -> Result<(Sequence<u8>, &[u8]), Unread>
     ensures { ReadsAs (λ x. (x.0, x.1.now)) result (text_at bytes.now) }
@@ -54,6 +57,7 @@ fn text_of(alloc: Global, bytes: &[u8]) -> Result<(Sequence<u8>, &[u8]), Unread>
     Ok((Sequence::from_slice(alloc, text)?, rest))
 }
 
+/// The bytes of a PATCH, copied, and what follows them.
 fn piece_of(alloc: Global, bytes: &[u8]) -> Result<(Piece, &[u8]), Unread>
     ensures { ReadsAs (λ x. (x.0, x.1.now)) result (text_at bytes.now) }
 {
@@ -61,6 +65,7 @@ fn piece_of(alloc: Global, bytes: &[u8]) -> Result<(Piece, &[u8]), Unread>
     Ok((Piece::copied(alloc, text)?, rest))
 }
 
+/// A length, or none, and what follows it.
 #[tactic(auto, unfolding(crate::specs::Reading::maybe_at))]
 fn length_of(bytes: &[u8]) -> Result<(Option<u64>, &[u8]), Unread>
     ensures { ReadsAs (λ x. (x.0, x.1.now)) result (maybe_at word_at bytes.now) }
@@ -75,6 +80,7 @@ fn length_of(bytes: &[u8]) -> Result<(Option<u64>, &[u8]), Unread>
     }
 }
 
+/// A text, or none, and what follows it.
 #[tactic(auto, unfolding(crate::specs::Reading::maybe_at))]
 fn some_text_of(alloc: Global, bytes: &[u8]) -> Result<(Option<Sequence<u8>>, &[u8]), Unread>
     ensures { ReadsAs (λ x. (x.0, x.1.now)) result (maybe_at text_at bytes.now) }
@@ -89,6 +95,7 @@ fn some_text_of(alloc: Global, bytes: &[u8]) -> Result<(Option<Sequence<u8>>, &[
     }
 }
 
+/// A flag, and what follows it.
 #[tactic(auto, unfolding(crate::specs::Reading::flag_at))]
 fn flag_of(bytes: &[u8]) -> Result<(bool, &[u8]), Unread>
     ensures { ReadsAs (λ x. (x.0, x.1.now)) result (flag_at bytes.now) }
@@ -100,6 +107,7 @@ fn flag_of(bytes: &[u8]) -> Result<(bool, &[u8]), Unread>
     }
 }
 
+/// The kind of an upload, and what follows it.
 #[tactic(auto, unfolding(crate::specs::Reading::kind_at))]
 fn kind_of(bytes: &[u8]) -> Result<(Kind, &[u8]), Unread>
     ensures { ReadsAs (λ x. (x.0, x.1.now)) result (kind_at bytes.now) }
@@ -112,6 +120,7 @@ fn kind_of(bytes: &[u8]) -> Result<(Kind, &[u8]), Unread>
     }
 }
 
+/// What the closures answered, and what follows it.
 #[tactic(auto, unfolding(crate::specs::Reading::consent_at))]
 fn consent_of(bytes: &[u8]) -> Result<(Consent, &[u8]), Unread>
     ensures { ReadsAs (λ x. (x.0, x.1.now)) result (consent_at bytes.now) }
@@ -124,6 +133,7 @@ fn consent_of(bytes: &[u8]) -> Result<(Consent, &[u8]), Unread>
     }
 }
 
+/// The length that a PATCH declares, if it declares one, and what follows it.
 #[tactic(auto, unfolding(crate::specs::Reading::declared_at))]
 fn declared_of(bytes: &[u8]) -> Result<(Option<Result<u64, NotDigits>>, &[u8]), Unread>
     ensures { ReadsAs (λ x. (x.0, x.1.now)) result (declared_at bytes.now) }
@@ -139,6 +149,7 @@ fn declared_of(bytes: &[u8]) -> Result<(Option<Result<u64, NotDigits>>, &[u8]), 
     }
 }
 
+/// A key of metadata with its value, and what follows them.
 #[tactic(auto, unfolding(crate::specs::Reading::pair_at))]
 fn pair_of(alloc: Global, bytes: &[u8]) -> Result<((Sequence<u8>, Sequence<u8>), &[u8]), Unread>
     ensures { ReadsAs (λ x. (x.0, x.1.now)) result (pair_at bytes.now) }
@@ -148,6 +159,7 @@ fn pair_of(alloc: Global, bytes: &[u8]) -> Result<((Sequence<u8>, Sequence<u8>),
     Ok(((key, value), rest))
 }
 
+/// `count` ids, and what follows them.
 fn so_many_ids(alloc: Global, count: u64, bytes: &[u8]) -> Result<(Sequence<Id>, &[u8]), Unread>
     ensures { ReadsAs (λ x. (x.0, x.1.now)) result (so_many_at id_at count bytes.now) }
 {
@@ -161,6 +173,7 @@ fn so_many_ids(alloc: Global, count: u64, bytes: &[u8]) -> Result<(Sequence<Id>,
     Ok((ids, rest))
 }
 
+/// `count` pairs of metadata, and what follows them.
 fn so_many_pairs(alloc: Global, count: u64, bytes: &[u8]) -> Result<(Pairs, &[u8]), Unread>
     ensures { ReadsAs (λ x. (x.0, x.1.now)) result (so_many_at pair_at count bytes.now) }
 {
@@ -174,6 +187,7 @@ fn so_many_pairs(alloc: Global, count: u64, bytes: &[u8]) -> Result<(Pairs, &[u8
     Ok((pairs, rest))
 }
 
+/// Ids with their count before them, and what follows them.
 #[tactic(auto, unfolding(crate::specs::Reading::many_at))]
 fn ids_of(alloc: Global, bytes: &[u8]) -> Result<(Sequence<Id>, &[u8]), Unread>
     ensures { ReadsAs (λ x. (x.0, x.1.now)) result (many_at id_at bytes.now) }
@@ -182,6 +196,7 @@ fn ids_of(alloc: Global, bytes: &[u8]) -> Result<(Sequence<Id>, &[u8]), Unread>
     so_many_ids(alloc, count, rest)
 }
 
+/// Pairs of metadata with their count before them, and what follows them.
 #[tactic(auto, unfolding(crate::specs::Reading::many_at))]
 fn pairs_of(alloc: Global, bytes: &[u8]) -> Result<(Pairs, &[u8]), Unread>
     ensures { ReadsAs (λ x. (x.0, x.1.now)) result (many_at pair_at bytes.now) }
@@ -190,6 +205,7 @@ fn pairs_of(alloc: Global, bytes: &[u8]) -> Result<(Pairs, &[u8]), Unread>
     so_many_pairs(alloc, count, rest)
 }
 
+/// The request to create an upload, and what follows it.
 #[tactic(auto, unfolding(crate::specs::Reading::new_upload_at))]
 fn new_upload_of(alloc: Global, bytes: &[u8]) -> Result<(NewUpload, &[u8]), Unread>
     ensures { ReadsAs (λ x. (x.0, x.1.now)) result (new_upload_at bytes.now) }
@@ -211,6 +227,7 @@ fn new_upload_of(alloc: Global, bytes: &[u8]) -> Result<(NewUpload, &[u8]), Unre
     Ok((new, rest))
 }
 
+/// The request to append to an upload, and what follows it.
 #[tactic(auto, unfolding(crate::specs::Reading::patch_at))]
 fn patch_of(alloc: Global, bytes: &[u8]) -> Result<(Patch, &[u8]), Unread>
     ensures { ReadsAs (λ x. (x.0, x.1.now)) result (patch_at bytes.now) }
@@ -230,6 +247,7 @@ fn patch_of(alloc: Global, bytes: &[u8]) -> Result<(Patch, &[u8]), Unread>
     Ok((patch, rest))
 }
 
+/// A request, with a byte before it that says which kind it is, and what follows it.
 #[tactic(auto, unfolding(crate::specs::Reading::asked_for_at))]
 fn request_of(alloc: Global, bytes: &[u8]) -> Result<(Request, &[u8]), Unread>
     ensures { ReadsAs (λ x. (x.0, x.1.now)) result (asked_for_at bytes.now) }
@@ -260,6 +278,7 @@ fn request_of(alloc: Global, bytes: &[u8]) -> Result<(Request, &[u8]), Unread>
     }
 }
 
+/// An entry, and what follows it.
 #[tactic(auto, unfolding(crate::specs::Reading::entry_at))]
 fn entry_of(alloc: Global, bytes: &[u8]) -> Result<(Entry, &[u8]), Unread>
     ensures { ReadsAs (λ x. (x.0, x.1.now)) result (entry_at bytes.now) }
@@ -275,6 +294,7 @@ fn entry_of(alloc: Global, bytes: &[u8]) -> Result<(Entry, &[u8]), Unread>
     Ok((entry, rest))
 }
 
+/// `count` entries, and what follows them.
 fn so_many_entries(
     alloc: Global,
     count: u64,

@@ -12,6 +12,7 @@ use up_message::{Piece, Sequence};
 /// How many bytes a PATCH must append so that they are not copied into its encoding.
 const MIN_SHARED: usize = 16_384;
 
+/// A number as eight bytes, the lowest first.
 #[tactic(auto, unfolding(crate::specs::Spelling::word))]
 pub(crate) fn word_of(n: u64) -> [u8; 8]
     ensures { result ≡ word n }
@@ -35,12 +36,14 @@ pub(crate) fn word_of(n: u64) -> [u8; 8]
     ]
 }
 
+/// Puts a number as eight bytes, the lowest first.
 pub(crate) fn put_word(out: &mut Vec<u8>, n: u64) -> Result<(), AllocError>
     ensures { OnOk result (out.new.items ≡ out.old.items ++ word n) }
 {
     out.extend_from_slice(&word_of(n))
 }
 
+/// Puts an id as sixteen bytes, the lowest first.
 fn put_id(out: &mut Vec<u8>, upload: Id) -> Result<(), AllocError>
     ensures { OnOk result (out.new.items ≡ out.old.items ++ id upload) }
 {
@@ -49,6 +52,7 @@ fn put_id(out: &mut Vec<u8>, upload: Id) -> Result<(), AllocError>
     put_word(out, (number / (1 << 64)) as u64)
 }
 
+/// Puts the number of bytes, and the bytes.
 fn put_text(out: &mut Vec<u8>, bytes: &Sequence<u8>) -> Result<(), AllocError>
     ensures { OnOk result (out.new.items ≡ out.old.items ++ text bytes.now) }
 {
@@ -75,6 +79,7 @@ fn put_piece(out: &mut Vec<u8>, bytes: &Piece) -> Result<Piece, AllocError>
     Ok(nothing())
 }
 
+/// Puts a length, or that there is none.
 fn put_length(out: &mut Vec<u8>, length: Option<u64>) -> Result<(), AllocError>
     ensures { OnOk result (out.new.items ≡ out.old.items ++ maybe word length) }
 {
@@ -87,6 +92,7 @@ fn put_length(out: &mut Vec<u8>, length: Option<u64>) -> Result<(), AllocError>
     }
 }
 
+/// Puts a text, or that there is none.
 fn put_some_text(out: &mut Vec<u8>, sent: &Option<Sequence<u8>>) -> Result<(), AllocError>
     ensures { OnOk result (out.new.items ≡ out.old.items ++ maybe text sent.now) }
 {
@@ -99,12 +105,14 @@ fn put_some_text(out: &mut Vec<u8>, sent: &Option<Sequence<u8>>) -> Result<(), A
     }
 }
 
+/// Puts a flag.
 fn put_flag(out: &mut Vec<u8>, holds: bool) -> Result<(), AllocError>
     ensures { OnOk result (out.new.items ≡ out.old.items ++ flag holds) }
 {
     Ok(out.push(if holds { 1 } else { 0 })?)
 }
 
+/// Puts the kind of an upload.
 fn put_kind(out: &mut Vec<u8>, of: Kind) -> Result<(), AllocError>
     ensures { OnOk result (out.new.items ≡ out.old.items ++ kind of) }
 {
@@ -115,6 +123,7 @@ fn put_kind(out: &mut Vec<u8>, of: Kind) -> Result<(), AllocError>
     })?)
 }
 
+/// Puts what the closures answered.
 fn put_consent(out: &mut Vec<u8>, given: Consent) -> Result<(), AllocError>
     ensures { OnOk result (out.new.items ≡ out.old.items ++ consent given) }
 {
@@ -125,6 +134,7 @@ fn put_consent(out: &mut Vec<u8>, given: Consent) -> Result<(), AllocError>
     })?)
 }
 
+/// Puts the length that a PATCH declares, or that it declares none.
 fn put_declared(out: &mut Vec<u8>, length: Option<Result<u64, NotDigits>>) -> Result<(), AllocError>
     ensures { OnOk result (out.new.items ≡ out.old.items ++ declared_length length) }
 {
@@ -138,6 +148,7 @@ fn put_declared(out: &mut Vec<u8>, length: Option<Result<u64, NotDigits>>) -> Re
     }
 }
 
+/// Puts the number of ids, and the ids.
 fn put_ids(out: &mut Vec<u8>, ids: &[Id]) -> Result<(), AllocError>
     ensures { OnOk result (out.new.items ≡ out.old.items ++ many id ids.now) }
 {
@@ -148,6 +159,7 @@ fn put_ids(out: &mut Vec<u8>, ids: &[Id]) -> Result<(), AllocError>
     Ok(())
 }
 
+/// Puts a key of metadata and its value.
 fn put_pair(out: &mut Vec<u8>, both: &(Sequence<u8>, Sequence<u8>)) -> Result<(), AllocError>
     ensures { OnOk result (out.new.items ≡ out.old.items ++ pair both.now) }
 {
@@ -155,6 +167,7 @@ fn put_pair(out: &mut Vec<u8>, both: &(Sequence<u8>, Sequence<u8>)) -> Result<()
     put_text(out, &both.1)
 }
 
+/// Puts the number of pairs of metadata, and the pairs.
 fn put_pairs(out: &mut Vec<u8>, pairs: &[(Sequence<u8>, Sequence<u8>)]) -> Result<(), AllocError>
     ensures { OnOk result (out.new.items ≡ out.old.items ++ many pair pairs.now) }
 {
@@ -165,6 +178,7 @@ fn put_pairs(out: &mut Vec<u8>, pairs: &[(Sequence<u8>, Sequence<u8>)]) -> Resul
     Ok(())
 }
 
+/// Puts the request to create an upload.
 fn put_new_upload(out: &mut Vec<u8>, new: &NewUpload) -> Result<(), AllocError>
     ensures { OnOk result (out.new.items ≡ out.old.items ++ new_upload new.now) }
 {

@@ -14,12 +14,14 @@ use up_events::{Id, Kind, NoMemory};
 use up_headers::NewUpload;
 use up_message::Segments;
 
+/// Whether there is no upload with this id.
 fn is_missing(uploads: &Uploads, id: Id) -> bool
     ensures { result ≡ is_none (map.get uploads.now id) }
 {
     uploads.get(id).is_none()
 }
 
+/// Whether there is a partial upload with this id.
 fn is_partial(uploads: &Uploads, id: Id) -> bool
     ensures { result ≡ passes (λ x. is_partial x.kind) (map.get uploads.now id) }
 {
@@ -29,6 +31,7 @@ fn is_partial(uploads: &Uploads, id: Id) -> bool
     }
 }
 
+/// Whether there is a complete upload with this id.
 fn is_complete(uploads: &Uploads, id: Id) -> bool
     ensures { result ≡ passes is_complete (map.get uploads.now id) }
 {
@@ -38,12 +41,14 @@ fn is_complete(uploads: &Uploads, id: Id) -> bool
     }
 }
 
+/// Whether one of the parts is not there.
 fn any_missing(uploads: &Uploads, parts: &[Id]) -> bool
     ensures { result ≡ list_any (λ part. is_none (map.get uploads.now part)) parts.now }
 {
     parts.iter().any(|part| is_missing(uploads, *part))
 }
 
+/// Whether one of the parts is no partial upload.
 fn any_not_partial(uploads: &Uploads, parts: &[Id]) -> bool
     ensures { result ≡ list_any (λ part.
         not (passes (λ x. is_partial x.kind) (map.get uploads.now part))) parts.now }
@@ -51,6 +56,7 @@ fn any_not_partial(uploads: &Uploads, parts: &[Id]) -> bool
     parts.iter().any(|part| !is_partial(uploads, *part))
 }
 
+/// Whether one of the parts is not complete.
 fn any_incomplete(uploads: &Uploads, parts: &[Id]) -> bool
     ensures { result ≡ list_any (λ part.
         not (passes is_complete (map.get uploads.now part))) parts.now }

@@ -35,18 +35,21 @@ impl Model for Reason {
     ghost inverse_ok = { padded_back };
 }
 
+/// Whether the byte is a space or a visible character of ASCII.
 fn is_printable(byte: u8) -> bool
     ensures { result ≡ is_printable byte }
 {
     (0x20..=0x7e).contains(&byte)
 }
 
+/// Whether all bytes of the text are spaces or visible characters of ASCII.
 fn are_printable(text: &[u8]) -> bool
     ensures { result ≡ list_all is_printable text.now }
 {
     text.iter().all(|byte| is_printable(*byte))
 }
 
+/// Whether the text can be a reason.
 fn is_reason(text: &[u8]) -> bool
     ensures { result ≡ is_reason text.now }
 {

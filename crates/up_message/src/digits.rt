@@ -12,6 +12,7 @@ pub fn is_digits(text: &[u8]) -> bool
     !text.is_empty() && are_digits(text)
 }
 
+/// Whether all bytes of the text are decimal digits.
 fn are_digits(text: &[u8]) -> bool
     ensures { result ≡ list_all is_ascii_digit text.now }
 {

@@ -9,6 +9,7 @@ ghost use Rattle.up_wire.specs.Framing.{has_token, says_close, closes, is_contin
 use httparse::is_space_or_tab;
 use up_message::{Field, same_name, trim_end_ows};
 
+/// The text without the blanks before it.
 fn trim_start_ows(mut text: &[u8]) -> &[u8]
     ensures { result.now ≡ skip_ows text.now }
 {
@@ -52,6 +53,7 @@ pub(crate) fn closes(minor: u8, fields: &[Field]) -> bool
     minor == 0 || says_close(fields)
 }
 
+/// Whether a `Connection` field has the token `close` (RFC 9112, section 9.6).
 fn says_close(fields: &[Field]) -> bool
     ensures { result ≡ says_close fields.now }
 {
@@ -71,6 +73,7 @@ pub(crate) fn asks_to_continue(minor: u8, fields: &[Field]) -> bool
     minor == 1 && expects_continue(fields)
 }
 
+/// Whether an `Expect` field asks for `100 Continue` (RFC 9110, section 10.1.1).
 fn expects_continue(fields: &[Field]) -> bool
     ensures { result ≡ list_any is_continue (values (codes "expect") fields.now) }
 {
@@ -83,6 +86,7 @@ fn expects_continue(fields: &[Field]) -> bool
     asks
 }
 
+/// Whether the value of an `Expect` field asks for `100 Continue`.
 #[tactic(auto, unfolding(crate::specs::Framing::is_continue))]
 fn is_continue(value: &[u8]) -> bool
     ensures { result ≡ is_continue value.now }

@@ -27,6 +27,7 @@ pub(crate) fn framing_of(limit: u64, minor: u8, fields: &[Field]) -> Result<Fram
     }
 }
 
+/// The framing that `Content-Length` asks for. A body of more than `limit` bytes is refused.
 fn sized(limit: u64, value: &[u8]) -> Result<Framing, WireFault>
     ensures { result ≡ sized limit value.now }
 {
@@ -39,6 +40,7 @@ fn sized(limit: u64, value: &[u8]) -> Result<Framing, WireFault>
     }
 }
 
+/// The framing that `Transfer-Encoding` asks for, which must be `chunked` (RFC 9112, section 6.1).
 fn coded(minor: u8, value: &[u8]) -> Result<Framing, WireFault>
     ensures { result ≡ coded minor value.now }
 {

@@ -83,6 +83,7 @@ pub(crate) fn parse(alloc: Global, text: &[u8]) -> Parsed
     }
 }
 
+/// Copies what was found of a head out of its text.
 fn head_of(
     alloc: Global,
     text: &[u8],
@@ -108,6 +109,7 @@ fn head_of(
     })
 }
 
+/// The method with this name.
 fn method_of(alloc: Global, name: &[u8]) -> Result<Method, AllocError>
     requires { IsToken name.now }
     ensures { IfOk result (λ method. method ≡ name.now) }
@@ -119,6 +121,7 @@ fn method_of(alloc: Global, name: &[u8]) -> Result<Method, AllocError>
     }
 }
 
+/// Copies the fields out of the text of a head.
 fn fields_of(
     alloc: Global,
     text: &[u8],
@@ -134,6 +137,7 @@ fn fields_of(
     Ok(fields)
 }
 
+/// Copies a field out of the text of a head.
 fn field_of(alloc: Global, text: &[u8], span: HeaderSpan) -> Result<Field, AllocError>
     requires { IsHeaderWithin (length text.now) span }
     ensures { IfOk result (λ field. field ≡ header_bytes text.now span) }

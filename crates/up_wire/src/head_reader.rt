@@ -25,6 +25,7 @@ pub(crate) enum HeadRead {
 }
 
 impl HeadRead {
+    /// A fault whose response has a body.
     fn refuse(fault: WireFault) -> HeadRead
         ensures { result ≡ HeadRead.Fault fault false }
     {

@@ -14,6 +14,7 @@ use http::StatusCode;
 use itoa::Buffer;
 use up_message::{Field, Piece, Response, Run, Segments};
 
+/// Writes the line of a field.
 fn write_field<W: Sink>(sink: &mut W, field: &Field, interruptions: &mut u32) -> bool
     requires { interruptions.old < max_interruptions }
     ensures { HasWritten (W.device sink.old) (W.device sink.new)
@@ -47,6 +48,7 @@ fn phrase(status: u16) -> &'static str
     }
 }
 
+/// Writes the status line, and the fields of every response.
 fn write_start<W: Sink>(sink: &mut W, status: u16, interruptions: &mut u32) -> bool
     requires { interruptions.old < max_interruptions }
     ensures { HasWritten (W.device sink.old) (W.device sink.new)
@@ -63,6 +65,7 @@ fn write_start<W: Sink>(sink: &mut W, status: u16, interruptions: &mut u32) -> b
     write_each(sink, &pieces, interruptions)
 }
 
+/// Writes `Content-Length`, unless the response answers HEAD, as `bare` says, or its status is 204.
 fn write_length<W: Sink>(
     sink: &mut W,
     response: &Response,
@@ -194,6 +197,7 @@ pub fn write_response<W: Sink>(
     Ok(())
 }
 
+/// Writes all of a response.
 fn write_parts<W: Sink>(
     sink: &mut W,
     response: &Response,
