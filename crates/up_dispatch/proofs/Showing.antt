@@ -39,9 +39,3 @@ board_view_lawful queue count limit book cursors given total parts amount lawful
   puts = EachAt-map (λ (f : QueueCursor). f.put_end) (λ k (f : QueueCursor). IsQueuedUpTo (queue k) (lane_log book.journal k) book.closed f) (λ k (e : PutEndView). IsPrefixOfLog book k e) cursors lawful.queued (λ k f queued. (f.position, f.ended, queued.put_is, queued.within, queued.whole));
   counted = lawful.counted;
 }
-
-pub refused_for : (fault : FinishFault) (changes made : ℕ) (LanesAreThere : Type 0) → (fault ≡ finish.SeatsOut → made < changes) → (fault ≡ finish.LanesOut → (changes ≤ made) × ¬ LanesAreThere)
-    → (fault ≡ finish.NoMemory → (changes ≤ made) × LanesAreThere) → IsRefusedFor fault changes made LanesAreThere
-refused_for finish.SeatsOut changes made LanesAreThere seats lanes memory = seats refl
-refused_for finish.LanesOut changes made LanesAreThere seats lanes memory = lanes refl
-refused_for finish.NoMemory changes made LanesAreThere seats lanes memory = memory refl

@@ -21,7 +21,7 @@ use up_headers::Request;
 use up_history::Receipt;
 use up_lanes::Refill;
 use up_log::Entry;
-use up_machine::{Asked, Done, Plan, Refusal};
+use up_machine::{Asked, Book, Done, Plan, Refusal};
 use up_queue::TakeEnd;
 
 /// A book that threads share, under one lock. Whenever the lock is free, what lies under it is a lawful board.
@@ -64,8 +64,8 @@ impl<B: Naming> Board<B> {
             × EachAt (λ k e. (e.taken ≡ []) × (e.queue ≡ B.queue k)) r.1.items) }
         ensures capacities { IfOk result (λ r. capacities_of r.1.items ≡ parts.capacities) }
     {
-        let (inside, takes) = Inside::new(alloc, parts, max_size)?;
-        Ok((Board::over(alloc, inside, takes.len(), max_size)?, takes))
+        let book = Book::new(alloc, parts.lanes(), max_size)?;
+        Board::over(alloc, book, parts, max_size)
     }
 
     /// As `new`, for a board that may run forever: it counts the accepted changes, but does not keep them.
@@ -83,28 +83,37 @@ impl<B: Naming> Board<B> {
             × EachAt (λ k e. (e.taken ≡ []) × (e.queue ≡ B.queue k)) r.1.items) }
         ensures capacities { IfOk result (λ r. capacities_of r.1.items ≡ parts.capacities) }
     {
-        let (inside, takes) = Inside::forgetting(alloc, parts, max_size)?;
-        Ok((Board::over(alloc, inside, takes.len(), max_size)?, takes))
+        let book = Book::forgetting(alloc, parts.lanes(), max_size)?;
+        Board::over(alloc, book, parts, max_size)
     }
 
-    /// The board over what lies under its lock, with a bell for each lane.
+    /// The board over a new book, and the ends at which its items are taken.
     fn over(
         alloc: Global,
-        inside: Inside<B>,
-        lanes: usize,
+        book: Book,
+        parts: BoardParts,
         max_size: u64,
-    ) -> Result<Board<B>, NoMemory>
-        requires named { lanes ≡ B.lanes }
+    ) -> Result<(Board<B>, Vec<TakeEnd>), NoMemory>
+        requires named { IsNamed B.name B.parts B.queue B.lanes parts }
+        requires some_lane { 0 < length parts.queues }
         requires small { max_size ≤ MAX_UPLOAD_BYTES }
         requires sized { max_size ≡ B.max_size }
-        requires new { IsNewBook B.lanes B.max_size inside.book }
+        requires new { IsNewBook (length parts.queues) B.max_size book }
+        ensures ends { IfOk result (λ r. (length r.1.items ≡ length parts.queues)
+            × EachAt (λ k e. (e.taken ≡ []) × (e.queue ≡ B.queue k)) r.1.items) }
+        ensures capacities { IfOk result (λ r. capacities_of r.1.items ≡ parts.capacities) }
     {
-        let bells = new_bells(alloc, lanes)?;
-        Ok(Board {
-            locked: Mutex::new(Locked::new(inside)),
-            bells,
-            max_size,
-        })
+        let bells = new_bells(alloc, parts.lanes() as usize)?;
+        let (inside, takes) = Inside::new(book, parts);
+        let locked = Mutex::new(Locked::new(inside));
+        Ok((
+            Board {
+                locked,
+                bells,
+                max_size,
+            },
+            takes,
+        ))
     }
 
     /// The most bytes that an upload may have.
@@ -119,7 +128,10 @@ impl<B: Naming> Board<B> {
     pub fn seat<R: Wait>(&self, rt: &R) -> Option<Seat<B>>
         ensures { IfSome result (λ s. s ≡ 0) }
     {
-        self.locked.lock(rt).inside.seat()
+        let mut locked = self.locked.lock(rt);
+        let seat = locked.inside.seat();
+        drop(locked);
+        seat
     }
 
     /// What a request would do, in a state of the board that includes all changes made from this seat. It changes
@@ -202,7 +214,10 @@ impl<B: Naming> Board<B> {
     ) -> Option<()>
         requires claims { receipt.now.entry ≡ Some entry.now }
     {
-        self.locked.lock(rt).pass_over(receipt, entry)
+        let mut locked = self.locked.lock(rt);
+        let passed = locked.pass_over(receipt, entry);
+        drop(locked);
+        passed
     }
 
     /// Wakes the lane that has events to take after a commit, if the commit changed something.

@@ -1,5 +1,5 @@
 //! The end of a board, and what it reports.
-ghost use Rattle.std.specs.Prelude.{◌≡◌, ◌≢◌, ◌-◌, ◌<◌, ◌≤◌, ◌↔◌, [], Some, IfNone, ℕ, slice_index_or};
+ghost use Rattle.std.specs.Prelude.{◌≡◌, ◌-◌, ◌<◌, ◌≤◌, ◌↔◌, [], ℕ, slice_index_or};
 ghost use Rattle.std.specs.Prelude.{vec_capacity, length, sum, All, IfOk, IfErr, IsTrue, vec_len};
 ghost use Rattle.up_events.specs.History.{IsLegal};
 ghost use Rattle.up_events.specs.Records.{lane_log};
@@ -165,30 +165,6 @@ fn in_order<H: PostHook + Drop>(lanes: &[LaneEnd<H>], count: usize) -> bool
 }
 
 impl<B: Naming> Inside<B> {
-    /// Why the board can't be finished with these seats and lanes, if there is a reason. It is never `NoMemory`.
-    fn fault<H: PostHook + Drop>(
-        &self,
-        seats: &[Seat<B>],
-        lanes: &[LaneEnd<H>],
-    ) -> Option<FinishFault>
-        ensures none { IfNone result ((length self.now.book.journal.accepted ≤ sum seats.now)
-            × AreLanesInOrder (λ e. e.lane) B.lanes lanes.now) }
-        ensures seats_out { result ≡ Some FinishFault.SeatsOut
-            → sum seats.now < length self.now.book.journal.accepted }
-        ensures lanes_out { result ≡ Some FinishFault.LanesOut
-            → (length self.now.book.journal.accepted ≤ sum seats.now)
-            × ¬ AreLanesInOrder (λ e. e.lane) B.lanes lanes.now }
-        ensures memory { result ≢ Some FinishFault.NoMemory }
-    {
-        if missing(self.book.journal().accepted_count(), seats) > 0 {
-            return Some(FinishFault::SeatsOut);
-        }
-        if !in_order(lanes, self.cursors.len()) {
-            return Some(FinishFault::LanesOut);
-        }
-        None
-    }
-
     /// Room for the reports of all lanes. The error is the reason why the board can't be finished, or that memory ran
     /// out.
     fn begun<H: PostHook + Drop>(
@@ -201,17 +177,15 @@ impl<B: Naming> Inside<B> {
         ensures all_seats { IfOk result (λ r.
             length self.now.book.journal.accepted ≤ sum seats.now) }
         ensures all_lanes { IfOk result (λ r. AreLanesInOrder (λ e. e.lane) B.lanes lanes.now) }
-        ensures seats_out { IfErr result (λ fault. fault ≡ FinishFault.SeatsOut
-            → sum seats.now < length self.now.book.journal.accepted) }
-        ensures lanes_out { IfErr result (λ fault. fault ≡ FinishFault.LanesOut
-            → (length self.now.book.journal.accepted ≤ sum seats.now)
-            × ¬ AreLanesInOrder (λ e. e.lane) B.lanes lanes.now) }
-        ensures no_memory { IfErr result (λ fault. fault ≡ FinishFault.NoMemory
-            → (length self.now.book.journal.accepted ≤ sum seats.now)
-            × AreLanesInOrder (λ e. e.lane) B.lanes lanes.now) }
+        ensures refused { IfErr result (λ fault. IsRefusedFor fault
+            (length self.now.book.journal.accepted) (sum seats.now)
+            (AreLanesInOrder (λ e. e.lane) B.lanes lanes.now)) }
     {
-        if let Some(fault) = self.fault(seats, lanes) {
-            return Err(fault);
+        if missing(self.book.journal().accepted_count(), seats) > 0 {
+            return Err(FinishFault::SeatsOut);
+        }
+        if !in_order(lanes, self.cursors.len()) {
+            return Err(FinishFault::LanesOut);
         }
         match Vec::with_capacity(alloc, lanes.len()) {
             Ok(reports) => Ok(reports),
@@ -266,14 +240,9 @@ impl<B: Naming> Inside<B> {
         requires { All (λ e. e.take_end.queue ≡ B.queue e.lane) lanes.items }
         ensures back { IfErr result (λ u.
             (u.board ≡ self) × (u.seats ≡ seats) × (u.lanes ≡ lanes)) }
-        ensures seats_out { IfErr result (λ u. u.fault ≡ FinishFault.SeatsOut
-            → sum seats.items < length self.book.journal.accepted) }
-        ensures lanes_out { IfErr result (λ u. u.fault ≡ FinishFault.LanesOut
-            → (length self.book.journal.accepted ≤ sum seats.items)
-            × ¬ AreLanesInOrder (λ e. e.lane) B.lanes lanes.items) }
-        ensures no_memory { IfErr result (λ u. u.fault ≡ FinishFault.NoMemory
-            → (length self.book.journal.accepted ≤ sum seats.items)
-            × AreLanesInOrder (λ e. e.lane) B.lanes lanes.items) }
+        ensures refused { IfErr result (λ u. IsRefusedFor u.fault
+            (length self.book.journal.accepted) (sum seats.items)
+            (AreLanesInOrder (λ e. e.lane) B.lanes lanes.items)) }
         ensures all_lanes { IfOk result (λ r. AreLanesInOrder (λ e. e.lane) B.lanes lanes.items) }
         ensures accepted { IfOk result (λ r. r.accepted.items ≡ self.book.journal.accepted) }
         ensures keeps { IfOk result (λ r. r.accepted.keeps ≡ self.book.journal.keeps) }

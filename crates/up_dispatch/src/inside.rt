@@ -1,11 +1,10 @@
 //! What lies under the board's lock.
 ghost use Rattle.std.specs.Prelude.{◌≡◌, ◌+◌, ◌<◌, ◌≤◌, ◌^◌, ◌↔◌, []};
 ghost use Rattle.std.specs.Prelude.{ℕ, length, IfOk, OnOk, OnErr, IsErr, IfSome, IfNone, true, false, IsTrue};
-ghost use Rattle.up_events.specs.Records.{empty_records, lane_log};
+ghost use Rattle.up_events.specs.Records.{lane_log};
 ghost use Rattle.up_queue.specs.Line.{items_if};
 ghost use Rattle.up_queue.specs.EndViews.{MayBeFull};
 ghost use Rattle.up_headers.specs.Table.{FitsWithin};
-ghost use Rattle.up_machine.specs.State.{counting_state, empty_state};
 ghost use Rattle.up_machine.specs.Decision.{IsExpectedOrNoMemory, decide, decide_plan, is_asked, is_refusal};
 ghost use Rattle.up_dispatch.specs.Lists.{EachAt};
 ghost use Rattle.up_dispatch.specs.Puts.{end_at, Extends, FillsOnly, IsFilled};
@@ -13,6 +12,7 @@ ghost use Rattle.up_dispatch.specs.Commits.{changed, noted_in, IsCommitOf};
 ghost use Rattle.up_dispatch.specs.Idle.{IsIdle};
 ghost use Rattle.up_dispatch.specs.Parts.{IsNamed, capacities_of};
 ghost use Rattle.up_dispatch.specs.BoardView.{IsLawfulBoardView};
+ghost use Rattle.up_dispatch.specs.Tied.{IsNewBook};
 
 use crate::counts::Counts;
 use crate::naming::Naming;
@@ -23,7 +23,7 @@ use std::alloc::Global;
 use std::marker::Model;
 use std::sync::ledger::Share;
 use std::sync::{Wait, ledger};
-use up_events::{Id, MAX_LANES, MAX_UPLOAD_BYTES, NoMemory};
+use up_events::{Id, MAX_UPLOAD_BYTES};
 use up_headers::Request;
 use up_machine::{Asked, Book, Done, Plan, Refusal, Remains};
 use up_queue::TakeEnd;
@@ -53,57 +53,11 @@ impl<B: Naming> Model for Inside<B> {
 }
 
 impl<B: Naming> Inside<B> {
-    /// An open book without uploads, over empty queues, and the ends at which their items are taken. `NoMemory` if
-    /// memory runs out.
-    pub fn new(
-        alloc: Global,
-        parts: BoardParts,
-        max_size: u64,
-    ) -> Result<(Inside<B>, Vec<TakeEnd>), NoMemory>
+    /// A new book over empty queues, and the ends at which their items are taken.
+    pub fn new(book: Book, parts: BoardParts) -> (Inside<B>, Vec<TakeEnd>)
         requires named { IsNamed B.name B.parts B.queue B.lanes parts }
         requires some_lane { 0 < length parts.queues }
-        requires few_lanes { length parts.queues ≤ MAX_LANES }
-        requires small { max_size ≤ MAX_UPLOAD_BYTES }
-        requires sized { max_size ≡ B.max_size }
-        ensures book { IfOk result (λ r. r.0.book ≡ empty_state (length parts.queues) max_size) }
-        ensures counts { IfOk result (λ r. (r.0.given ≡ 0) × (r.0.total ≡ 0)) }
-        ensures ends { IfOk result (λ r. (length r.1.items ≡ length parts.queues)
-            × EachAt (λ k e. (e.taken ≡ []) × (e.queue ≡ B.queue k)) r.1.items) }
-        ensures capacities { IfOk result (λ r. capacities_of r.1.items ≡ parts.capacities) }
-    {
-        let book = Book::new(alloc, parts.lanes(), max_size)?;
-        Ok(Inside::over(book, parts))
-    }
-
-    /// As `new`, with a book that counts the accepted changes, but does not keep them.
-    pub fn forgetting(
-        alloc: Global,
-        parts: BoardParts,
-        max_size: u64,
-    ) -> Result<(Inside<B>, Vec<TakeEnd>), NoMemory>
-        requires named { IsNamed B.name B.parts B.queue B.lanes parts }
-        requires some_lane { 0 < length parts.queues }
-        requires few_lanes { length parts.queues ≤ MAX_LANES }
-        requires small { max_size ≤ MAX_UPLOAD_BYTES }
-        requires sized { max_size ≡ B.max_size }
-        ensures book { IfOk result (λ r. r.0.book ≡ counting_state (length parts.queues) max_size) }
-        ensures counts { IfOk result (λ r. (r.0.given ≡ 0) × (r.0.total ≡ 0)) }
-        ensures ends { IfOk result (λ r. (length r.1.items ≡ length parts.queues)
-            × EachAt (λ k e. (e.taken ≡ []) × (e.queue ≡ B.queue k)) r.1.items) }
-        ensures capacities { IfOk result (λ r. capacities_of r.1.items ≡ parts.capacities) }
-    {
-        let book = Book::forgetting(alloc, parts.lanes(), max_size)?;
-        Ok(Inside::over(book, parts))
-    }
-
-    /// What `new` makes, from a new book.
-    fn over(book: Book, parts: BoardParts) -> (Inside<B>, Vec<TakeEnd>)
-        requires named { IsNamed B.name B.parts B.queue B.lanes parts }
-        requires some_lane { 0 < length parts.queues }
-        requires new { book.journal
-            ≡ record (empty_records (length parts.queues)) { keeps = book.journal.keeps } }
-        requires going { book.closed ≡ false }
-        requires sized { book.max_size ≡ B.max_size }
+        requires new { IsNewBook (length parts.queues) B.max_size book }
         ensures book { result.0.book ≡ book }
         ensures counts { (result.0.given ≡ 0) × (result.0.total ≡ 0) }
         ensures ends { (length result.1.items ≡ length parts.queues)

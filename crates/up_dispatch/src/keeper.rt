@@ -95,7 +95,9 @@ impl Keeper for Lent<'_> {
         asked: &Asked,
     ) -> Result<Done, Refusal> {
         let mut remains = Remains::new();
-        self.book.commit(alloc, request, id, asked, &mut remains)
+        let result = self.book.commit(alloc, request, id, asked, &mut remains);
+        remains.release();
+        result
     }
 }
 
