@@ -62,54 +62,9 @@ struct Word<'a> {
     help: &'a str,
 }
 
-/// The words of every server: its size, and what it refuses.
-const COMMON: [Word<'static>; 7] = [
-    Word {
-        name: "lanes",
-        kind: Kind::Number(1, MAX_LANES),
-        default: Some("2"),
-        help: "How many lanes hand events over, from 1 to 16",
-    },
-    Word {
-        name: "capacity",
-        kind: Kind::Number(1, MAX_CAPACITY),
-        default: Some("16"),
-        help: "How many items the queue of a lane holds, from 1 to 4096",
-    },
-    Word {
-        name: "max-size",
-        kind: Kind::Number(1, MAX_UPLOAD_BYTES),
-        default: Some("1048576"),
-        help: "The most bytes of an upload, from 1 to 1073741824",
-    },
-    Word {
-        name: "require-key",
-        kind: Kind::Text("K"),
-        default: None,
-        help: "Refuse a plain or final upload whose metadata has no key K",
-    },
-    Word {
-        name: "max-length",
-        kind: Kind::Number(0, u64::MAX),
-        default: None,
-        help: "Refuse an upload of more than N bytes, from 0 to 18446744073709551615",
-    },
-    Word {
-        name: "keep",
-        kind: Kind::Nothing,
-        default: None,
-        help: "Refuse to remove an upload",
-    },
-    Word {
-        name: "max-finish",
-        kind: Kind::Number(0, u64::MAX),
-        default: None,
-        help: "Refuse to complete an upload of more than N bytes, from 0 to 18446744073709551615",
-    },
-];
-
-/// The words that say which connections are served, and what is reported meanwhile.
-const CONNECTIONS: [Word<'static>; 11] = [
+/// The words of `serve`: first those that say which connections are served and what is reported meanwhile, then those
+/// of every server.
+const WORDS: [Word<'static>; 18] = [
     Word {
         name: "address",
         kind: Kind::Text("HOST:PORT"),
@@ -176,7 +131,60 @@ const CONNECTIONS: [Word<'static>; 11] = [
         default: None,
         help: "Keep uploads and changes in the folder DIR, and go on from what stands there",
     },
+    Word {
+        name: "lanes",
+        kind: Kind::Number(1, MAX_LANES),
+        default: Some("2"),
+        help: "How many lanes hand events over, from 1 to 16",
+    },
+    Word {
+        name: "capacity",
+        kind: Kind::Number(1, MAX_CAPACITY),
+        default: Some("16"),
+        help: "How many items the queue of a lane holds, from 1 to 4096",
+    },
+    Word {
+        name: "max-size",
+        kind: Kind::Number(1, MAX_UPLOAD_BYTES),
+        default: Some("1048576"),
+        help: "The most bytes of an upload, from 1 to 1073741824",
+    },
+    Word {
+        name: "require-key",
+        kind: Kind::Text("K"),
+        default: None,
+        help: "Refuse a plain or final upload whose metadata has no key K",
+    },
+    Word {
+        name: "max-length",
+        kind: Kind::Number(0, u64::MAX),
+        default: None,
+        help: "Refuse an upload of more than N bytes, from 0 to 18446744073709551615",
+    },
+    Word {
+        name: "keep",
+        kind: Kind::Nothing,
+        default: None,
+        help: "Refuse to remove an upload",
+    },
+    Word {
+        name: "max-finish",
+        kind: Kind::Number(0, u64::MAX),
+        default: None,
+        help: "Refuse to complete an upload of more than N bytes, from 0 to 18446744073709551615",
+    },
 ];
+
+/// Where the words of every server begin: its size, and what it refuses. `replay` has only these.
+const COMMON: usize = 11;
+
+/// What `replay` does.
+const REPLAY: &str =
+    "Serves the messages on standard input as one conversation, and reports what was handed over";
+
+/// What `serve` does.
+const SERVE: &str =
+    "Serves connections, each as a conversation of its own, and reports what was handed over";
 
 /// A word in the form that `clap` takes.
 fn arg_of<'a>(alloc: Global, word: Word<'a>) -> Arg<'a> {
@@ -194,48 +202,42 @@ fn arg_of<'a>(alloc: Global, word: Word<'a>) -> Arg<'a> {
     }
 }
 
-/// The command with these words added.
-fn with_words<'a>(
+/// All words.
+fn all_words() -> [Word<'static>; 18] {
+    WORDS
+}
+
+/// A subcommand with these words.
+fn subcommand<'a>(
     alloc: Global,
-    mut command: Command<'a>,
+    name: &'a str,
+    about: &'a str,
     words: &[Word<'a>],
 ) -> Result<Command<'a>, AllocError> {
+    let mut command = Command::new(alloc, name).about(about);
     for word in words {
         command = command.arg(arg_of(alloc, *word))?;
     }
     Ok(command)
 }
 
-/// The command with the words of every server added.
-fn with_common<'a>(alloc: Global, command: Command<'a>) -> Result<Command<'a>, AllocError> {
-    with_words(alloc, command, &COMMON)
-}
-
-/// `replay` and its words.
-fn replay<'a>(alloc: Global) -> Result<Command<'a>, AllocError> {
-    let replay = Command::new(alloc, "replay").about(
-        "Serves the messages on standard input as one conversation, and reports what was handed over",
-    );
-    with_common(alloc, replay)
-}
-
-/// `serve` and its words.
-fn serve<'a>(alloc: Global) -> Result<Command<'a>, AllocError> {
-    let serve = Command::new(alloc, "serve").about(
-        "Serves connections, each as a conversation of its own, and reports what was handed over",
-    );
-    with_common(alloc, with_words(alloc, serve, &CONNECTIONS)?)
-}
-
 /// The command with all words.
 fn command<'a>(alloc: Global) -> Result<Command<'a>, AllocError> {
-    let up = Command::new(alloc, "up")
+    let words = all_words();
+    let subcommands: [(&str, &str, &[Word]); 2] = [
+        ("replay", REPLAY, &words[COMMON..]),
+        ("serve", SERVE, &words),
+    ];
+    let mut command = Command::new(alloc, "up")
         .about("An upload server for the tus resumable upload protocol 1.0.0")
         .version(VERSION)
         .no_binary_name(true)
         .subcommand_required(true)
         .bin_name("up")?;
-    up.subcommand(replay(alloc)?)?.subcommand(serve(alloc)?)
+    for (name, about, words) in &subcommands {
+        command = command.subcommand(subcommand(alloc, *name, *about, *words)?)?;
+    }
+    Ok(command)
 }
 
 /// The number of a word that has a default. `clap` has checked its limits.
