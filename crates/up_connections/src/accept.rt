@@ -53,15 +53,20 @@ fn serve_in_turn<B: Naming, I: Ids, S: Service, T: Wait>(
 )
     requires same { B.history ≡ S.history }
 {
-    let mut next = Some(first);
+    let mut stream = first;
     for _ in rt.forever() {
-        let Some(stream) = next else {
-            break;
-        };
-        context.begin();
+        if let Some(watch) = context.watch {
+            watch.begin();
+        }
         serve_connection(rt, alloc, context, hooks, service, stream);
-        context.end(rt);
-        next = context.pool.next(rt);
+        if let Some(watch) = context.watch {
+            watch.end();
+        }
+        context.limit.release(rt);
+        match context.pool.next(rt) {
+            Some(next) => stream = next,
+            None => break,
+        }
     }
 }
 
@@ -282,15 +287,17 @@ pub fn serve_connections<
 ) -> Result<Vec<Seat<B>>, AllocError>
     requires same { B.history ≡ S.history }
 {
+    let pool = Pool::new(alloc)?;
+    let seats = Seats::new(alloc, visits.open)?;
     let context = ConnectionContext {
         board,
         limit: ConnectionLimit::new(),
-        pool: Pool::new(alloc)?,
+        pool,
         patience: visits.patience,
         watch: visits.watch,
         ending: visits.ending,
         ids: Mutex::new(ids),
-        seats: Seats::new(alloc, visits.open)?,
+        seats,
     };
     if is_ready(rt, alloc, &context, visits.service) {
         serve_in(rt, alloc, &context, hooks, listener, visits);

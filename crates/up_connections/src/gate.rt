@@ -21,7 +21,7 @@ const PASSING: [i32; 15] = [
 ];
 
 /// Why a connection was not accepted.
-#[derive(Clone, Copy, Debug, PartialEq, Eq)]
+#[derive(Clone, Copy)]
 pub enum Failed {
     /// Only this one failed.
     Passing,
@@ -104,11 +104,11 @@ impl<'a, N: Notices> Gate<'a, N> {
     }
 
     /// Accepts a connection. `None` if the listener does not block, and none has arrived.
-    fn accept_one(&self) -> Result<Option<TcpStream>, Failed> {
+    fn accept_one(&self) -> Option<Result<TcpStream, Failed>> {
         match self.listener.accept() {
-            Ok((stream, _)) => Ok(Some(stream)),
-            Err(error) if error.kind() == io::ErrorKind::WouldBlock => Ok(None),
-            Err(error) => Err(why(&error)),
+            Ok((stream, _)) => Some(Ok(stream)),
+            Err(error) if error.kind() == io::ErrorKind::WouldBlock => None,
+            Err(error) => Some(Err(why(&error))),
         }
     }
 
@@ -122,8 +122,8 @@ impl<'a, N: Notices> Gate<'a, N> {
             if !self.goes_on(rt, context) {
                 return Err(Failed::Over);
             }
-            if let Some(stream) = self.accept_one()? {
-                return Ok(stream);
+            if let Some(came) = self.accept_one() {
+                return came;
             }
             self.open();
             if !self.is_shared {

@@ -22,9 +22,11 @@ pub struct Patience {
 }
 
 impl Patience {
-    /// Makes the system end a read or a write of this connection that moves nothing for too long, and detect a client
-    /// that is gone without a word (`SO_KEEPALIVE`). The error is that the system refused the time limit.
+    /// Makes the system send each answer at once, end a read or a write of this connection that moves nothing for too
+    /// long, and detect a client that is gone without a word (`SO_KEEPALIVE`). The error is that the system refused one
+    /// of the first two.
     pub(crate) fn set_on(self, stream: &TcpStream) -> io::Result<()> {
+        stream.set_nodelay(true)?;
         keep_alive(stream);
         if let Some(seconds) = self.seconds {
             let limit = Some(Duration::from_secs(seconds));

@@ -2,10 +2,12 @@
 ghost use Rattle.std.specs.Prelude.{◌≡◌};
 
 use crate::connection_context::ConnectionContext;
+use crate::ending::Ending;
 use crate::patience::{Pace, Reading, Writing, milliseconds};
 use std::alloc::Global;
 use std::io::{self, BufReader, BufWriter, Read};
 use std::net::{Shutdown, TcpStream};
+use std::os::fd::AsRawFd;
 use std::sync::Wait;
 use std::time::Duration;
 use up_dispatch::{Ended, Exchange, Ids, Naming, Seat, Service, SharedIds};
@@ -30,6 +32,29 @@ const LINGERING: u64 = 2000;
 /// How many times bytes are read and dropped of a connection that is being closed.
 const MAX_DROPPED: usize = MAX_UPLOAD_BYTES as usize / DROPPED;
 
+/// What the client of a connection sends and is sent, each through a buffer.
+fn buffered<'a>(
+    alloc: Global,
+    stream: &'a TcpStream,
+    pace: &'a Pace,
+    ending: Option<&'a Ending>,
+) -> io::Result<
+    (
+        Input<BufReader<Reading<'a>>>,
+        Output<BufWriter<Writing<'a>>>,
+    ),
+> {
+    let reading = Reading {
+        stream,
+        pace,
+        ending,
+    };
+    let source = Input::new(BufReader::with_capacity(alloc, READ_BUFFER, reading)?);
+    let writing = Writing { stream, pace };
+    let sink = Output::new(BufWriter::with_capacity(alloc, WRITE_BUFFER, writing)?);
+    Ok((source, sink))
+}
+
 /// Serves a connection from a seat. An error means that the connection can't be set up, or that memory ran out for its
 /// buffers. Nothing was served then.
 fn serve_stream<'x, B: Naming, I: Ids, S: Service, T: Wait>(
@@ -43,17 +68,9 @@ fn serve_stream<'x, B: Naming, I: Ids, S: Service, T: Wait>(
 ) -> io::Result<Ended>
     requires same { B.history ≡ S.history }
 {
-    stream.set_nodelay(true)?;
     context.patience.set_on(stream)?;
     let pace = &Pace::new(context.patience);
-    let reading = Reading {
-        stream,
-        pace,
-        ending: context.ending,
-    };
-    let writing = Writing { stream, pace };
-    let mut source = Input::new(BufReader::with_capacity(alloc, READ_BUFFER, reading)?);
-    let mut sink = Output::new(BufWriter::with_capacity(alloc, WRITE_BUFFER, writing)?);
+    let (mut source, mut sink) = buffered(alloc, stream, pace, context.ending)?;
     let mut ids = SharedIds {
         rt,
         ids: &context.ids,
@@ -101,9 +118,13 @@ pub fn serve_connection<B: Naming, I: Ids, S: Service, T: Wait>(
     requires same { B.history ≡ S.history }
 {
     if let Some(mut seat) = context.seats.pop(rt, context.board) {
-        context.begin_reading(rt, &stream);
+        if let Some(ending) = context.ending {
+            ending.begin(rt, stream.as_raw_fd());
+        }
         let ended = serve_stream(&*rt, alloc, &*context, hooks, service, &mut seat, &stream);
-        context.end_reading(rt, &stream);
+        if let Some(ending) = context.ending {
+            ending.end(rt, stream.as_raw_fd());
+        }
         context.seats.put_back(rt, seat);
         if matches!(ended, Ok(Ended::Closed)) {
             let _ = close(&stream);
