@@ -1,13 +1,13 @@
 -- The count of the only seat is what was accepted.
-use Rattle.std.proofs.Common.{◌≡◌, ℕ, ◌++◌, ◌∷◌, [], List, sum, sym, ap, ◌∙◌, subst, arith}
+use Rattle.std.proofs.Common.{◌≡◌, ℕ, ◌∷◌, [], List, sum, sym, ap, ◌∙◌, subst, arith}
 use Rattle.up_dispatch.specs.Keeps.{ClosureAnswers}
 use Rattle.up_dispatch.specs.declared.conversation.Ended.{Ended}
 use Rattle.up_queue.specs.EndViews.{QueueId}
 use Rattle.up_server.specs.Seats.{IsServedFrom}
 use Rattle.up_wire.specs.Device.{Device}
 
-pub only_seat : (seats none : List ℕ) (count : ℕ) → none ≡ [] → seats ≡ none ++ count ∷ [] → sum seats ≡ count
-only_seat seats none count p q = ap sum (q ∙ ap (λ l. l ++ count ∷ []) p) ∙ omega arith
+pub only_seat : (seats : List ℕ) (count : ℕ) → seats ≡ count ∷ [] → sum seats ≡ count
+only_seat seats count p = ap sum p ∙ omega arith
 
 pub served_so : (queue : ℕ → QueueId) (gives : ClosureAnswers) (lanes own_lanes size own_size first last none count : ℕ) (i j k l : Device) (ended : Ended)
     → lanes ≡ own_lanes → size ≡ own_size → first ≡ none → last ≡ count

@@ -32,7 +32,7 @@ pub fn lanes_over<H: PostHook + Drop>(
 {
     let mut lanes = Vec::with_capacity(alloc, takes.len())?;
     for (take_end, hook) in takes.into_iter().zip(hooks) {
-        lanes.push(Lane::new(lanes.len() as u64, take_end, hook))?;
+        lanes.push_reserved(Lane::new(lanes.len() as u64, take_end, hook));
     }
     Ok(lanes)
 }
@@ -70,7 +70,7 @@ pub fn start_each<
     let mut running = Vec::with_capacity(alloc, lanes.len())?;
     for lane in lanes {
         let promise = OfLane(Snapshot::of(&lane));
-        running.push(scope.spawn_with(promise, move || runner.run(rt, lane))?)?;
+        running.push_reserved(scope.spawn_with(promise, move || runner.run(rt, lane))?);
     }
     Ok(running)
 }

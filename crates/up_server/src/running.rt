@@ -155,8 +155,7 @@ pub fn run<
     let Hooks { pre, post } = hooks;
     let (board, lanes) = boards::open::<B, _>(alloc, parts, post, settings)?;
     let Driven { ended, seat, lanes } = drive(rt, alloc, &board, lanes, &pre, source, sink)?;
-    let mut seats = Vec::with_capacity(alloc, 1)?;
-    seats.push(seat)?;
+    let seats = vec![in alloc; seat]?;
     let report = boards::finish(alloc, board, seats, lanes)?;
     Ok(Served { report, ended })
 }

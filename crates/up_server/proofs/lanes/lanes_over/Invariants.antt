@@ -1,4 +1,4 @@
-use Rattle.std.proofs.Common.{◌≡◌, ◌+◌, vec_len, drop, [], false, slice_index_or}
+use Rattle.std.proofs.Common.{◌≡◌, ◌+◌, ◌≤◌, vec_len, vec_capacity, drop, [], false, slice_index_or}
 use Rattle.std.specs.Iterator.Adapters.{zip_first, zip_second}
 use Rattle.std.specs.Vec.Iter.{into_iter_items, into_iter_len}
 use Rattle.up_dispatch.specs.Lists.{EachAt}
@@ -9,6 +9,7 @@ abbrev pub invariant-loop-take_end : goal.invariant-loop-take_end
 invariant-loop-take_end g l =
     let done = vec_len l.lanes in
     record {
+      room : vec_len l.fn.takes ≤ vec_capacity l.lanes;
       takes : done + into_iter_len (zip_first l.take_end-iterator) ≡ vec_len l.fn.takes;
       hooks : done + into_iter_len (zip_second l.take_end-iterator) ≡ vec_len l.fn.hooks;
       takes_are : into_iter_items (zip_first l.take_end-iterator) ≡ drop done l.fn.takes.items;

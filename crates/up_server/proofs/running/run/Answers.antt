@@ -7,7 +7,7 @@ pub returns-clause-run : goal.returns-clause-run
 returns-clause-run g c =
     let report = c.in_ok-report.report in
     let said = c.in_ok-report.ensures in
-    let count = only_seat _ _ _ c.in_ok-seats.ensures.items c.in_ok-push.ensures.items in
+    let count = only_seat _ _ c.in_ok-seats.ensures.items in
     record {
       converses = served_so _ _ _ _ _ _ _ _ _ _ _ _ _ _ _ c.requires.lanes c.requires.sized refl (sym count ∙ sym said.counts) c.in_ok-ended.ensures.served;
       report = subst (λ n. IsReportOf g.H.PostHook.handed n report) (c.in_ok-ended.ensures.count ∙ c.in_ok-board.ensures.count) said.report;
