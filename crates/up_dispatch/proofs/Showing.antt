@@ -8,9 +8,6 @@ use Rattle.up_queue.specs.EndViews.{QueueId, PutEndView}
 use Rattle.up_dispatch.specs.declared.queue_cursor.QueueCursor.{QueueCursor}
 use Rattle.up_dispatch.specs.Lists.{EachAt}
 use Rattle.up_dispatch.specs.QueuedUpTo.{IsQueuedUpTo}
-use Rattle.up_dispatch.specs.Reports.{IsRefusedFor}
-use Rattle.up_dispatch.specs.declared.finish.FinishFault.{FinishFault}
-use Rattle.up_dispatch.specs.declared.finish.FinishFault.TheVariants as finish
 use Rattle.up_dispatch.specs.BoardView.{board_view, IsPrefixOfLog, IsLawfulBoard, IsLawfulBoardView}
 
 at_map : {X Y : Type 0} (f : X → Y) (xs : List X) (k : ℕ) (e : Y) → k < length xs → (x : X) × (get_or (map f xs) k e ≡ f x) × ((d : X) → get_or xs k d ≡ x)
