@@ -1,4 +1,4 @@
-use Rattle.std.proofs.Common.{Ok, inr, sym, subst, ◌∙◌}
+use Rattle.std.proofs.Common.{Ok, inr, sym, subst, ◌∙◌, rules}
 use Rattle.up_hooks.specs.MayAnswer.{ClosuresMayAnswer}
 use Rattle.up_machine.specs.declared.plan.Plan.{Plan}
 use Rattle.up_dispatch.specs.Keeps.{AreAskedInTurn, IsAsked}
@@ -10,3 +10,6 @@ returns-else-is_refusal g c =
     let asked : AreAskedInTurn gives c.in-AskBoth.first c.in-AskBoth.second c.ask-else-is_refusal.result =
     inr (c.ask-asked.result, c.ask-asked.ensures.closures, sym c.is_refusal.ensures ∙ c.if-is_refusal.false, c.ask-else-is_refusal.ensures.closures) in
     subst (λ (p : Plan). IsAsked gives (Ok p) c.ask-else-is_refusal.result) (sym c.in-AskBoth.is) asked
+
+pub returns-in-Ask : goal.returns-in-Ask
+returns-in-Ask g c = search rules
