@@ -25,7 +25,7 @@ use up_events::Event;
 use up_handed::continue_each;
 use up_history::Chronicle;
 use up_hooks::{Outcome, PostHook, PreHooks, Teller, new_recorders, new_tellers};
-use up_server::{Connections, EventLines, Hooks, ServerFault, Shown, keep_serving, replay, serve};
+use up_server::{Connections, EventLines, Hooks, ServerFault, Shown, keep_serving, replay};
 use up_store::{EndedUploads, Folder, Histories, Keeping, LogFile, Shortening, StoreNotices};
 use up_tie::Site;
 use up_wire::{Output, Sink};
@@ -62,6 +62,13 @@ struct Beside<'a, R> {
     notices: NoticeLines<'a, R>,
     watch: Option<Watch>,
     ending: Option<Ending>,
+}
+
+/// Where connections arrive, and the closures that are asked about their uploads.
+#[derive(Drop)]
+struct Arrivals {
+    listener: TcpListener,
+    hooks: PreHooks,
 }
 
 /// Which connections are served, and how, if the words ask for some.
@@ -120,23 +127,36 @@ pub fn run_with<
         Some(files) => files.settings,
         None => words.settings,
     };
+    let ending = ending_of(rt.alloc(), words)?;
     let beside = Beside {
         words,
         settings,
         notices: NoticeLines::new(rt),
         watch: watch_of(words),
-        ending: ending_of(rt.alloc(), words)?,
+        ending,
     };
-    match (listener.take(), files.take()) {
-        (Some(listener), Some(files)) => { run_stored(rt, &beside, listener, hooks, answer, files) }
-        (Some(listener), None) if is_counted(words) => {
-            run_counted(rt, &beside, listener, hooks, answer)
-        }
-        (listener, _) => run_over(rt, &beside, listener, hooks, answer),
+    let Some(listener) = listener.take() else {
+        return run_input(rt, &beside, hooks, answer);
+    };
+    let arrivals = Arrivals { listener, hooks };
+    match files.take() {
+        Some(files) => run_stored(rt, &beside, arrivals, answer, files),
+        None if is_counted(words) => run_counted(rt, &beside, arrivals, answer),
+        None => run_recorded(rt, &beside, arrivals, answer),
     }
 }
 
-/// Serves what the listener accepts, with these closures and post-hooks. Keeps no events, and reports counts.
+/// Where the report is written, and where the ids of new uploads come from.
+fn sink_and_ids<R: Print + AllocGlobal + RandomSource>(
+    rt: &R,
+    shard: Option<u8>,
+) -> Result<(Output<BufWriter<io::Printer<'_, R>>>, RandomIds), Fault> {
+    let sink = Output::new(BufWriter::new(rt.alloc(), io::writer(rt))?);
+    let ids = RandomIds::new(rt, shard)?;
+    Ok((sink, ids))
+}
+
+/// Serves what the listener accepts, with these post-hooks, and writes the report.
 fn run_on<
     H: Shown + Drop,
     N: Notices,
@@ -146,14 +166,14 @@ fn run_on<
     rt: &R,
     beside: &Beside<'_, R>,
     visits: &Visits<'_, N, S>,
-    listener: TcpListener,
-    hooks: PreHooks,
+    arrivals: Arrivals,
     post_hooks: Vec<H>,
 ) -> Result<(), Fault>
     requires one_for_each { length post_hooks.items ≡ beside.now.settings.lanes }
     requires new { All (λ h. H.is_sound h × (H.handed h ≡ [])) post_hooks.items }
 {
-    let mut sink = Output::new(BufWriter::new(rt.alloc(), io::writer(rt))?);
+    let (mut sink, ids) = sink_and_ids(rt, beside.words.shard())?;
+    let Arrivals { listener, hooks } = arrivals;
     let hooks = Hooks {
         pre: hooks,
         post: post_hooks,
@@ -161,30 +181,20 @@ fn run_on<
     let connections = Connections {
         listener,
         visits,
-        ids: RandomIds::new(rt, beside.words.shard())?,
+        ids,
     };
-    keep_serving(
-        rt,
-        rt.alloc(),
-        hooks,
-        &beside.settings,
-        connections,
-        &mut sink,
-    )?;
-    Ok(())
+    let alloc = rt.alloc();
+    match keep_serving(rt, alloc, hooks, &beside.settings, connections, &mut sink) {
+        Ok(()) => Ok(()),
+        Err(fault) => Err(Fault::Server(fault)),
+    }
 }
 
 /// Serves what the listener accepts, with uploads in memory alone. The post-hooks return what `answer` does.
 fn run_counted<
     F: Fn(&Event) -> Outcome + Send + Copy + Drop,
     R: Print + Eprint + AllocGlobal + Clock + RandomSource + Threads + Wait + Sync,
->(
-    rt: &R,
-    beside: &Beside<'_, R>,
-    listener: TcpListener,
-    hooks: PreHooks,
-    answer: F,
-) -> Result<(), Fault>
+>(rt: &R, beside: &Beside<'_, R>, arrivals: Arrivals, answer: F) -> Result<(), Fault>
     requires callable { F.IsAlwaysCallable answer }
     requires codes { AnswersWithCodes F.Fn answer }
 {
@@ -192,7 +202,25 @@ fn run_counted<
         return Ok(());
     };
     match new_tellers(rt.alloc(), beside.settings.lanes, answer) {
-        Ok(tellers) => run_on(rt, beside, &visits, listener, hooks, tellers),
+        Ok(tellers) => run_on(rt, beside, &visits, arrivals, tellers),
+        Err(_) => Err(Fault::Server(ServerFault::Memory)),
+    }
+}
+
+/// Serves what the listener accepts, with uploads in memory alone. Keeps the events, and reports them. The post-hooks
+/// return what `answer` does.
+fn run_recorded<
+    F: Fn(&Event) -> Outcome + Send + Copy + Drop,
+    R: Print + Eprint + AllocGlobal + Clock + RandomSource + Threads + Wait + Sync,
+>(rt: &R, beside: &Beside<'_, R>, arrivals: Arrivals, answer: F) -> Result<(), Fault>
+    requires callable { F.IsAlwaysCallable answer }
+    requires codes { AnswersWithCodes F.Fn answer }
+{
+    let Some(visits) = visits_of(beside, &AtOnce) else {
+        return Ok(());
+    };
+    match new_recorders(rt.alloc(), beside.settings.lanes, answer) {
+        Ok(recorders) => run_on(rt, beside, &visits, arrivals, recorders),
         Err(_) => Err(Fault::Server(ServerFault::Memory)),
     }
 }
@@ -210,8 +238,7 @@ fn run_kept<
 >(
     rt: &R,
     beside: &'x Beside<'x, R>,
-    listener: TcpListener,
-    hooks: PreHooks,
+    arrivals: Arrivals,
     post_hooks: Vec<H>,
     keeping: &'x Keeping<D, N, F, J, K>,
 ) -> Result<(), Fault>
@@ -231,14 +258,15 @@ fn run_kept<
             if scope.spawn(move || keeping.tend(rt, rt.alloc())).is_err() {
                 return Err(Fault::Server(ServerFault::Memory));
             }
-            let ended = run_on(rt, beside, &visits, listener, hooks, post_hooks);
+            let ended = run_on(rt, beside, &visits, arrivals, post_hooks);
             keeping.stop_tending();
             ended
         },
     )
 }
 
-/// Serves what the listener accepts, over the files of a store, once its histories have names.
+/// Serves what the listener accepts, over the files of a store, once its histories have names. The log of the changes
+/// began at the path `log`.
 fn run_named<
     J: Site + Send,
     K: Chronicle + Send,
@@ -247,10 +275,10 @@ fn run_named<
 >(
     rt: &R,
     beside: &Beside<'_, R>,
-    listener: TcpListener,
-    hooks: PreHooks,
+    arrivals: Arrivals,
     tellers: Vec<Teller<F>>,
     files: StoreFiles<'_>,
+    log: String,
     histories: Histories,
 ) -> Result<(), Fault>
     requires written { histories.written ≡ J.history }
@@ -271,8 +299,7 @@ fn run_named<
         counts,
         spare,
     } = files;
-    let host = folder.rt;
-    let lines = StoreLines::new(host, folder.path_of("log")?, spare);
+    let lines = StoreLines::new(folder.rt, log, spare);
     let ended = EndedUploads::new(rt.alloc());
     let shortening = Shortening::new(current, ended, folder, settings.lanes, LEAST_LOG);
     let keeping: Keeping<_, _, _, J, K> = Keeping::new(
@@ -284,12 +311,14 @@ fn run_named<
         shortening,
     )?;
     let notes = EndedNotes::new(rt, keeping.ended());
-    let post_hooks = continue_each(rt.alloc(), tellers, counts, notes)?;
-    run_kept(rt, beside, listener, hooks, post_hooks, &keeping)?;
-    if lines.is_unread() {
-        return Err(Fault::AlreadyReported);
+    let served = match continue_each(rt.alloc(), tellers, counts, notes) {
+        Ok(post_hooks) => run_kept(rt, beside, arrivals, post_hooks, &keeping),
+        Err(_) => Err(Fault::Server(ServerFault::Memory)),
+    };
+    match served {
+        Ok(()) if lines.is_unread() => Err(Fault::AlreadyReported),
+        served => served,
     }
-    Ok(())
 }
 
 /// Serves what the listener accepts, over the files of a store. The post-hooks return what `answer` does.
@@ -299,8 +328,7 @@ fn run_stored<
 >(
     rt: &R,
     beside: &Beside<'_, R>,
-    listener: TcpListener,
-    hooks: PreHooks,
+    arrivals: Arrivals,
     answer: F,
     files: StoreFiles<'_>,
 ) -> Result<(), Fault>
@@ -308,51 +336,36 @@ fn run_stored<
     requires callable { F.IsAlwaysCallable answer }
     requires codes { AnswersWithCodes F.Fn answer }
 {
+    let log = files.folder.path_of("log")?;
     let histories = Histories::new();
     match new_tellers(rt.alloc(), beside.settings.lanes, answer) {
         Ok(tellers) => run_named::<Brand, Brand, _, _>(
-            rt, beside, listener, hooks, tellers, files, histories,
+            rt, beside, arrivals, tellers, files, log, histories,
         ),
         Err(_) => Err(Fault::Server(ServerFault::Memory)),
     }
 }
 
-/// Serves what the listener accepts, or else standard input, with these closures. The post-hooks return what `answer`
-/// does.
-fn run_over<
+/// Serves standard input as one conversation, with these closures. The post-hooks return what `answer` does.
+fn run_input<
     F: Fn(&Event) -> Outcome + Send + Copy + Drop,
-    R: Input + Print + Eprint + AllocGlobal + Clock + RandomSource + Threads + Wait + Sync,
->(
-    rt: &R,
-    beside: &Beside<'_, R>,
-    listener: Option<TcpListener>,
-    hooks: PreHooks,
-    answer: F,
-) -> Result<(), Fault>
+    R: Input + Print + AllocGlobal + Threads + Wait + Sync,
+>(rt: &R, beside: &Beside<'_, R>, hooks: PreHooks, answer: F) -> Result<(), Fault>
     requires callable { F.IsAlwaysCallable answer }
     requires codes { AnswersWithCodes F.Fn answer }
 {
     let alloc = rt.alloc();
-    let settings = &beside.settings;
-    let Ok(recorders) = new_recorders(alloc, settings.lanes, answer) else {
+    let Ok(recorders) = new_recorders(alloc, beside.settings.lanes, answer) else {
         return Err(Fault::Server(ServerFault::Memory));
     };
+    let mut sink = Output::new(BufWriter::new(alloc, io::writer(rt))?);
+    let mut source = up_wire::Input::new(BufReader::new(alloc, rt.reader())?);
     let hooks = Hooks {
         pre: hooks,
         post: recorders,
     };
-    let mut sink = Output::new(BufWriter::new(alloc, io::writer(rt))?);
-    let visits = visits_of(beside, &AtOnce);
-    let (Some(listener), Some(visits)) = (listener, visits) else {
-        let mut source = up_wire::Input::new(BufReader::new(alloc, rt.reader())?);
-        replay(rt, alloc, hooks, settings, &mut source, &mut sink)?;
-        return Ok(());
-    };
-    let connections = Connections {
-        listener,
-        visits: &visits,
-        ids: RandomIds::new(rt, beside.words.shard())?,
-    };
-    serve(rt, alloc, hooks, settings, connections, &mut sink)?;
-    Ok(())
+    match replay(rt, alloc, hooks, &beside.settings, &mut source, &mut sink) {
+        Ok(()) => Ok(()),
+        Err(fault) => Err(Fault::Server(fault)),
+    }
 }

@@ -103,6 +103,28 @@ fn open_counts(
     Ok(counts)
 }
 
+/// The logs of a store.
+#[derive(Drop)]
+struct Logs {
+    current: Current<StoreFile>,
+    changes: LogReader<StoreFile>,
+    voids: LogReader<StoreFile>,
+}
+
+/// Opens the logs in this folder, and removes those that a switch to shorter ones has left.
+fn open_logs(folder: &StoreFolder<'_>) -> Result<Logs, Fault> {
+    let current = open_current(folder)?;
+    let generation = current.head.generation;
+    tidy_up(folder, generation);
+    let changes = open_log(folder, "log", generation)?;
+    let voids = open_log(folder, "void", generation)?;
+    Ok(Logs {
+        current,
+        changes,
+        voids,
+    })
+}
+
 /// Opens the files in this folder, which is made if it does not exist.
 fn open_store<'a>(folder: StoreFolder<'a>, settings: Settings) -> Result<StoreFiles<'a>, Fault> {
     if let Err(error) = folder.make_folder() {
@@ -111,14 +133,16 @@ fn open_store<'a>(folder: StoreFolder<'a>, settings: Settings) -> Result<StoreFi
             reason: Unopened::Folder(error),
         });
     }
-    let current = open_current(&folder)?;
-    let generation = current.head.generation;
-    tidy_up(&folder, generation);
-    let changes = open_log(&folder, "log", generation)?;
-    let voids = open_log(&folder, "void", generation)?;
-    let counts = open_counts(&folder, settings.lanes, current.head.left_out.as_slice())?;
     let spare = folder.path_of("spare")?;
+    let logs = open_logs(&folder)?;
+    let left_out = logs.current.head.left_out.as_slice();
+    let counts = open_counts(&folder, settings.lanes, left_out)?;
     keep_room(folder.rt, spare.as_str());
+    let Logs {
+        current,
+        changes,
+        voids,
+    } = logs;
     Ok(StoreFiles {
         folder,
         settings,
