@@ -61,7 +61,7 @@ def note_parts(events, kept, prefix, times):
             if now is None or not found or not path.startswith(kept) or not name.startswith(prefix):
                 continue
             part = name.removeprefix(prefix).removeprefix("proofs.").removesuffix(".decls")
-            times[part if process in used else "(reading)"] += now - used.get(process, 0)
+            times[part if process in used else "(start).reading"] += now - used.get(process, 0)
             used[process] = now
 
 
@@ -86,8 +86,8 @@ def main():
     functions, kinds = collections.Counter(), collections.defaultdict(collections.Counter)
     for part, seconds in times.items():
         function, _, kind = part.rpartition(".")
-        functions[function or part] += seconds
-        kinds[function or part][kind] += seconds
+        functions[function] += seconds
+        kinds[function][kind] += seconds
     print(f"{sum(times.values()):.0f} s of processor time")
     for function, seconds in functions.most_common(given.most):
         slowest = ", ".join(f"{kind} {time:.1f}" for kind, time in kinds[function].most_common(3))
