@@ -265,8 +265,8 @@ fn run_kept<
     )
 }
 
-/// Serves what the listener accepts, over the files of a store, once its histories have names. The log of the changes
-/// began at the path `log`.
+/// Serves what the listener accepts, over the files of a store, once its histories have names. `log` is the path of the
+/// first log of the changes.
 fn run_named<
     J: Site + Send,
     K: Chronicle + Send,

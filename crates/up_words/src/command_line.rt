@@ -202,7 +202,7 @@ fn arg_of<'a>(alloc: Global, word: Word<'a>) -> Arg<'a> {
     }
 }
 
-/// All words.
+/// All words. For the prover: the table is a value of its own here, apart from the command that is made of it.
 fn all_words() -> [Word<'static>; 18] {
     WORDS
 }
