@@ -64,7 +64,7 @@ struct Word<'a> {
 
 /// The words of `serve`: first those that say which connections are served and what is reported meanwhile, then those
 /// of every server.
-const WORDS: [Word<'static>; 18] = [
+static WORDS: [Word<'static>; 18] = [
     Word {
         name: "address",
         kind: Kind::Text("HOST:PORT"),
@@ -202,11 +202,6 @@ fn arg_of<'a>(alloc: Global, word: Word<'a>) -> Arg<'a> {
     }
 }
 
-/// All words. For the prover: the table is a value of its own here, apart from the command that is made of it.
-fn all_words() -> [Word<'static>; 18] {
-    WORDS
-}
-
 /// A subcommand with these words.
 fn subcommand<'a>(
     alloc: Global,
@@ -223,10 +218,9 @@ fn subcommand<'a>(
 
 /// The command with all words.
 fn command<'a>(alloc: Global) -> Result<Command<'a>, AllocError> {
-    let words = all_words();
     let subcommands: [(&str, &str, &[Word]); 2] = [
-        ("replay", REPLAY, &words[COMMON..]),
-        ("serve", SERVE, &words),
+        ("replay", REPLAY, &WORDS[COMMON..]),
+        ("serve", SERVE, &WORDS),
     ];
     let mut command = Command::new(alloc, "up")
         .about("An upload server for the tus resumable upload protocol 1.0.0")
