@@ -12,6 +12,5 @@ mod gates;
 mod replaying;
 #[cfg(test)]
 mod server;
+#[cfg(test)]
 mod serving;
-
-pub use serving::reported;
