@@ -4,6 +4,7 @@ ghost use Rattle.up_dispatch.specs.Parts.{IsNamed};
 
 use crate::fifteen::status_of;
 use crate::requests::{append, creation};
+use crate::same::expect_same;
 use std::alloc::Global;
 use std::marker::{Brand, Send};
 use std::process::Abort;
@@ -47,14 +48,15 @@ fn step_each<B: Naming + Send, H: PostHook + Drop, R: Wait + Abort>(
     let third = lane.step(rt);
     board.close(rt);
     let last = lane.step(rt);
-    assert_eq!(rt;
-        [first, second, third, last],
-        [
+    expect_same(
+        rt,
+        &[first, second, third, last],
+        &[
             StepEnd::Handed,
             StepEnd::Nothing,
             StepEnd::Handed,
             StepEnd::Ended,
-        ]
+        ],
     );
 }
 
@@ -76,11 +78,11 @@ fn stepped<B: Naming + Send, H: PostHook + Drop, R: Wait + Abort>(
     };
     let mut keeper = Seated::new(rt, &board, &mut seat);
     let status = status_of(alloc, &mut keeper, creation(alloc, Some(0)), Id::new(1));
-    assert_eq!(rt; status, 201);
+    expect_same(rt, &status, &201);
     for (take_end, hook) in takes.into_iter().zip(hooks) {
         step_each(rt, &board, Lane::new(0, take_end, hook));
     }
-    assert_eq!(rt; seat.count(), 1);
+    expect_same(rt, &seat.count(), &1);
     Ok(())
 }
 
@@ -116,9 +118,10 @@ fn says_that_it_is_closed<B: Naming, R: Wait + Abort>(
     let made = makes(rt, alloc, board, seat, 2, 3);
     let appended = planned(rt, alloc, board, seat, &append);
     let shown = planned(rt, alloc, board, seat, &Request::Head(Id::new(1)));
-    assert_eq!(rt;
-        (made, appended, shown),
-        (Some(Refusal::Closed), Err(Refusal::Closed), Ok(Some(200)))
+    expect_same(
+        rt,
+        &(made, appended, shown),
+        &(Some(Refusal::Closed), Err(Refusal::Closed), Ok(Some(200))),
     );
     Ok(())
 }
@@ -130,7 +133,7 @@ fn refuses<K: Keeper>(rt: &impl Abort, alloc: Global, keeper: &mut K) -> Result<
     let made = status_of(alloc, keeper, creation(alloc, Some(3)), Id::new(2));
     let appended = status_of(alloc, keeper, append, Id::new(0));
     let shown = status_of(alloc, keeper, Request::Head(Id::new(1)), Id::new(0));
-    assert_eq!(rt; [made, appended, shown], [503, 503, 200]);
+    expect_same(rt, &[made, appended, shown], &[503, 503, 200]);
     Ok(())
 }
 
@@ -151,16 +154,16 @@ fn closed<B: Naming, R: Wait + Abort>(rt: &R, alloc: Global, parts: BoardParts) 
     requires sized { B.max_size ≡ 3 }
 {
     let (board, takes) = Board::<B>::new(alloc, parts, 3)?;
-    assert_eq!(rt; takes.len(), 2);
+    expect_same(rt, &takes.len(), &2);
     let Some(mut seat) = board.seat(rt) else {
         return Err("a seat".into());
     };
-    assert_eq!(rt; makes(rt, alloc, &board, &mut seat, 1, 3), None);
+    expect_same(rt, &makes(rt, alloc, &board, &mut seat, 1, 3), &None);
     board.close(rt);
     says_that_it_is_closed(rt, alloc, &board, &mut seat)?;
     refuses(rt, alloc, &mut Seated::new(rt, &board, &mut seat))?;
-    assert_eq!(rt; seat.count(), 1);
-    assert_eq!(rt; seats_left(rt, &board), 65_535);
+    expect_same(rt, &seat.count(), &1);
+    expect_same(rt, &seats_left(rt, &board), &65_535);
     Ok(())
 }
 

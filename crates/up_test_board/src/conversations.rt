@@ -2,6 +2,7 @@
 ghost use Rattle.std.specs.Prelude.{◌≡◌, ◌<◌, ◌≤◌, length};
 ghost use Rattle.up_dispatch.specs.Parts.{IsNamed};
 
+use crate::same::expect_same;
 use std::alloc::Global;
 use std::marker::Brand;
 use std::process::Abort;
@@ -19,24 +20,24 @@ use up_wire::{Input, Output, Sink, Source};
 const MAX_SIZE: u64 = 1 << 20;
 
 /// A creation, and an append whose body breaks off.
-const CUT: &str =
+static CUT: &str =
     "POST /files/ HTTP/1.1\r\nHost: a\r\nTus-Resumable: 1.0.0\r\nUpload-Length: 10\r\n\r\n\
     PATCH /files/00000000000000000000000000000001 HTTP/1.1\r\nHost: a\r\nTus-Resumable: 1.0.0\r\n\
     Content-Type: application/offset+octet-stream\r\nUpload-Offset: 0\r\nContent-Length: 10\r\n\r\nabcd";
 
 /// Asks for the state of the upload.
-const HEAD: &str = "HEAD /files/00000000000000000000000000000001 HTTP/1.1\r\nHost: a\r\n\r\n";
+static HEAD: &str = "HEAD /files/00000000000000000000000000000001 HTTP/1.1\r\nHost: a\r\n\r\n";
 
 /// The response to the creation.
-const CREATED: &str = "HTTP/1.1 201 Created\r\nTus-Resumable: 1.0.0\r\nCache-Control: no-store\r\n\
+static CREATED: &str = "HTTP/1.1 201 Created\r\nTus-Resumable: 1.0.0\r\nCache-Control: no-store\r\n\
     Location: /files/00000000000000000000000000000001\r\nContent-Length: 0\r\n\r\n";
 
 /// The state of an upload with four of ten bytes.
-const FOUR: &str = "HTTP/1.1 200 OK\r\nTus-Resumable: 1.0.0\r\nCache-Control: no-store\r\n\
+static FOUR: &str = "HTTP/1.1 200 OK\r\nTus-Resumable: 1.0.0\r\nCache-Control: no-store\r\n\
     Upload-Offset: 4\r\nUpload-Length: 10\r\n\r\n";
 
 /// Two creations, a removal of the upload with the id 5, and another creation.
-const CREATIONS: &str =
+static CREATIONS: &str =
     "POST /files/ HTTP/1.1\r\nHost: a\r\nTus-Resumable: 1.0.0\r\nUpload-Length: 1\r\n\r\n\
     POST /files/ HTTP/1.1\r\nHost: a\r\nTus-Resumable: 1.0.0\r\nUpload-Length: 1\r\n\r\n\
     DELETE /files/00000000000000000000000000000005 HTTP/1.1\r\nHost: a\r\nTus-Resumable: 1.0.0\r\n\r\n\
@@ -77,7 +78,7 @@ fn hold<K: Keeper, I: Ids, R: Abort>(
 ) -> Result<(), Fail> {
     let hooks = PreHooks::new(Vec::new(alloc));
     let (ended, written) = talk(alloc, keeper, &hooks, ids, asked.as_bytes());
-    assert_eq!(rt; (ended, str::from_utf8(&written)?), wanted);
+    expect_same(rt, &(ended, str::from_utf8(&written)?), &wanted);
     Ok(())
 }
 
@@ -131,7 +132,7 @@ fn talk_from_two_seats<B: Naming, R: Wait + Abort>(
         HEAD,
         (Ended::Closed, FOUR),
     )?;
-    assert_eq!(rt; (first.count(), second.count()), (2, 0));
+    expect_same(rt, &(first.count(), second.count()), &(2, 0));
     Ok(())
 }
 
@@ -194,5 +195,5 @@ fn never_gives_an_id_again(rt: HostRuntime) -> Result<(), Fail> {
 fn counts_from_one(rt: HostRuntime) {
     let mut ids = Counting::new();
     let given = [ids.next_id(), ids.next_id(), ids.next_id()];
-    assert_eq!(rt; given, [Id::new(1), Id::new(2), Id::new(3)]);
+    expect_same(&rt, &given, &[Id::new(1), Id::new(2), Id::new(3)]);
 }

@@ -7,6 +7,7 @@ ghost use Rattle.up_headers.specs.Table.{FitsWithin};
 
 use crate::beside::{finished, open_board, run_each};
 use crate::requests::{append, creation};
+use crate::same::expect_same;
 use std::alloc::Global;
 use std::marker::{Brand, Send, Sync};
 use std::process::Abort;
@@ -31,12 +32,12 @@ fn fifteen<K: Keeper, R: Abort>(rt: &R, alloc: Global, keeper: &mut K) -> Result
     for number in 1..6u8 {
         let id = Id::new(u128::from(number));
         let request = creation(alloc, Some(2));
-        assert_eq!(rt; status_of(alloc, keeper, request, id), 201);
+        expect_same(rt, &status_of(alloc, keeper, request, id), &201);
     }
     for offset in 0..2u64 {
         for number in 1..6u8 {
             let request = append(alloc, Id::new(u128::from(number)), offset, b"a")?;
-            assert_eq!(rt; status_of(alloc, keeper, request, Id::new(0)), 204);
+            expect_same(rt, &status_of(alloc, keeper, request, Id::new(0)), &204);
         }
     }
     Ok(())
@@ -159,12 +160,13 @@ fn crowded<B: Naming + Send + Sync, H: PostHook + Drop, R: Threads + Wait + Abor
 /// Checks that a lane is drained, and that its post-hook was handed these events and returned `Done` for each.
 fn hold_lane<F, R: Abort>(rt: &R, lane: &LaneReport<Recorder<F>>, number: u64, events: &[Event]) {
     let list = lane.hook.list();
-    assert_eq!(rt;
-        (lane.lane, lane.how, lane.left, list.len()),
-        (number, How::Drained, 0, events.len())
+    expect_same(
+        rt,
+        &(lane.lane, lane.how, lane.left, list.len()),
+        &(number, How::Drained, 0, events.len()),
     );
     for (pair, event) in list.iter().zip(events) {
-        assert_eq!(rt; *pair, (*event, Outcome::Done));
+        expect_same(rt, pair, &(*event, Outcome::Done));
     }
 }
 
@@ -173,7 +175,7 @@ fn hold<F, R: Abort>(rt: &R, report: &Report<Recorder<F>>) -> Result<(), Fail> {
     let (Some(accepted), [first, second]) = (report.accepted.list(), report.lanes.as_slice()) else {
         return Err("changes that are kept, and two lanes".into());
     };
-    assert_eq!(rt; accepted, changes().as_slice());
+    expect_same(rt, &accepted, &changes().as_slice());
     hold_lane(rt, first, 0, &events_of_lane_0());
     hold_lane(rt, second, 1, &events_of_lane_1());
     Ok(())

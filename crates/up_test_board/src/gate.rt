@@ -8,11 +8,11 @@ use std::thread;
 use up_machine::{Reason, Verdict};
 
 /// A request that creates an upload of one byte.
-pub const POST: &[u8] = b"POST /files/ HTTP/1.1\r\nHost: a\r\nTus-Resumable: 1.0.0\r\n\
+pub static POST: &[u8] = b"POST /files/ HTTP/1.1\r\nHost: a\r\nTus-Resumable: 1.0.0\r\n\
     Upload-Length: 1\r\nConnection: close\r\n\r\n";
 
 /// A request for an upload that does not exist.
-pub const HEAD: &[u8] = b"HEAD /files/00000000000000000000000000000009 HTTP/1.1\r\nHost: a\r\n\
+pub static HEAD: &[u8] = b"HEAD /files/00000000000000000000000000000009 HTTP/1.1\r\nHost: a\r\n\
     Tus-Resumable: 1.0.0\r\nConnection: close\r\n\r\n";
 
 /// Waits until the flag is set, and returns whether it was.

@@ -19,6 +19,8 @@ mod hooks;
 mod lanes;
 mod requests;
 #[cfg(test)]
+mod same;
+#[cfg(test)]
 mod streams;
 #[cfg(test)]
 mod together;

@@ -1,5 +1,6 @@
 //! Conversations whose streams break off or are interrupted at any place: the responses, how they end, and what is
 //! kept.
+use crate::same::expect_same;
 use std::alloc::Global;
 use std::io::{self, BufReader, Read};
 use std::process::Abort;
@@ -13,41 +14,41 @@ use up_wire::{Input, Slip, Source, Tape};
 const MAX_SIZE: u64 = 1 << 20;
 
 /// A creation of 75 bytes, and an append whose head ends after 249 bytes and whose body ends after 260.
-const INPUT: &str =
+static INPUT: &str =
     "POST /files/ HTTP/1.1\r\nHost: a\r\nTus-Resumable: 1.0.0\r\nUpload-Length: 11\r\n\r\n\
     PATCH /files/00000000000000000000000000000001 HTTP/1.1\r\nHost: a\r\nTus-Resumable: 1.0.0\r\n\
     Content-Type: application/offset+octet-stream\r\nUpload-Offset: 0\r\nContent-Length: 11\r\n\r\nhello world";
 
 /// The response to the creation, of 141 bytes.
-const CREATED: &str = "HTTP/1.1 201 Created\r\nTus-Resumable: 1.0.0\r\nCache-Control: no-store\r\n\
+static CREATED: &str = "HTTP/1.1 201 Created\r\nTus-Resumable: 1.0.0\r\nCache-Control: no-store\r\n\
     Location: /files/00000000000000000000000000000001\r\nContent-Length: 0\r\n\r\n";
 
 /// The response to the append, of 93 bytes.
-const REACHED: &str =
+static REACHED: &str =
     "HTTP/1.1 204 No Content\r\nTus-Resumable: 1.0.0\r\nCache-Control: no-store\r\n\
     Upload-Offset: 11\r\n\r\n";
 
 /// The response to bytes that are no head.
-const BAD_HEAD: &str =
+static BAD_HEAD: &str =
     "HTTP/1.1 400 Bad Request\r\nTus-Resumable: 1.0.0\r\nCache-Control: no-store\r\n\
     Content-Type: text/plain\r\nContent-Length: 10\r\nConnection: close\r\n\r\n1 BadHead\n";
 
 /// A creation, and an append in chunks with a trailer field.
-const IN_CHUNKS: &str =
+static IN_CHUNKS: &str =
     "POST /files/ HTTP/1.1\r\nHost: a\r\nTus-Resumable: 1.0.0\r\nUpload-Length: 11\r\n\r\n\
     PATCH /files/00000000000000000000000000000001 HTTP/1.1\r\nHost: a\r\nTus-Resumable: 1.0.0\r\n\
     Content-Type: application/offset+octet-stream\r\nUpload-Offset: 0\r\nTransfer-Encoding: chunked\r\n\r\n\
     4\r\nhell\r\n7\r\no world\r\n0\r\nX-T: 1\r\n\r\n";
 
 /// An append to an upload that does not exist, by a client that waits to continue.
-const WAITING: &str =
+static WAITING: &str =
     "PATCH /files/00000000000000000000000000000001 HTTP/1.1\r\nHost: a\r\nTus-Resumable: 1.0.0\r\n\
     Content-Type: application/offset+octet-stream\r\nUpload-Offset: 0\r\nContent-Length: 3\r\n\
     Expect: 100-continue\r\n\r\nabc";
 
 const CONTINUE: &str = "HTTP/1.1 100 Continue\r\n\r\n";
 
-const NOT_FOUND: &str =
+static NOT_FOUND: &str =
     "HTTP/1.1 404 Not Found\r\nTus-Resumable: 1.0.0\r\nCache-Control: no-store\r\n\
     Content-Type: text/plain\r\nContent-Length: 12\r\n\r\n21 NotFound\n";
 
@@ -90,7 +91,7 @@ fn hold<S: Source, R: Abort>(
     let left = serve(alloc, source, &mut sink)?;
     let text = format!(in alloc; "{first}{second}")?;
     let written = str::from_utf8(sink.bytes())?;
-    assert_eq!(rt; (left, written), (wanted, text.as_str()), "at {at}");
+    expect_same(rt, &(at, left, written), &(at, wanted, text.as_str()));
     Ok(())
 }
 
@@ -112,7 +113,7 @@ fn wanted_after(count: u64, fails: bool) -> Wanted<'static> {
 
 #[test]
 fn serves_what_came_before_any_break(rt: HostRuntime) -> Result<(), Fail> {
-    assert_eq!(rt; INPUT.len(), 260);
+    expect_same(&rt, &INPUT.len(), &260);
     for fails in [false, true] {
         for count in 0..261usize {
             let mut source = Tape::new(&INPUT.as_bytes()[..count], 0, fails);
@@ -134,7 +135,7 @@ fn serves_what_came_before_any_break(rt: HostRuntime) -> Result<(), Fail> {
 #[test]
 fn stops_at_any_write_that_fails(rt: HostRuntime) -> Result<(), Fail> {
     let replies = format!(in rt.alloc(); "{CREATED}{REACHED}")?;
-    assert_eq!(rt; (CREATED.len(), replies.len()), (141, 234));
+    expect_same(&rt, &(CREATED.len(), replies.len()), &(141, 234));
     for room in 0..235usize {
         let wanted = match room {
             0..=140 => (Ended::WriteFailed, 1, Some(0)),
@@ -144,10 +145,10 @@ fn stops_at_any_write_that_fails(rt: HostRuntime) -> Result<(), Fail> {
         let mut sink = Slip::new(rt.alloc(), room, 0)?;
         let mut source = Tape::new(INPUT.as_bytes(), 0, false);
         let left = serve(rt.alloc(), &mut source, &mut sink)?;
-        assert_eq!(rt;
-            (left, sink.bytes()),
-            (wanted, &replies.as_bytes()[..room]),
-            "with room for {room}"
+        expect_same(
+            &rt,
+            &(room, left, sink.bytes()),
+            &(room, wanted, &replies.as_bytes()[..room]),
         );
     }
     Ok(())

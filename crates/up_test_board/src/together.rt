@@ -4,6 +4,7 @@ ghost use Rattle.up_dispatch.specs.Parts.{IsNamed};
 
 use crate::beside::{finished, open_board, run_beside};
 use crate::requests;
+use crate::same::expect_same;
 use std::alloc::Global;
 use std::marker::{Brand, Send, Sync};
 use std::process::Abort;
@@ -69,10 +70,14 @@ fn change<B: Naming, R: Wait>(
 
 /// Every event of each upload was handed over: its creation, and then one more byte each time.
 fn tells_all<F, R: Abort>(rt: &R, report: &Report<Recorder<F>>) -> Result<(), Fail> {
-    assert_eq!(rt; report.accepted.len(), (UPLOADS + 2 * CHANGES) as u64);
+    expect_same(
+        rt,
+        &report.accepted.len(),
+        &((UPLOADS + 2 * CHANGES) as u64),
+    );
     let mut counts = [0u64; UPLOADS];
     for lane in &report.lanes {
-        assert_eq!(rt; (lane.how, lane.left), (How::Drained, 0));
+        expect_same(rt, &(lane.how, lane.left), &(How::Drained, 0));
         for (event, _outcome) in lane.hook.list() {
             let upload = event.id.lane(UPLOADS as u64) as usize;
             let before = counts[upload];
@@ -89,10 +94,10 @@ fn tells_all<F, R: Abort>(rt: &R, report: &Report<Recorder<F>>) -> Result<(), Fa
                 offset: before,
                 length: None,
             };
-            assert_eq!(rt; *event, wanted);
+            expect_same(rt, event, &wanted);
         }
     }
-    assert_eq!(rt; counts, [201; UPLOADS]);
+    expect_same(rt, &counts, &[201; UPLOADS]);
     Ok(())
 }
 
@@ -154,7 +159,7 @@ fn hold<R: Threads + Wait + Abort + Sync>(rt: &R, alloc: Global, keeps: bool) ->
     let done = |_: &Event| Outcome::Done;
     let hooks = (Recorder::new(alloc, done), Recorder::new(alloc, done));
     let report = changed_at_once::<Brand, _, _>(rt, alloc, parts, hooks, keeps)?;
-    assert_eq!(rt; report.accepted.list().is_some(), keeps);
+    expect_same(rt, &report.accepted.list().is_some(), &keeps);
     tells_all(rt, &report)
 }
 

@@ -7,6 +7,7 @@ ghost use Rattle.up_hooks.specs.Verdicts.{is_allowed_verdict};
 
 use crate::beside::{finished, open_board, run_beside};
 use crate::conversations::talk;
+use crate::same::expect_same;
 use std::alloc::{AllocError, Global};
 use std::marker::{Brand, Send, Sync};
 use std::process::Abort;
@@ -20,7 +21,7 @@ use up_machine::{Ask, Book, Point, Reason, Verdict};
 
 /// A conversation of a server without closures: creations, appends in one piece, in chunks and at a wrong offset, two
 /// parts and a final upload of them, reads, removals, requests that are refused, and an append that breaks off.
-const TALK: &str =
+static TALK: &str =
     "POST /files/ HTTP/1.1\r\nHost: a\r\nTus-Resumable: 1.0.0\r\nUpload-Length: 11\r\n\r\n\
     POST /files/ HTTP/1.1\r\nHost: a\r\nTus-Resumable: 1.0.0\r\nUpload-Length: 0\r\n\r\n\
     POST /files/ HTTP/1.1\r\nHost: a\r\nTus-Resumable: 1.0.0\r\nUpload-Length: 3\r\n\
@@ -66,7 +67,7 @@ const TALK: &str =
     Content-Length: 10\r\n\r\nabcd";
 
 /// The conversation of a server that requires a key and refuses removals.
-const RULED: &str =
+static RULED: &str =
     "POST /files/ HTTP/1.1\r\nHost: a\r\nTus-Resumable: 1.0.0\r\nUpload-Length: 5\r\n\r\n\
     POST /files/ HTTP/1.1\r\nHost: a\r\nTus-Resumable: 1.0.0\r\nUpload-Length: 5\r\n\
     Upload-Metadata: filename d29ybGQucGRm\r\n\r\n\
@@ -155,9 +156,13 @@ fn hold<R: Threads + Wait + Abort + Sync>(
     let by_book = talked(alloc, &mut book, hooks, asked.as_bytes());
     for keeps in [true, false] {
         let (by_board, accepted) = reported(rt, alloc, hooks, asked.as_bytes(), keeps)?;
-        assert_eq!(rt; by_board, by_book);
-        assert_eq!(rt; accepted.list(), keeps.then_some(book.journal().accepted()));
-        assert_eq!(rt; accepted.len(), count);
+        expect_same(rt, &by_board, &by_book);
+        expect_same(
+            rt,
+            &accepted.list(),
+            &keeps.then_some(book.journal().accepted()),
+        );
+        expect_same(rt, &accepted.len(), &count);
     }
     Ok(())
 }

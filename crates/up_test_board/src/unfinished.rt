@@ -6,6 +6,7 @@ use crate::beside::{finished, open_board, run_beside, run_each};
 use crate::board::{makes, seats_left};
 use crate::fifteen::status_of;
 use crate::requests::append;
+use crate::same::expect_same;
 use std::alloc::Global;
 use std::marker::{Brand, Send, Sync};
 use std::process::Abort;
@@ -88,7 +89,7 @@ fn refused<B: Naming, H: PostHook + Drop, R: Abort>(
     match board.finish(alloc, seats, ends) {
         Ok(_) => Err("a seat or a lane is out".into()),
         Err(unfinished) => {
-            assert_eq!(rt; unfinished.fault, fault);
+            expect_same(rt, &unfinished.fault, &fault);
             Ok(unfinished)
         }
     }
@@ -101,11 +102,15 @@ fn wakes<B: Naming, R: Wait + Abort>(
     watched: &Watched<B>,
     mut seat: Seat<B>,
 ) -> Result<Seat<B>, Fail> {
-    assert_eq!(rt; watched.settled(rt, (2, 0)), (2, 0));
+    expect_same(rt, &watched.settled(rt, (2, 0)), &(2, 0));
     let request = append(alloc, Id::new(1), 0, b"a")?;
     let mut keeper = Seated::new(rt, &watched.board, &mut seat);
-    assert_eq!(rt; status_of(alloc, &mut keeper, request, Id::new(0)), 204);
-    assert_eq!(rt; watched.settled(rt, (3, 1)), (3, 1));
+    expect_same(
+        rt,
+        &status_of(alloc, &mut keeper, request, Id::new(0)),
+        &204,
+    );
+    expect_same(rt, &watched.settled(rt, (3, 1)), &(3, 1));
     Ok(seat)
 }
 
@@ -127,7 +132,7 @@ fn came_back<B: Naming + Send + Sync, H: PostHook + Drop, R: Threads + Wait + Ab
     let Some(mut first) = board.seat(rt) else {
         return Err("a seat".into());
     };
-    assert_eq!(rt; makes(rt, alloc, &board, &mut first, 1, 1), None);
+    expect_same(rt, &makes(rt, alloc, &board, &mut first, 1, 1), &None);
     let none: Vec<LaneEnd<H>> = Vec::new(alloc);
     let Unfinished { board, .. } = refused(
         rt,
@@ -151,7 +156,7 @@ fn came_back<B: Naming + Send + Sync, H: PostHook + Drop, R: Threads + Wait + Ab
     );
     let (second, ends) = (second?, ends?);
     let Watched { board, .. } = watched;
-    assert_eq!(rt; seats_left(rt, &board), 65_534);
+    expect_same(rt, &seats_left(rt, &board), &65_534);
     let mut seats = Vec::new(alloc);
     seats.push(first)?;
     seats.push(second)?;
@@ -174,9 +179,9 @@ fn hold<F>(
     let [first, second] = report.lanes.as_slice() else {
         return Err("two lanes".into());
     };
-    assert_eq!(rt; report.accepted.len(), accepted);
-    assert_eq!(rt; told(first), (0, How::Drained, 0, handed[0]));
-    assert_eq!(rt; told(second), (1, How::Drained, 0, handed[1]));
+    expect_same(rt, &report.accepted.len(), &accepted);
+    expect_same(rt, &told(first), &(0, How::Drained, 0, handed[0]));
+    expect_same(rt, &told(second), &(1, How::Drained, 0, handed[1]));
     Ok(())
 }
 
@@ -206,7 +211,7 @@ fn two_lanes<B: Naming, H: PostHook + Drop, R: Abort>(
         return Err("two lanes".into());
     };
     let mut back = refused(rt, alloc, board, seats, ends, FinishFault::LanesOut)?;
-    assert_eq!(rt; (back.seats.len(), back.lanes.len()), (2, 1));
+    expect_same(rt, &(back.seats.len(), back.lanes.len()), &(2, 1));
     back.lanes.push(missing)?;
     finished(alloc, back.board, back.seats, back.lanes)
 }
@@ -224,7 +229,7 @@ fn two_seats<B: Naming, H: PostHook + Drop, R: Abort>(
     requires own { All (λ e. e.take_end.queue ≡ B.queue e.lane) ends.items }
 {
     let mut back = refused(rt, alloc, board, seats, ends, FinishFault::SeatsOut)?;
-    assert_eq!(rt; (back.seats.len(), back.lanes.len()), (1, 2));
+    expect_same(rt, &(back.seats.len(), back.lanes.len()), &(1, 2));
     back.seats.push(missing)?;
     two_lanes(rt, alloc, back.board, back.seats, back.lanes)
 }
@@ -246,8 +251,8 @@ fn each_missing<B: Naming + Send + Sync, H: PostHook + Drop, R: Threads + Wait +
     let (Some(mut first), Some(mut second)) = (board.seat(rt), board.seat(rt)) else {
         return Err("two seats".into());
     };
-    assert_eq!(rt; makes(rt, alloc, &board, &mut first, 1, 1), None);
-    assert_eq!(rt; makes(rt, alloc, &board, &mut second, 2, 1), None);
+    expect_same(rt, &makes(rt, alloc, &board, &mut first, 1, 1), &None);
+    expect_same(rt, &makes(rt, alloc, &board, &mut second, 2, 1), &None);
     board.close(rt);
     let ends = run_each(rt, &board, &board, lanes)?;
     let mut seats = Vec::new(alloc);

@@ -11,6 +11,8 @@ mod gates;
 #[cfg(test)]
 mod replaying;
 #[cfg(test)]
+mod same;
+#[cfg(test)]
 mod server;
 #[cfg(test)]
 mod serving;

@@ -5,6 +5,7 @@ mod full_writer;
 mod refusing;
 mod scarce;
 
+use crate::same::expect_same;
 use std::alloc::Global;
 use std::marker::Sync;
 use std::process::Abort;
@@ -25,7 +26,7 @@ fn hold(
     wanted: &str,
 ) -> Result<(), Fail> {
     let text = str::from_utf8(written)?;
-    assert_eq!(rt; (ended, text), (Ok(()), wanted));
+    expect_same(rt, &(ended, text), &(Ok(()), wanted));
     Ok(())
 }
 

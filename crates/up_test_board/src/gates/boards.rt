@@ -6,6 +6,7 @@ ghost use Rattle.up_hooks.specs.Verdicts.{is_allowed_verdict};
 
 use crate::conversations::talk;
 use crate::gate::{Gate, HEAD, POST};
+use crate::same::expect_same;
 use std::alloc::Global;
 use std::marker::{Brand, Send, Sync};
 use std::process::Abort;
@@ -63,7 +64,7 @@ fn talk_from_two_seats<B: Naming + Send + Sync, R: Threads + Wait + Abort + Sync
         || talk_from(rt, alloc, board, &mut first, hooks, POST),
         || talk_meanwhile(rt, alloc, board, second, hooks, gate),
     );
-    assert_eq!(rt; (was_called, ended), (true, Ended::Closed));
+    expect_same(rt, &(was_called, ended), &(true, Ended::Closed));
     assert!(rt; shown.starts_with(b"HTTP/1.1 404 "));
     assert!(rt; made.starts_with(b"HTTP/1.1 201 "));
     Ok(())

@@ -5,6 +5,7 @@ ghost use Rattle.up_dispatch.specs.Parts.{IsNamed};
 use crate::beside::{finished, open_board, run_beside};
 use crate::fifteen::{answered, events_of_lane_0};
 use crate::lanes::parts::Listing;
+use crate::same::expect_same;
 use std::alloc::{AllocError, Global};
 use std::marker::{Brand, Send, Sync};
 use std::process::Abort;
@@ -21,8 +22,8 @@ fn has_stopped(rt: &impl Abort, ends: &[LaneEnd<Listing>]) -> Result<(), Fail> {
     let Some(first) = ends.first() else {
         return Err("a lane".into());
     };
-    assert_eq!(rt; (first.lane, first.how), (0, How::Stopped));
-    assert_eq!(rt; first.hook.events.len(), 2);
+    expect_same(rt, &(first.lane, first.how), &(0, How::Stopped));
+    expect_same(rt, &first.hook.events.len(), &2);
     Ok(())
 }
 
@@ -115,12 +116,13 @@ fn hold(
     let [first, second] = report.lanes.as_slice() else {
         return Err("two lanes".into());
     };
-    assert_eq!(rt; report.accepted.len(), 15);
-    assert_eq!(rt; told(first), (0, how, left, count));
-    assert_eq!(rt; told(second), (1, How::Drained, 0, 12));
-    assert_eq!(rt;
-        Some(first.hook.events.as_slice()),
-        events_of_lane_0().get(..count)
+    expect_same(rt, &report.accepted.len(), &15);
+    expect_same(rt, &told(first), &(0, how, left, count));
+    expect_same(rt, &told(second), &(1, How::Drained, 0, 12));
+    expect_same(
+        rt,
+        &Some(first.hook.events.as_slice()),
+        &events_of_lane_0().get(..count),
     );
     Ok(())
 }

@@ -2,6 +2,7 @@
 ghost use Rattle.std.specs.Prelude.{IsTrue};
 ghost use Rattle.up_hooks.specs.Verdicts.{is_allowed_verdict};
 
+use crate::same::expect_same;
 use std::alloc::{AllocError, Global};
 use std::process::Abort;
 use std::sync::Arc;
@@ -85,7 +86,7 @@ fn hold_answer(
     wanted: Option<Refusal>,
 ) -> Result<(), Fail> {
     let asked = hooks.ask(&ask_of(alloc, point, 5));
-    assert_eq!(rt; asked, asked_of(point, wanted)?);
+    expect_same(rt, &asked, &asked_of(point, wanted)?);
     Ok(())
 }
 
@@ -113,7 +114,7 @@ fn hold(
     }
     hold_answer(rt, alloc, &PreHooks::new(hooks), point, wanted)?;
     for ((_, _, times), calls) in closures.iter().zip(&counters) {
-        assert_eq!(rt; calls.load(Ordering::SeqCst), *times);
+        expect_same(rt, &calls.load(Ordering::SeqCst), times);
     }
     Ok(())
 }

@@ -2,6 +2,7 @@
 ghost use Rattle.std.specs.Prelude.{IsTrue};
 ghost use Rattle.up_hooks.specs.Recorded.{has_code};
 
+use crate::same::expect_same;
 use std::alloc::Global;
 use std::sync::atomic::{AtomicU64, Ordering};
 use std::test::Fail;
@@ -59,8 +60,8 @@ fn goes_on_after_a_failure(rt: HostRuntime) -> Result<(), Fail> {
         (event(5, Hook::Terminate, 11), Outcome::Failed(1)),
     ];
     let handed = hand_all(rt.alloc(), &mut recorder, &wanted)?;
-    assert_eq!(rt; handed.as_slice(), wanted.as_slice());
-    assert_eq!(rt; recorder.list(), wanted.as_slice());
-    assert_eq!(rt; calls.load(Ordering::SeqCst), 5);
+    expect_same(&rt, &handed.as_slice(), &wanted.as_slice());
+    expect_same(&rt, &recorder.list(), &wanted.as_slice());
+    expect_same(&rt, &calls.load(Ordering::SeqCst), &5);
     Ok(())
 }

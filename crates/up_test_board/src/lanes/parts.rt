@@ -3,6 +3,7 @@ ghost use Rattle.std.specs.Prelude.{◌≡◌, ◌<◌, ◌≤◌, ◌+◌, ◌+
 ghost use Rattle.up_events.specs.Log.{IsLawful};
 ghost use Rattle.up_queue.specs.Line.{IsOrderly};
 
+use crate::same::expect_same;
 use std::alloc::{AllocError, Global};
 use std::process::Abort;
 use std::sync::Wait;
@@ -73,9 +74,10 @@ pub fn hold(
     uploads: u64,
 ) -> Result<(), Fail> {
     let wanted = wanted(alloc, uploads)?;
-    assert_eq!(rt;
-        (end.how, end.hook.events.as_slice()),
-        (how, wanted.as_slice())
+    expect_same(
+        rt,
+        &(end.how, end.hook.events.as_slice()),
+        &(how, wanted.as_slice()),
     );
     Ok(())
 }

@@ -3,6 +3,7 @@ ghost use Rattle.std.specs.Prelude.{◌≡◌, ◌≤◌, [], length, take};
 ghost use Rattle.up_queue.specs.Line.{IsOrderly};
 
 use super::parts::{fill, items, put_all};
+use crate::same::expect_same;
 use std::alloc::Global;
 use std::process::Abort;
 use std::sync::Wait;
@@ -16,14 +17,14 @@ fn assert_gives_back(rt: &(impl Wait + Abort), alloc: Global, capacity: usize) -
 {
     let items = items(alloc, 2)?;
     let (mut put_end, mut take_end) = lane_queue(alloc, capacity as u64)?;
-    assert_eq!(rt; take_end.take(rt), None);
+    expect_same(rt, &take_end.take(rt), &None);
     let mut place = 0;
     for taken in 0..4 {
         place = fill(rt, &mut put_end, &items, place);
-        assert_eq!(rt; place, items.len().min(taken + capacity));
-        assert_eq!(rt; take_end.take(rt), items.get(taken).copied());
+        expect_same(rt, &place, &items.len().min(taken + capacity));
+        expect_same(rt, &take_end.take(rt), &items.get(taken).copied());
     }
-    assert_eq!(rt; compare(put_end, take_end), u64::from(capacity > 1));
+    expect_same(rt, &compare(put_end, take_end), &u64::from(capacity > 1));
     Ok(())
 }
 
@@ -47,7 +48,7 @@ fn take_all<R: Wait>(rt: &R, mut end: TakeEnd, mut taken: Vec<Item>) -> (TakeEnd
 #[test]
 fn takes_what_there_is_room_for_and_gives_it_back(rt: HostRuntime) -> Result<(), Fail> {
     let none = lane_queue(rt.alloc(), 0).err();
-    assert_eq!(rt; none, Some(QueueFault::ZeroCapacity));
+    expect_same(&rt, &none, &Some(QueueFault::ZeroCapacity));
     for capacity in 1..4 {
         assert_gives_back(&rt, rt.alloc(), capacity)?;
     }
@@ -57,7 +58,7 @@ fn takes_what_there_is_room_for_and_gives_it_back(rt: HostRuntime) -> Result<(),
 #[test]
 fn a_hundred_thousand_items_between_two_threads(rt: HostRuntime) -> Result<(), Fail> {
     let items = items(rt.alloc(), 50_000)?;
-    assert_eq!(rt; items.len(), 100_001);
+    expect_same(&rt, &items.len(), &100_001);
     let all = items.as_slice();
     let (put_end, take_end) = lane_queue(rt.alloc(), 1)?;
     let room = Vec::new(rt.alloc());
@@ -72,6 +73,6 @@ fn a_hundred_thousand_items_between_two_threads(rt: HostRuntime) -> Result<(), F
         { take_all(&rt, take_end, room) },
     );
     assert!(rt; taken == items);
-    assert_eq!(rt; compare(put_end, take_end), 0);
+    expect_same(&rt, &compare(put_end, take_end), &0);
     Ok(())
 }

@@ -3,6 +3,7 @@ ghost use Rattle.std.specs.Prelude.{◌≡◌, ◌≤◌, [], length, take};
 ghost use Rattle.up_queue.specs.Line.{IsOrderly};
 
 use super::parts::{Listing, hold, items, put_all, put_at};
+use crate::same::expect_same;
 use std::marker::Model;
 use std::sync::atomic::{AtomicU64, Ordering};
 use std::sync::{Mutex, Wait};
@@ -116,7 +117,11 @@ fn refills_first_and_then_sleeps(rt: HostRuntime) -> Result<(), Fail> {
         let counted = Counted::new(supply, fills_by_refill);
         let end = Lane::new(7, take_end, Listing::new(rt.alloc(), 0, 0)).run(&rt, &counted);
         hold(&rt, rt.alloc(), &end, How::Drained, 4)?;
-        assert_eq!(rt; (end.lane, counted.counts()), (7, [9, wanted_waits, 0]));
+        expect_same(
+            &rt,
+            &(end.lane, counted.counts()),
+            &(7, [9, wanted_waits, 0]),
+        );
     }
     Ok(())
 }

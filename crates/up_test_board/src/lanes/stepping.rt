@@ -1,5 +1,6 @@
 //! Lanes that are stepped by hand.
 use super::parts::{Listing, fill, hold, items, put_at};
+use crate::same::expect_same;
 use std::alloc::Global;
 use std::process::Abort;
 use std::sync::Wait;
@@ -25,7 +26,7 @@ fn hands_over_in_order(rt: &(impl Wait + Abort), alloc: Global, capacity: u64) -
     let mut place = 0;
     for _ in 0..8 {
         place = fill(rt, &mut put_end, &items, place);
-        assert_eq!(rt; lane.step(rt), StepEnd::Handed);
+        expect_same(rt, &lane.step(rt), &StepEnd::Handed);
     }
     fill(rt, &mut put_end, &items, place);
     hold(rt, alloc, &lane.run(rt, &NoMore), How::Drained, 4)
@@ -51,9 +52,9 @@ fn finds_nothing_until_more_is_put(rt: HostRuntime) -> Result<(), Fail> {
             Item::Event(_) => StepEnd::Handed,
             Item::End => StepEnd::Ended,
         };
-        assert_eq!(rt; [before, lane.step(&rt)], [StepEnd::Nothing, wanted]);
+        expect_same(&rt, &[before, lane.step(&rt)], &[StepEnd::Nothing, wanted]);
     }
-    assert_eq!(rt; [lane.step(&rt), lane.step(&rt)], [StepEnd::Ended; 2]);
+    expect_same(&rt, &[lane.step(&rt), lane.step(&rt)], &[StepEnd::Ended; 2]);
     Ok(())
 }
 
@@ -66,7 +67,7 @@ fn refused_lane(
 ) -> Result<Lane<Listing>, Fail> {
     let items = items(alloc, 4)?;
     let (mut put_end, take_end) = lane_queue(alloc, 9)?;
-    assert_eq!(rt; fill(rt, &mut put_end, &items, 0), 9);
+    expect_same(rt, &fill(rt, &mut put_end, &items, 0), &9);
     Ok(Lane::new(0, take_end, Listing::new(alloc, 2, refusals)))
 }
 
@@ -77,8 +78,8 @@ fn stays_so(rt: &(impl Wait + Abort), mut lane: Lane<Listing>, how: How) {
     } else {
         StepEnd::NoMemory
     };
-    assert_eq!(rt; lane.step(rt), last);
-    assert_eq!(rt; lane.run(rt, &NoMore).how, how);
+    expect_same(rt, &lane.step(rt), &last);
+    expect_same(rt, &lane.run(rt, &NoMore).how, &how);
 }
 
 #[test]

@@ -3,6 +3,7 @@ ghost use Rattle.std.specs.Prelude.{◌≡◌, length};
 ghost use Rattle.up_dispatch.specs.Parts.{IsNamed};
 
 use crate::clients::{ask_each, hold_answer};
+use crate::same::expect_same;
 use std::alloc::Global;
 use std::cell::Cell;
 use std::marker::{Brand, Send, Sync};
@@ -16,7 +17,7 @@ use up_connections::{Entrance, Notices, Patience, Silent, Visits, serve_connecti
 use up_dispatch::{AtOnce, Board, BoardParts, Counting, Naming, Service};
 use up_hooks::PreHooks;
 
-const ASKED: &[u8] = b"POST /files/ HTTP/1.1\r\nHost: a\r\nTus-Resumable: 1.0.0\r\n\
+static ASKED: &[u8] = b"POST /files/ HTTP/1.1\r\nHost: a\r\nTus-Resumable: 1.0.0\r\n\
     Upload-Length: 5\r\nConnection: close\r\n\r\n";
 
 /// The state of letting connections in, as it was last reported.
@@ -81,7 +82,7 @@ fn hold_three<T: Threads + Wait + Abort + Sync>(
         notices: &Silent,
     };
     let made = counted(rt, alloc, listener, &visits)?;
-    assert_eq!(rt; made.as_slice(), [3u64].as_slice());
+    expect_same(rt, &made.as_slice(), &[3u64].as_slice());
     Ok(())
 }
 
@@ -106,7 +107,7 @@ fn serves_three_from_one_seat(rt: HostRuntime) -> Result<(), Fail> {
 fn ends_where_the_listener_is_gone(rt: HostRuntime) -> Result<(), Fail> {
     let listener = TcpListener::bind(&rt, "127.0.0.1:0")?;
     let status = libc::net::shutdown(listener.as_raw_fd(), libc::net::SHUT_RDWR);
-    assert_eq!(rt; status, 0);
+    expect_same(&rt, &status, &0);
     let last = Last(Cell::new(None));
     let visits = Visits {
         service: &AtOnce,
@@ -118,7 +119,7 @@ fn ends_where_the_listener_is_gone(rt: HostRuntime) -> Result<(), Fail> {
         notices: &last,
     };
     let made = counted(&rt, rt.alloc(), &listener, &visits)?;
-    assert_eq!(rt; made.as_slice(), [0u64].as_slice());
-    assert_eq!(rt; last.0.get(), Some(Entrance::Gone(libc::EINVAL)));
+    expect_same(&rt, &made.as_slice(), &[0u64].as_slice());
+    expect_same(&rt, &last.0.get(), &Some(Entrance::Gone(libc::EINVAL)));
     Ok(())
 }

@@ -1,4 +1,5 @@
 //! How many connections are open, as threads report it.
+use crate::same::expect_same;
 use std::test::Fail;
 use std::thread;
 use std::time::{Duration, Instant};
@@ -9,13 +10,17 @@ fn lets_the_third_in_once_one_has_left(rt: HostRuntime) -> Result<(), Fail> {
     let limit = ConnectionLimit::new();
     let shared_limit = &limit;
     let shared = &rt;
-    assert_eq!(rt; (limit.acquire(&rt, 2), limit.acquire(&rt, 2)), (1, 2));
+    expect_same(
+        &rt,
+        &(limit.acquire(&rt, 2), limit.acquire(&rt, 2)),
+        &(1, 2),
+    );
     let told = thread::scope(thread::scope_env(), &rt, |scope| -> Result<u64, Fail> {
         let third = scope.spawn(move || shared_limit.acquire(shared, 2))?;
         shared_limit.release(shared);
         Ok(third.join(shared))
     })?;
-    assert_eq!(rt; told, 2);
+    expect_same(&rt, &told, &2);
     Ok(())
 }
 
@@ -26,17 +31,25 @@ fn waits_in_want_until_another_has_left(rt: HostRuntime) -> Result<(), Fail> {
     let shared = &rt;
     let alone = limit.acquire(&rt, 9);
     limit.release_and_back_off(&rt, alone);
-    assert_eq!(rt; (limit.acquire(&rt, 9), limit.acquire(&rt, 9)), (1, 2));
+    expect_same(
+        &rt,
+        &(limit.acquire(&rt, 9), limit.acquire(&rt, 9)),
+        &(1, 2),
+    );
     limit.release(&rt);
     limit.release_and_back_off(&rt, 2);
-    assert_eq!(rt; (limit.acquire(&rt, 9), limit.acquire(&rt, 9)), (1, 2));
+    expect_same(
+        &rt,
+        &(limit.acquire(&rt, 9), limit.acquire(&rt, 9)),
+        &(1, 2),
+    );
     thread::scope(thread::scope_env(), &rt, |scope| -> Result<(), Fail> {
         let other = scope.spawn(move || shared_limit.release(shared))?;
         shared_limit.release_and_back_off(shared, 2);
         other.join(shared);
         Ok(())
     })?;
-    assert_eq!(rt; limit.acquire(&rt, 1), 1);
+    expect_same(&rt, &limit.acquire(&rt, 1), &1);
     Ok(())
 }
 
@@ -44,11 +57,15 @@ fn waits_in_want_until_another_has_left(rt: HostRuntime) -> Result<(), Fail> {
 #[test]
 fn waits_in_want_for_a_while(rt: HostRuntime) -> Result<(), Fail> {
     let limit = ConnectionLimit::new();
-    assert_eq!(rt; (limit.acquire(&rt, 9), limit.acquire(&rt, 9)), (1, 2));
+    expect_same(
+        &rt,
+        &(limit.acquire(&rt, 9), limit.acquire(&rt, 9)),
+        &(1, 2),
+    );
     let third = limit.acquire(&rt, 9);
     let start = Instant::now(&rt)?;
     limit.release_and_back_off(&rt, third);
     assert!(rt; start.elapsed(&rt)? < Duration::from_secs(10));
-    assert_eq!(rt; limit.acquire(&rt, 9), 3);
+    expect_same(&rt, &limit.acquire(&rt, 9), &3);
     Ok(())
 }

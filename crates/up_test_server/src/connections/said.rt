@@ -1,4 +1,5 @@
 //! When a line about letting connections in is written. Times are in milliseconds.
+use crate::same::expect_same;
 use up_connections::{Due, Entrance, Said, Want};
 
 const FILES: Entrance = Entrance::Wanting(Want::Descriptors(24));
@@ -70,7 +71,7 @@ fn says_what_is_new_a_second_apart(rt: HostRuntime) {
     ] {
         let mut said = Said::new();
         for (now, entrance, due) in times {
-            assert_eq!(rt; (now, said.note(*entrance, *now)), (now, *due));
+            expect_same(&rt, &(now, said.note(*entrance, *now)), &(now, *due));
         }
     }
 }

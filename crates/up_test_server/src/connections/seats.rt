@@ -2,6 +2,7 @@
 ghost use Rattle.std.specs.Prelude.{◌≡◌, length};
 ghost use Rattle.up_dispatch.specs.Parts.{IsNamed};
 
+use crate::same::expect_same;
 use std::alloc::Global;
 use std::marker::Brand;
 use std::process::Abort;
@@ -43,7 +44,7 @@ fn swap_two<B: Naming, R: Wait + Abort>(
     let (Some(again), Some(second)) = (seats.pop(rt, board), seats.pop(rt, board)) else {
         return Err("two seats".into());
     };
-    assert_eq!(rt; (again.count(), second.count()), (1, 0));
+    expect_same(rt, &(again.count(), second.count()), &(1, 0));
     seats.put_back(rt, second);
     seats.put_back(rt, again);
     Ok(())
@@ -67,7 +68,7 @@ fn taken_again<B: Naming, R: Wait + Abort>(
     for seat in seats.into_inner() {
         counts.push(seat.count())?;
     }
-    assert_eq!(rt; counts.as_slice(), [0u64, 1].as_slice());
+    expect_same(rt, &counts.as_slice(), &[0u64, 1].as_slice());
     Ok(())
 }
 

@@ -3,6 +3,7 @@ ghost use Rattle.std.specs.Prelude.{IsTrue};
 ghost use Rattle.up_hooks.specs.Verdicts.{is_allowed_verdict};
 
 use crate::clients::{ask, hold_answer};
+use crate::same::expect_same;
 use crate::serving::reported;
 use std::alloc::Global;
 use std::io::{Read, Write};
@@ -21,7 +22,7 @@ use up_test_board::{Gate, HEAD, POST};
 use up_words::Settings;
 
 /// The report about the one upload.
-const REPORT: &str = "\naccepted 1\nlane 0 drained 0\nlane 1 drained 1\n\
+static REPORT: &str = "\naccepted 1\nlane 0 drained 0\nlane 1 drained 1\n\
     00000000000000000000000000000001 1 post-create 0/1 done\n";
 
 /// Sends a request once the closure was called, and returns the response.
@@ -82,6 +83,6 @@ fn a_closure_waits_for_another_connection(rt: HostRuntime) -> Result<(), Fail> {
     let hooks = PreHooks::new(hooks);
     let (report, told) = served(&rt, rt.alloc(), hooks, listener, stream, &gate)?;
     assert!(rt; told.starts_with(b"HTTP/1.1 404 "));
-    assert_eq!(rt; str::from_utf8(&report)?, REPORT);
+    expect_same(&rt, &str::from_utf8(&report)?, &REPORT);
     hold_answer(&rt, rt.alloc(), &mut client, b"HTTP/1.1 201 ", b"")
 }

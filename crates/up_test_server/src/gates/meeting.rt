@@ -4,6 +4,7 @@ ghost use Rattle.up_hooks.specs.Recorded.{has_code};
 
 use crate::clients::{ask_each, hold_answer};
 use crate::replaying::replayed;
+use crate::same::expect_same;
 use crate::serving::reported;
 use std::alloc::Global;
 use std::marker::Sync;
@@ -22,18 +23,18 @@ use up_wire::Input;
 use up_words::Settings;
 
 /// Two uploads, the first of lane 1 and the second of lane 0.
-const ASKED: &[u8] = b"POST /files/ HTTP/1.1\r\nHost: a\r\nTus-Resumable: 1.0.0\r\n\
+static ASKED: &[u8] = b"POST /files/ HTTP/1.1\r\nHost: a\r\nTus-Resumable: 1.0.0\r\n\
     Upload-Length: 1\r\n\r\n\
     POST /files/ HTTP/1.1\r\nHost: a\r\nTus-Resumable: 1.0.0\r\nUpload-Length: 1\r\n\r\n";
 
 /// The responses to them.
-const ANSWERS: &str = "HTTP/1.1 201 Created\r\nTus-Resumable: 1.0.0\r\nCache-Control: no-store\r\n\
+static ANSWERS: &str = "HTTP/1.1 201 Created\r\nTus-Resumable: 1.0.0\r\nCache-Control: no-store\r\n\
     Location: /files/00000000000000000000000000000001\r\nContent-Length: 0\r\n\r\n\
     HTTP/1.1 201 Created\r\nTus-Resumable: 1.0.0\r\nCache-Control: no-store\r\n\
     Location: /files/00000000000000000000000000000002\r\nContent-Length: 0\r\n\r\n";
 
 /// The report after them.
-const REPORT: &str = "\naccepted 2\nlane 0 drained 1\n\
+static REPORT: &str = "\naccepted 2\nlane 0 drained 1\n\
     00000000000000000000000000000002 1 post-create 0/1 done\nlane 1 drained 1\n\
     00000000000000000000000000000001 1 post-create 0/1 done\n";
 
@@ -84,9 +85,9 @@ fn post_hooks_of_two_lanes_meet(rt: HostRuntime) -> Result<(), Fail> {
         ensures { IsTrue (has_code result) }
     { shared.answer(event) };
     let (ended, written) = replayed(&rt, rt.alloc(), answer, &mut Input::new(ASKED));
-    assert_eq!(rt; ended, Ok(()));
+    expect_same(&rt, &ended, &Ok(()));
     let text = str::from_utf8(&written)?;
-    assert_eq!(rt; text.strip_prefix(ANSWERS), Some(REPORT));
+    expect_same(&rt, &text.strip_prefix(ANSWERS), &Some(REPORT));
     Ok(())
 }
 
@@ -127,7 +128,7 @@ fn post_hooks_meet_by_two_connections(rt: HostRuntime) -> Result<(), Fail> {
     let listener = TcpListener::bind(&rt, "127.0.0.1:0")?;
     let mut clients = ask_each(&rt, listener.local_addr()?, &[POST, POST])?;
     let report = met(&rt, rt.alloc(), listener)?;
-    assert_eq!(rt; str::from_utf8(&report)?, REPORT);
+    expect_same(&rt, &str::from_utf8(&report)?, &REPORT);
     for client in &mut clients {
         hold_answer(&rt, rt.alloc(), client, b"HTTP/1.1 201 ", b"")?;
     }

@@ -1,5 +1,6 @@
 //! Lines of events, and writers that fail.
 use super::full_writer::FullWriter;
+use crate::same::expect_same;
 use std::test::Fail;
 use up_events::{Event, Hook, Id};
 use up_hooks::Outcome;
@@ -17,7 +18,7 @@ fn event(number: u64, hook: Hook, offset: u64, length: Option<u64>) -> Event {
 }
 
 /// The lines of three events.
-const LINES: &str = "000000000000000000000000000000ff 1 post-create 0/- done\n\
+static LINES: &str = "000000000000000000000000000000ff 1 post-create 0/- done\n\
     000000000000000000000000000000ff 2 post-receive 11/11 done\n\
     000000000000000000000000000000ff 3 post-finish 11/11 done\n";
 
@@ -38,9 +39,10 @@ fn writes_each_event_until_a_line_is_not_written(rt: HostRuntime) -> Result<(), 
             lines.tell(&rt, &event(3, Hook::Finish, 11, Some(11))),
         ];
         drop(lines);
-        assert_eq!(rt;
-            (told, taken.as_slice()),
-            (outcomes, &LINES.as_bytes()[..room])
+        expect_same(
+            &rt,
+            &(told, taken.as_slice()),
+            &(outcomes, &LINES.as_bytes()[..room]),
         );
     }
     Ok(())

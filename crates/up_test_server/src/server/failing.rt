@@ -1,6 +1,7 @@
 //! Reads and writes that fail in mid-stream.
 use super::run_with;
 use crate::replaying::replayed;
+use crate::same::expect_same;
 use std::alloc::{AllocError, Global};
 use std::marker::Sync;
 use std::process::Abort;
@@ -14,24 +15,24 @@ use up_wire::{Input, Slip, Source, Tape};
 use up_words::Settings;
 
 /// A creation of 75 bytes, and an append whose head ends after 249 bytes and whose body ends after 260.
-const ASKED: &str =
+static ASKED: &str =
     "POST /files/ HTTP/1.1\r\nHost: a\r\nTus-Resumable: 1.0.0\r\nUpload-Length: 11\r\n\r\n\
     PATCH /files/00000000000000000000000000000001 HTTP/1.1\r\nHost: a\r\nTus-Resumable: 1.0.0\r\n\
     Content-Type: application/offset+octet-stream\r\nUpload-Offset: 0\r\nContent-Length: 11\r\n\r\nhello world";
 
 /// The same with a body in chunks, and a trailer field.
-const IN_CHUNKS: &str =
+static IN_CHUNKS: &str =
     "POST /files/ HTTP/1.1\r\nHost: a\r\nTus-Resumable: 1.0.0\r\nUpload-Length: 11\r\n\r\n\
     PATCH /files/00000000000000000000000000000001 HTTP/1.1\r\nHost: a\r\nTus-Resumable: 1.0.0\r\n\
     Content-Type: application/offset+octet-stream\r\nUpload-Offset: 0\r\nTransfer-Encoding: chunked\r\n\r\n\
     4\r\nhell\r\n7\r\no world\r\n0\r\nX-T: 1\r\n\r\n";
 
 /// The response to the creation.
-const CREATED: &str = "HTTP/1.1 201 Created\r\nTus-Resumable: 1.0.0\r\nCache-Control: no-store\r\n\
+static CREATED: &str = "HTTP/1.1 201 Created\r\nTus-Resumable: 1.0.0\r\nCache-Control: no-store\r\n\
     Location: /files/00000000000000000000000000000001\r\nContent-Length: 0\r\n\r\n";
 
 /// The response to the append, and the report.
-const REACHED: &str =
+static REACHED: &str =
     "HTTP/1.1 204 No Content\r\nTus-Resumable: 1.0.0\r\nCache-Control: no-store\r\n\
     Upload-Offset: 11\r\n\r\n\
     \naccepted 2\nlane 0 drained 0\nlane 1 drained 3\n\
@@ -43,7 +44,7 @@ const REACHED: &str =
 const NOTHING: &str = "\naccepted 0\nlane 0 drained 0\nlane 1 drained 0\n";
 
 /// The report if only the creation was served.
-const MADE: &str = "\naccepted 1\nlane 0 drained 0\nlane 1 drained 1\n\
+static MADE: &str = "\naccepted 1\nlane 0 drained 0\nlane 1 drained 1\n\
     00000000000000000000000000000001 1 post-create 0/11 done\n";
 
 /// What is written if the reader fails after `count` bytes, fewer than 260.
@@ -76,11 +77,7 @@ fn hold_part(
     };
     let wanted = written_after(alloc, count)?;
     let text = str::from_utf8(&written)?;
-    assert_eq!(rt;
-        (ended, text),
-        (end, wanted.as_str()),
-        "after {count} bytes"
-    );
+    expect_same(rt, &(count, ended, text), &(count, end, wanted.as_str()));
     Ok(())
 }
 
@@ -107,7 +104,7 @@ fn hold_room<R: Source>(
         Some(part) if room < wanted.len() => (Err(ServerFault::Write), part),
         _ => (Ok(()), wanted),
     };
-    assert_eq!(rt; (ended, sink.bytes()), (end, part), "with room for {room}");
+    expect_same(rt, &(room, ended, sink.bytes()), &(room, end, part));
     Ok(())
 }
 

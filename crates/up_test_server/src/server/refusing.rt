@@ -5,6 +5,7 @@ ghost use Rattle.up_hooks.specs.Verdicts.{is_allowed_verdict};
 
 use super::{hold, run_with};
 use crate::replaying::replayed;
+use crate::same::expect_same;
 use std::alloc::Global;
 use std::marker::Sync;
 use std::process::Abort;
@@ -42,7 +43,7 @@ fn by_length(ask: &Ask) -> Verdict
 }
 
 /// Creations of uploads of one to seven bytes.
-const ONE_TO_SEVEN: &str =
+static ONE_TO_SEVEN: &str =
     "POST /files/ HTTP/1.1\r\nHost: a\r\nTus-Resumable: 1.0.0\r\nUpload-Length: 1\r\n\r\n\
     POST /files/ HTTP/1.1\r\nHost: a\r\nTus-Resumable: 1.0.0\r\nUpload-Length: 2\r\n\r\n\
     POST /files/ HTTP/1.1\r\nHost: a\r\nTus-Resumable: 1.0.0\r\nUpload-Length: 3\r\n\r\n\
@@ -52,7 +53,7 @@ const ONE_TO_SEVEN: &str =
     POST /files/ HTTP/1.1\r\nHost: a\r\nTus-Resumable: 1.0.0\r\nUpload-Length: 7\r\n\r\n";
 
 /// Their responses, and the report.
-const ALL_REFUSED: &str =
+static ALL_REFUSED: &str =
     "HTTP/1.1 400 Bad Request\r\nTus-Resumable: 1.0.0\r\nCache-Control: no-store\r\n\
     Content-Type: text/plain\r\nContent-Length: 2\r\n\r\n1\n\
     HTTP/1.1 403 Forbidden\r\nTus-Resumable: 1.0.0\r\nCache-Control: no-store\r\n\
@@ -116,7 +117,7 @@ fn counted(calls: &AtomicU64) -> Verdict
 }
 
 /// Requests that are refused before any closure is asked, then an upload that is created, filled, shown and removed.
-const REFUSED_AND_REMOVED: &str =
+static REFUSED_AND_REMOVED: &str =
     "POST /files/ HTTP/1.1\r\nHost: a\r\nTus-Resumable: 1.0.0\r\nUpload-Length: 1048577\r\n\r\n\
     POST /files/ HTTP/1.1\r\nHost: a\r\nTus-Resumable: 1.0.0\r\n\
     Upload-Concat: final;/files/00000000000000000000000000000009\r\n\r\n\
@@ -129,7 +130,7 @@ const REFUSED_AND_REMOVED: &str =
     DELETE /files/00000000000000000000000000000002 HTTP/1.1\r\nHost: a\r\nTus-Resumable: 1.0.0\r\n\r\n";
 
 /// Their responses, and the report.
-const ONE_REMOVED: &str =
+static ONE_REMOVED: &str =
     "HTTP/1.1 413 Payload Too Large\r\nTus-Resumable: 1.0.0\r\nCache-Control: no-store\r\n\
     Content-Type: text/plain\r\nContent-Length: 11\r\n\r\n15 TooLong\n\
     HTTP/1.1 400 Bad Request\r\nTus-Resumable: 1.0.0\r\nCache-Control: no-store\r\n\
@@ -170,12 +171,12 @@ fn asks_only_where_nothing_else_refuses(rt: HostRuntime) -> Result<(), Fail> {
         ONE_REMOVED,
     )?;
     let calls = [made.load(Ordering::SeqCst), removed.load(Ordering::SeqCst)];
-    assert_eq!(rt; calls, [1, 1]);
+    expect_same(&rt, &calls, &[1, 1]);
     Ok(())
 }
 
 /// Two uploads that become complete.
-const TWO: &str =
+static TWO: &str =
     "POST /files/ HTTP/1.1\r\nHost: a\r\nTus-Resumable: 1.0.0\r\nUpload-Length: 3\r\n\r\n\
     POST /files/ HTTP/1.1\r\nHost: a\r\nTus-Resumable: 1.0.0\r\nUpload-Length: 1\r\n\r\n\
     PATCH /files/00000000000000000000000000000001 HTTP/1.1\r\nHost: a\r\nTus-Resumable: 1.0.0\r\n\
@@ -186,7 +187,7 @@ const TWO: &str =
     Content-Type: application/offset+octet-stream\r\nUpload-Offset: 0\r\nContent-Length: 1\r\n\r\nd";
 
 /// Their responses, and a report in which the post-hook fails at each event but the first of each upload.
-const TWO_THAT_FAIL: &str =
+static TWO_THAT_FAIL: &str =
     "HTTP/1.1 201 Created\r\nTus-Resumable: 1.0.0\r\nCache-Control: no-store\r\n\
     Location: /files/00000000000000000000000000000001\r\nContent-Length: 0\r\n\r\n\
     HTTP/1.1 201 Created\r\nTus-Resumable: 1.0.0\r\nCache-Control: no-store\r\n\

@@ -2,6 +2,7 @@
 ghost use Rattle.std.specs.Prelude.{◌≡◌, ◌++◌, ◌∷◌, [], OnOk, true};
 
 use crate::clients::{ask_each, hold_answer};
+use crate::same::expect_same;
 use std::alloc::Global;
 use std::marker::Sync;
 use std::net::{Shutdown, TcpListener, TcpStream};
@@ -21,7 +22,7 @@ use up_server::{Connections, Hooks, serve_with};
 use up_words::Settings;
 
 /// A creation and an append, each of which closes its connection.
-const ASKED: [&[u8]; 2] = [
+static ASKED: [&[u8]; 2] = [
     b"POST /files/ HTTP/1.1\r\nHost: a\r\nTus-Resumable: 1.0.0\r\n\
         Upload-Length: 3\r\nConnection: close\r\n\r\n",
     b"PATCH /files/00000000000000000000000000000001 HTTP/1.0\r\nTus-Resumable: 1.0.0\r\n\
@@ -152,11 +153,12 @@ fn hold(
     let [lane] = report.lanes.as_slice() else {
         return Err("one lane".into());
     };
-    assert_eq!(rt;
-        (report.accepted.len(), lane.how, lane.left),
-        (2, how, left)
+    expect_same(
+        rt,
+        &(report.accepted.len(), lane.how, lane.left),
+        &(2, how, left),
     );
-    assert_eq!(rt; lane.hook.events.len(), count);
+    expect_same(rt, &lane.hook.events.len(), &count);
     for (place, event) in lane.hook.events.iter().enumerate() {
         let (hook, offset) = EVENTS[place.min(2)];
         let wanted = Event {
@@ -166,7 +168,7 @@ fn hold(
             offset,
             length: Some(3),
         };
-        assert_eq!(rt; *event, wanted);
+        expect_same(rt, event, &wanted);
     }
     Ok(())
 }
