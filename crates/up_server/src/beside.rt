@@ -4,6 +4,7 @@ ghost use Rattle.up_dispatch.specs.Lists.{EachAt};
 
 use crate::lanes::{end_all, start_each};
 use crate::runner::{LaneNotices, Runner};
+use crate::status::start_saying;
 use std::alloc::{AllocError, Global};
 use std::marker::{Send, Sync};
 use std::sync::Wait;
@@ -13,8 +14,9 @@ use up_dispatch::Naming;
 use up_hooks::PostHook;
 use up_lanes::{Lane, LaneEnd};
 
-/// Runs the lanes in threads of their own while the work is done, and then closes the board and waits for the lanes.
-/// The board is closed even if a lane can't be started, and then nothing is done.
+/// Runs the lanes in threads of their own while the work is done, and a thread that reports the state of the server, if
+/// somebody watches it. Then closes the board and waits for the lanes. The board is closed even if a lane can't be
+/// started, and then nothing is done.
 pub fn run_beside<
     'x,
     B: Naming + Send + Sync,
@@ -48,6 +50,7 @@ pub fn run_beside<
             ensures ends { IfOk result (λ r. EachAt (λ k e. H.is_sound e.hook
                 × (e.lane ≡ k) × (e.take_end.queue ≡ B.queue k)) r.1.items) }
         {
+            start_saying(scope, rt, runner)?;
             let running = match start_each(scope, rt, alloc, runner, lanes) {
                 Ok(running) => running,
                 Err(error) => {

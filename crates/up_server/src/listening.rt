@@ -14,13 +14,12 @@ use crate::run_outcome::report_outcome;
 use crate::runner::{OnStderr, Runner};
 use crate::server_fault::ServerFault;
 use crate::shown::Shown;
-use crate::status::{say, start_saying};
+use crate::status::say;
 use std::alloc::{AllocError, Global};
 use std::marker::{Brand, Send, Sync};
 use std::net::TcpListener;
 use std::sync::Wait;
-use std::thread;
-use std::thread::{Scope, Threads};
+use std::thread::Threads;
 use up_connections::{Notices, Visits, serve_connections};
 use up_dispatch::{Board, BoardParts, Ids, Naming, Report, Seat, Service};
 use up_events::{Event, NoMemory};
@@ -36,50 +35,6 @@ pub struct Connections<'a, I, N, S> {
     pub listener: TcpListener,
     pub visits: &'a Visits<'a, N, S>,
     pub ids: I,
-}
-
-/// Runs the lanes while connections are served, and a thread that writes the state of the server, if somebody watches
-/// it. Then closes the board and waits for the lanes.
-fn attend_in<
-    's,
-    E,
-    B: Naming + Send + Sync,
-    H: PostHook + Drop + 's,
-    I: Ids + Send + Drop,
-    N: Notices,
-    S: Service,
-    T: Threads + Wait + Eprint + Sync,
->(
-    scope: &Scope<'s, E>,
-    rt: &'s T,
-    alloc: Global,
-    runner: &'s Runner<'s, B, OnStderr<'s, T>>,
-    lanes: Vec<Lane<H>>,
-    hooks: &PreHooks,
-    connections: Connections<'s, I, N, S>,
-) -> Result<(Vec<Seat<B>>, Vec<LaneEnd<H>>), AllocError>
-    requires same { B.history ≡ S.history }
-    requires lanes { EachAt (λ k l. (l.lane ≡ k) × (l.queue ≡ B.queue k)) lanes.items }
-    ensures count { IfOk result (λ r. vec_len r.1 ≡ vec_len lanes) }
-    ensures ends { IfOk result (λ r. EachAt (λ k e. H.is_sound e.hook
-        × (e.lane ≡ k) × (e.take_end.queue ≡ B.queue k)) r.1.items) }
-{
-    let Connections {
-        listener,
-        visits,
-        ids,
-    } = connections;
-    start_saying(scope, rt, runner, visits.watch)?;
-    let (seats, ends) = run_beside(
-        rt,
-        alloc,
-        runner,
-        lanes,
-        || -> Result<Vec<Seat<B>>, AllocError>
-            requires same { B.history ≡ S.history }
-        { serve_connections(rt, alloc, runner.board, hooks, ids, &listener, visits) },
-    )?;
-    Ok((seats?, ends))
 }
 
 /// Runs the lanes in threads of their own while connections are served, and then closes the board. A lane whose
@@ -105,22 +60,25 @@ fn attend<
     ensures ends { IfOk result (λ r. EachAt (λ k e. H.is_sound e.hook
         × (e.lane ≡ k) × (e.take_end.queue ≡ B.queue k)) r.1.items) }
 {
-    let notices = &OnStderr::new(rt);
+    let Connections {
+        listener,
+        visits,
+        ids,
+    } = connections;
+    let notices = &OnStderr::new(rt, visits.watch);
     let runner = &Runner::lasting(board, notices);
-    let watch = connections.visits.watch;
-    let ended = thread::scope(
-        thread::scope_env(),
+    let ended = run_beside(
         rt,
-        move |scope| -> Result<(Vec<Seat<B>>, Vec<LaneEnd<H>>), AllocError>
+        alloc,
+        runner,
+        lanes,
+        || -> Result<Vec<Seat<B>>, AllocError>
             requires same { B.history ≡ S.history }
-            requires lanes { EachAt (λ k l. (l.lane ≡ k) × (l.queue ≡ B.queue k)) lanes.items }
-            ensures count { IfOk result (λ r. vec_len r.1 ≡ vec_len lanes) }
-            ensures ends { IfOk result (λ r. EachAt (λ k e. H.is_sound e.hook
-                × (e.lane ≡ k) × (e.take_end.queue ≡ B.queue k)) r.1.items) }
-        { attend_in(scope, rt, alloc, runner, lanes, hooks, connections) },
+        { serve_connections(rt, alloc, board, hooks, ids, &listener, visits) },
     );
-    say(rt, runner, watch);
-    ended
+    say(rt, board, notices);
+    let (seats, ends) = ended?;
+    Ok((seats?, ends))
 }
 
 /// Serves connections on a new board of these parts, ends its lanes and reports.
@@ -211,10 +169,7 @@ pub fn serve<
         × All (λ lane. ⟦<Recorder<F> as PostHook>⟧.is_sound lane.hook) report.lanes.items
         × IsRunOutcome report (W.device sink.old) (W.device sink.new) result) }
 {
-    match serve_with(rt, alloc, hooks, settings, connections) {
-        Ok(report) => report_outcome(sink, &report),
-        Err(_) => Err(ServerFault::Memory),
-    }
+    keep_serving(rt, alloc, hooks, settings, connections, sink)
 }
 
 /// The same, with any post-hooks that a report can show. With tellers no change and no event is kept after it was

@@ -1,11 +1,13 @@
 //! Running the lanes of a board. A lane can go on after its post-hook ran out of memory.
 ghost use Rattle.std.specs.Prelude.{◌≡◌};
 
+use crate::status::Status;
 use std::marker::{Send, Sync};
 use std::sync::Wait;
 use std::sync::atomic::{AtomicU64, Ordering};
 use std::time::Duration;
-use up_dispatch::{Board, Naming};
+use up_connections::Watch;
+use up_dispatch::{Board, Counts, Naming};
 use up_hooks::PostHook;
 use up_lanes::{Lane, LaneEnd, StepEnd};
 
@@ -19,40 +21,44 @@ const MAX_PAUSE: u64 = 10_000;
 /// How many times a lane is tried after the board was closed, with the first pause between two tries.
 const LAST_TRIES: u32 = 3;
 
-/// Who is told about lanes that wait for memory. For each lane, the two calls alternate: it waits, and it goes on.
+/// Who is told about lanes that wait for memory, and about the state of the server. For each lane, the two calls
+/// alternate: it waits, and it goes on.
 pub trait LaneNotices: Sync {
     /// The post-hook of this lane ran out of memory. The lane waits until there is some.
     fn waits(&self, lane: u64);
 
     /// The lane goes on.
     fn goes_on(&self, lane: u64);
+
+    /// How often the state of the server is reported, if it is.
+    fn watch(&self) -> Option<&Watch>;
+
+    /// The state of the server. These are the counts of its board.
+    fn state(&self, counts: Counts);
 }
 
 /// Prints a line on standard error. If that is closed, nobody is told.
 #[derive(Drop)]
 pub struct OnStderr<'a, R> {
     rt: &'a R,
+    watch: Option<&'a Watch>,
     /// The lanes that wait, as one bit per lane.
     stopped: AtomicU64,
 }
 
 /// The bit of a lane.
-fn bit(lane: u64) -> u64 {
+pub fn bit(lane: u64) -> u64 {
     1 << (lane % 64)
 }
 
 impl<'a, R> OnStderr<'a, R> {
     /// No lane waits.
-    pub fn new(rt: &'a R) -> Self {
+    pub fn new(rt: &'a R, watch: Option<&'a Watch>) -> Self {
         OnStderr {
             rt,
+            watch,
             stopped: AtomicU64::new(0),
         }
-    }
-
-    /// The lanes that wait, as one bit per lane.
-    pub fn stopped(&self) -> u64 {
-        self.stopped.load(Ordering::SeqCst)
     }
 }
 
@@ -66,6 +72,22 @@ impl<R: Eprint + Sync> LaneNotices for OnStderr<'_, R> {
         self.stopped.fetch_sub(bit(lane), Ordering::SeqCst);
         let _ = eprintln!(self.rt; "up_server: lane {lane} goes on");
     }
+
+    fn watch(&self) -> Option<&Watch> {
+        self.watch
+    }
+
+    fn state(&self, counts: Counts) {
+        let Some(watch) = self.watch else {
+            return;
+        };
+        let status = Status {
+            counts,
+            open: watch.open(),
+            stopped: self.stopped.load(Ordering::SeqCst),
+        };
+        let _ = eprintln!(self.rt; "up_server: {status}");
+    }
 }
 
 /// Nobody is told.
@@ -75,6 +97,12 @@ impl LaneNotices for Nobody {
     fn waits(&self, _lane: u64) {}
 
     fn goes_on(&self, _lane: u64) {}
+
+    fn watch(&self) -> Option<&Watch> {
+        None
+    }
+
+    fn state(&self, _counts: Counts) {}
 }
 
 /// Runs the lanes of a board, each in the thread that calls it.

@@ -1,20 +1,37 @@
 //! The lines on standard error about the state of a server.
-use crate::runner::{OnStderr, Runner};
+use crate::runner::{LaneNotices, Runner, bit};
 use std::alloc::AllocError;
 use std::fmt;
 use std::marker::{Send, Sync};
 use std::sync::Wait;
 use std::thread::{Scope, Threads};
 use up_connections::{Watch, milliseconds};
-use up_dispatch::{Counts, Naming};
+use up_dispatch::{Board, Counts, Naming};
 
 /// The state of a server: what is counted on its board, the number of open connections, and the lanes that wait for
 /// memory, a bit for each.
-#[derive(Clone, Copy, Debug)]
-struct Status {
-    counts: Counts,
-    open: u64,
-    stopped: u64,
+#[derive(Clone, Copy)]
+pub struct Status {
+    pub counts: Counts,
+    pub open: u64,
+    pub stopped: u64,
+}
+
+impl Status {
+    /// Writes how a lane is doing.
+    fn write_lane<W: fmt::Write>(
+        &self,
+        f: &mut fmt::Formatter<W>,
+        lane: u64,
+        waiting: u64,
+    ) -> fmt::Result {
+        let how = if self.stopped & bit(lane) == 0 {
+            "drains"
+        } else {
+            "stopped"
+        };
+        write!(f, ", lane {lane} {how} ({waiting} waiting)")
+    }
 }
 
 impl fmt::Display for Status {
@@ -23,48 +40,37 @@ impl fmt::Display for Status {
             uploads,
             bytes,
             changes,
-            ..
+            lanes,
+            waiting,
         } = self.counts;
-        write!(f, "uploads {uploads}, bytes {bytes}, changes {changes}")?;
-        write!(f, ", connections {}", self.open)?;
-        let mut stopped = self.stopped;
-        for (lane, waiting) in self.counts.waiting.iter().enumerate() {
-            if lane as u64 >= self.counts.lanes {
-                break;
-            }
-            let how = if stopped & 1 == 1 {
-                "stopped"
-            } else {
-                "drains"
-            };
-            write!(f, ", lane {lane} {how} ({waiting} waiting)")?;
-            stopped >>= 1;
+        let open = self.open;
+        write!(
+            f,
+            "uploads {uploads}, bytes {bytes}, changes {changes}, connections {open}"
+        )?;
+        for (lane, waiting) in (0..lanes).zip(&waiting) {
+            self.write_lane(f, lane, *waiting)?;
         }
         Ok(())
     }
 }
 
-/// Writes the state of the server to standard error, if somebody watches it.
-pub fn say<B: Naming + Send + Sync, T: Eprint + Wait + Sync>(
+/// Reports the state of the server, if somebody watches it.
+pub fn say<B: Naming + Send + Sync, N: LaneNotices, T: Wait>(
     rt: &T,
-    runner: &Runner<'_, B, OnStderr<'_, T>>,
-    watch: Option<&Watch>,
+    board: &Board<B>,
+    notices: &N,
 ) {
-    let Some(watch) = watch else {
-        return;
-    };
-    let status = Status {
-        counts: runner.board.counts(rt),
-        open: watch.open(),
-        stopped: runner.notices.map_or(0, |notices| notices.stopped()),
-    };
-    let _ = eprintln!(rt; "up_server: {status}");
+    if notices.watch().is_some() {
+        notices.state(board.counts(rt));
+    }
 }
 
-/// Writes it at the interval of `watch`, until the board is closed.
-fn say_each<B: Naming + Send + Sync, T: Eprint + Wait + Sync>(
+/// Reports it at the interval of `watch`, until the board is closed.
+fn say_each<B: Naming + Send + Sync, N: LaneNotices, T: Wait>(
     rt: &T,
-    runner: &Runner<'_, B, OnStderr<'_, T>>,
+    runner: &Runner<'_, B, N>,
+    notices: &N,
     watch: &Watch,
 ) {
     let pause = watch.seconds().saturating_mul(1000);
@@ -74,22 +80,24 @@ fn say_each<B: Naming + Send + Sync, T: Eprint + Wait + Sync>(
             break;
         }
         if milliseconds() >= due {
-            say(rt, runner, Some(watch));
+            say(rt, runner.board, notices);
             due = milliseconds().saturating_add(pause);
         }
     }
 }
 
-/// Starts a thread that writes it at the interval of `watch`, until the board is closed, if somebody watches the
-/// server. `AllocError` if the thread can't be started.
-pub fn start_saying<'s, E, B: Naming + Send + Sync, T: Threads + Eprint + Wait + Sync>(
+/// Starts a thread that reports it at the interval at which somebody watches the server, if somebody does, until the
+/// board is closed. `AllocError` if the thread can't be started.
+pub fn start_saying<'s, E, B: Naming + Send + Sync, N: LaneNotices, T: Threads + Wait + Sync>(
     scope: &Scope<'s, E>,
     rt: &'s T,
-    runner: &'s Runner<'s, B, OnStderr<'s, T>>,
-    watch: Option<&'s Watch>,
+    runner: &'s Runner<'s, B, N>,
 ) -> Result<(), AllocError> {
-    if let Some(watch) = watch {
-        scope.spawn(move || say_each(rt, runner, watch))?;
+    let Some(notices) = runner.notices else {
+        return Ok(());
+    };
+    if let Some(watch) = notices.watch() {
+        scope.spawn(move || say_each(rt, runner, notices, watch))?;
     }
     Ok(())
 }

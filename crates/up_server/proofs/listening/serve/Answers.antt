@@ -1,5 +1,4 @@
-use Rattle.std.proofs.Common.{inr}
 use Rattle.up_server.proofs.listening.serve.Goals as goal
 
-pub returns-in-Ok : goal.returns-in-Ok
-returns-in-Ok g c = inr (c.in-Ok.report, c.in-Ok.ensures.report, c.in-Ok.ensures.sound, c.report_outcome.ensures)
+pub returns : goal.returns
+returns g c = c.keep_serving.ensures
