@@ -25,7 +25,7 @@ fn is_stopped<H>(lane: &LaneReport<H>) -> bool
 fn any_stopped<H>(lanes: &[LaneReport<H>]) -> bool
     ensures { result ≡ any_stopped lanes.now }
 {
-    lanes.iter().any(|lane| is_stopped(lane))
+    lanes.iter().any(is_stopped)
 }
 
 /// Writes the report. `Write` if that fails, else `Stopped` if a lane stopped.
