@@ -93,7 +93,8 @@ fn run<
     rt: &T,
     alloc: Global,
     parts: BoardParts,
-    hooks: Hooks<H>,
+    pre_hooks: &PreHooks,
+    post_hooks: Vec<H>,
     settings: &Settings,
     connections: Connections<'_, I, N, S>,
 ) -> Result<Report<H>, NoMemory>
@@ -101,14 +102,13 @@ fn run<
     requires same { B.history ≡ S.history }
     requires lanes { settings.now.lanes ≡ B.lanes }
     requires sized { settings.now.max_size ≡ B.max_size }
-    requires one_for_each { vec_len hooks.post ≡ settings.now.lanes }
-    requires new { All (λ h. H.is_sound h × (H.handed h ≡ [])) hooks.post.items }
+    requires one_for_each { vec_len post_hooks ≡ settings.now.lanes }
+    requires new { All (λ h. H.is_sound h × (H.handed h ≡ [])) post_hooks.items }
     ensures report { IfOk result (λ r. IsReportOf H.handed settings.now.lanes r) }
     ensures sound { IfOk result (λ r. All (λ x. H.is_sound x.hook) r.lanes.items) }
 {
-    let Hooks { pre, post } = hooks;
-    let (board, lanes) = boards::open::<B, _>(alloc, parts, post, settings)?;
-    let (seats, ends) = attend(rt, alloc, &board, lanes, &pre, connections)?;
+    let (board, lanes) = boards::open::<B, _>(alloc, parts, post_hooks, settings)?;
+    let (seats, ends) = attend(rt, alloc, &board, lanes, pre_hooks, connections)?;
     boards::finish(alloc, board, seats, ends)
 }
 
@@ -141,7 +141,8 @@ pub fn serve_with<
     ensures sound { IfOk result (λ r. All (λ x. H.is_sound x.hook) r.lanes.items) }
 {
     let parts = BoardParts::new(alloc, settings.lanes, settings.capacity)?;
-    run::<Brand, _, _, _, _, _>(rt, alloc, parts, hooks, settings, connections)
+    let Hooks { pre, post } = hooks;
+    run::<Brand, _, _, _, _, _>(rt, alloc, parts, &pre, post, settings, connections)
 }
 
 /// Serves connections as `serve_with` does, with recorders, and writes the report to `sink`. Returns the first fault in
