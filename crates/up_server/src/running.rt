@@ -1,5 +1,5 @@
 //! One conversation on a new board, with each lane in a thread of its own.
-ghost use Rattle.std.specs.Prelude.{◌≡◌, IfOk, vec_len, [], length, All};
+ghost use Rattle.std.specs.Prelude.{◌≡◌, ◌∷◌, IfOk, vec_len, [], length, sum, All};
 ghost use Rattle.up_hooks.specs.MayAnswer.{ClosuresMayAnswer};
 ghost use Rattle.up_dispatch.specs.Lists.{EachAt};
 ghost use Rattle.up_dispatch.specs.Parts.{IsNamed};
@@ -10,7 +10,7 @@ use crate::beside::run_beside;
 use crate::boards;
 use crate::hooks::Hooks;
 use crate::runner::{Nobody, Runner};
-use std::alloc::Global;
+use std::alloc::{AllocError, Global};
 use std::marker::{Send, Sync};
 use std::sync::Wait;
 use std::thread::Threads;
@@ -23,11 +23,11 @@ use up_lanes::{Lane, LaneEnd};
 use up_wire::{Sink, Source};
 use up_words::Settings;
 
-/// How a conversation ended, the seat that it was served from, and how each lane ended.
+/// How a conversation ended, the only seat, from which it was served, and how each lane ended.
 #[derive(Drop)]
 struct Driven<B: Naming, H: PostHook> {
     ended: Ended,
-    seat: Seat<B>,
+    seats: Vec<Seat<B>>,
     lanes: Vec<LaneEnd<H>>,
 }
 
@@ -79,6 +79,15 @@ fn give_back<X>(_lent: &mut X)
     ensures { _lent.new ≡ _lent.old }
 {}
 
+/// A vector of one item. `AllocError` if memory runs out.
+fn only<X: Drop>(alloc: Global, item: X) -> Result<Vec<X>, AllocError>
+    ensures { IfOk result (λ v. v.items ≡ item ∷ []) }
+{
+    let mut items = Vec::with_capacity(alloc, 1)?;
+    items.push_reserved(item);
+    Ok(items)
+}
+
 /// Serves one conversation from a seat of the board while the lanes run in threads of their own, and then closes the
 /// board.
 fn drive<B: Naming + Send + Sync, H: PostHook + Drop, R: Source, W: Sink, T: Threads + Wait + Sync>(
@@ -95,7 +104,7 @@ fn drive<B: Naming + Send + Sync, H: PostHook + Drop, R: Source, W: Sink, T: Thr
     ensures ends { IfOk result (λ d. EachAt (λ k e. H.is_sound e.hook
         × (e.lane ≡ k) × (e.take_end.queue ≡ B.queue k)) d.lanes.items) }
     ensures served { IfOk result (λ d. IsServedFrom
-        B.queue B.lanes (ClosuresMayAnswer hooks.now) B.max_size 0 d.seat
+        B.queue B.lanes (ClosuresMayAnswer hooks.now) B.max_size 0 (sum d.seats.items)
         (R.device source.old) (R.device source.new)
         (W.device sink.old) (W.device sink.new) d.ended) }
 {
@@ -123,7 +132,12 @@ fn drive<B: Naming + Send + Sync, H: PostHook + Drop, R: Source, W: Sink, T: Thr
     )?;
     give_back(source);
     give_back(sink);
-    Ok(Driven { ended, seat, lanes })
+    let seats = only(alloc, seat)?;
+    Ok(Driven {
+        ended,
+        seats,
+        lanes,
+    })
 }
 
 /// Serves one conversation from the only seat of a new board of these parts, ends its lanes and reports.
@@ -154,8 +168,11 @@ pub fn run<
 {
     let Hooks { pre, post } = hooks;
     let (board, lanes) = boards::open::<B, _>(alloc, parts, post, settings)?;
-    let Driven { ended, seat, lanes } = drive(rt, alloc, &board, lanes, &pre, source, sink)?;
-    let seats = vec![in alloc; seat]?;
+    let Driven {
+        ended,
+        seats,
+        lanes,
+    } = drive(rt, alloc, &board, lanes, &pre, source, sink)?;
     let report = boards::finish(alloc, board, seats, lanes)?;
     Ok(Served { report, ended })
 }
