@@ -38,7 +38,8 @@ pub struct Connections<'a, I, N, S> {
 }
 
 /// Runs the lanes in threads of their own while connections are served, and then closes the board. A lane whose
-/// post-hook is refused memory waits for it. Returns the seats, and the ends of the lanes.
+/// post-hook is refused memory waits for it. Returns the seats, unless memory ran out for the connections, and the ends
+/// of the lanes.
 fn attend<
     B: Naming + Send + Sync,
     H: PostHook + Drop,
@@ -53,7 +54,7 @@ fn attend<
     lanes: Vec<Lane<H>>,
     hooks: &PreHooks,
     connections: Connections<'_, I, N, S>,
-) -> Result<(Vec<Seat<B>>, Vec<LaneEnd<H>>), AllocError>
+) -> Result<(Result<Vec<Seat<B>>, AllocError>, Vec<LaneEnd<H>>), AllocError>
     requires same { B.history ≡ S.history }
     requires lanes { EachAt (λ k l. (l.lane ≡ k) × (l.queue ≡ B.queue k)) lanes.items }
     ensures count { IfOk result (λ r. vec_len r.1 ≡ vec_len lanes) }
@@ -77,8 +78,7 @@ fn attend<
         { serve_connections(rt, alloc, board, hooks, ids, &listener, visits) },
     );
     say(rt, board, notices);
-    let (seats, ends) = ended?;
-    Ok((seats?, ends))
+    ended
 }
 
 /// Serves connections on a new board of these parts, ends its lanes and reports.
@@ -109,7 +109,7 @@ fn run<
 {
     let (board, lanes) = boards::open::<B, _>(alloc, parts, post_hooks, settings)?;
     let (seats, ends) = attend(rt, alloc, &board, lanes, pre_hooks, connections)?;
-    boards::finish(alloc, board, seats, ends)
+    boards::finish(alloc, board, seats?, ends)
 }
 
 /// Serves each connection that the listener accepts as a conversation of its own, in a thread of its own, on a new

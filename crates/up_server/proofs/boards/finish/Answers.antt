@@ -3,6 +3,9 @@ use Rattle.up_dispatch.proofs.Drops.{there}
 use Rattle.up_dispatch.specs.Reports.{HandOver, TellEachUpload}
 use Rattle.up_server.proofs.boards.finish.Goals as goal
 
+pub returns-in-Ok-clause-counts : goal.returns-in-Ok-clause-counts
+returns-in-Ok-clause-counts g c = c.in-Ok.ensures.counts
+
 pub returns-in-Ok-clause-report : goal.returns-in-Ok-clause-report
 returns-in-Ok-clause-report g c =
     let report = c.in-Ok.report in

@@ -1,4 +1,5 @@
 use Rattle.std.proofs.Common.{[], ap, ◌∙◌, arith}
+use Rattle.std.proofs.lemmas.Grind.{common_steps}
 use Rattle.up_lanes.specs.LaneViews.{LaneView}
 use Rattle.up_queue.specs.EndViews.{TakeEndView, no_queue}
 use Rattle.up_server.proofs.boards.open.Goals as goal
@@ -12,3 +13,9 @@ returns-clause-lanes g c = λ k d within.
 
 pub lanes_over-requires-clause-taken : goal.lanes_over-requires-clause-taken
 lanes_over-requires-clause-taken g c κs within = λ k d inside. (c.in_ok-board.ensures.ends.1 k d inside).0
+
+pub lanes_over-requires-clause-one_each : goal.lanes_over-requires-clause-one_each
+lanes_over-requires-clause-one_each g c κs within = grind (arith, common_steps)
+
+pub returns-clause-count : goal.returns-clause-count
+returns-clause-count g c = grind (arith, common_steps)

@@ -1,4 +1,5 @@
-use Rattle.std.proofs.Common.{inr, rules, slice_index_or}
+use Rattle.std.proofs.Common.{inr, rules, arith, slice_index_or}
+use Rattle.std.proofs.lemmas.Grind.{common_steps}
 use Rattle.up_queue.specs.EndViews.{no_queue}
 use Rattle.up_server.proofs.serving.replay.Goals as goal
 
@@ -17,3 +18,6 @@ returns g c =
 
 pub run-requires-clause-lanes : goal.run-requires-clause-lanes
 run-requires-clause-lanes g c κs within = search rules
+
+pub run-requires-clause-one_for_each : goal.run-requires-clause-one_for_each
+run-requires-clause-one_for_each g c κs within = grind (arith, common_steps)
