@@ -4,7 +4,6 @@ ghost use Rattle.up_dispatch.specs.Lists.{EachAt};
 
 use crate::lanes::{end_all, start_each};
 use crate::runner::{LaneNotices, Runner};
-use crate::status::start_saying;
 use std::alloc::{AllocError, Global};
 use std::marker::{Send, Sync};
 use std::sync::Wait;
@@ -50,7 +49,6 @@ pub fn run_beside<
             ensures ends { IfOk result (λ r. EachAt (λ k e. H.is_sound e.hook
                 × (e.lane ≡ k) × (e.take_end.queue ≡ B.queue k)) r.1.items) }
         {
-            start_saying(scope, rt, runner)?;
             let running = match start_each(scope, rt, alloc, runner, lanes) {
                 Ok(running) => running,
                 Err(error) => {

@@ -4,6 +4,7 @@ ghost use Rattle.up_lanes.specs.LaneViews.{lane_view};
 ghost use Rattle.up_dispatch.specs.Lists.{EachAt};
 
 use crate::runner::{LaneNotices, Runner};
+use crate::status::start_saying;
 use std::alloc::{AllocError, Global};
 use std::marker::{Send, Sync};
 use std::snapshot::Snapshot;
@@ -46,8 +47,8 @@ impl<H: PostHook> Promise<LaneEnd<H>> for OfLane<H> {
         × (e.take_end.queue ≡ p.0.value.queue) };
 }
 
-/// Starts a thread for each lane. `AllocError` if one can't be started. The lanes that were started then run until the
-/// board is closed.
+/// Starts a thread for each lane, and one that reports the state of the server, if somebody watches it. `AllocError` if
+/// one can't be started. Those that were started then run until the board is closed.
 pub fn start_each<
     's,
     E,
@@ -67,6 +68,7 @@ pub fn start_each<
     ensures lanes { IfOk result (λ v. EachAt (λ k h. (h.promise.0.value.lane ≡ k)
         × (h.promise.0.value.queue ≡ B.queue k)) v.items) }
 {
+    start_saying(scope, rt, runner)?;
     let mut running = Vec::with_capacity(alloc, lanes.len())?;
     for lane in lanes {
         let promise = OfLane(Snapshot::of(&lane));

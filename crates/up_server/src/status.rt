@@ -18,6 +18,21 @@ pub struct Status {
 }
 
 impl Status {
+    /// Writes what is counted.
+    fn write_counts<W: fmt::Write>(&self, f: &mut fmt::Formatter<W>) -> fmt::Result {
+        let Counts {
+            uploads,
+            bytes,
+            changes,
+            ..
+        } = self.counts;
+        let open = self.open;
+        write!(
+            f,
+            "uploads {uploads}, bytes {bytes}, changes {changes}, connections {open}"
+        )
+    }
+
     /// Writes how a lane is doing.
     fn write_lane<W: fmt::Write>(
         &self,
@@ -36,19 +51,8 @@ impl Status {
 
 impl fmt::Display for Status {
     fn fmt<W: fmt::Write>(&self, f: &mut fmt::Formatter<W>) -> fmt::Result {
-        let Counts {
-            uploads,
-            bytes,
-            changes,
-            lanes,
-            waiting,
-        } = self.counts;
-        let open = self.open;
-        write!(
-            f,
-            "uploads {uploads}, bytes {bytes}, changes {changes}, connections {open}"
-        )?;
-        for (lane, waiting) in (0..lanes).zip(&waiting) {
+        self.write_counts(f)?;
+        for (lane, waiting) in (0..self.counts.lanes).zip(&self.counts.waiting) {
             self.write_lane(f, lane, *waiting)?;
         }
         Ok(())

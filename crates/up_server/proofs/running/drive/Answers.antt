@@ -1,4 +1,4 @@
-use Rattle.std.proofs.Common.{ℕ, sum, rules, sym, subst}
+use Rattle.std.proofs.Common.{sum, rules, sym, subst}
 use Rattle.up_hooks.specs.MayAnswer.{ClosuresMayAnswer}
 use Rattle.up_server.specs.Seats.{IsServedFrom}
 use Rattle.up_server.proofs.Seating.{come_back, only_seat}
