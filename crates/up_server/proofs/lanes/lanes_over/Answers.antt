@@ -1,5 +1,4 @@
 use Rattle.std.proofs.Common.{◌≡◌, suc, ◌+◌, ℕ, [], false, drop, get_or, length, vec_len, rules, arith, sym, ap, ◌∙◌}
-use Rattle.std.proofs.lemmas.Grind.{common_steps}
 use Rattle.std.specs.Iterator.Adapters.{zip_first, zip_second}
 use Rattle.std.specs.Vec.Iter.{into_iter_items}
 use Rattle.up_dispatch.proofs.Drops.{at_drop}
@@ -34,18 +33,6 @@ loop-take_end-preserved g c =
           let hook_is : c.in-Some.hook ≡ get_or hooks (length lanes) h = sym (at_hook.1 h) ∙ ap (λ n. get_or hooks n h) (sym count) in
           c.new.ensures ∙ (λ i. lane_view (number i) (is i).queue [] false (hook_is i))));
     }
-
-pub loop-take_end-init : goal.loop-take_end-init
-loop-take_end-init g c = grind (arith, common_steps)
-
-pub push_reserved-requires : goal.push_reserved-requires
-push_reserved-requires g c = grind (arith, common_steps)
-
-pub loop-take_end-smaller : goal.loop-take_end-smaller
-loop-take_end-smaller g c = grind (arith, common_steps)
-
-pub returns-clause-count : goal.returns-clause-count
-returns-clause-count g c = grind (arith, common_steps)
 
 pub returns-clause-lanes : goal.returns-clause-lanes
 returns-clause-lanes g c = c.loop-take_end.invariant.lanes

@@ -1,5 +1,4 @@
 use Rattle.std.proofs.Common.{◌≡◌, suc, ◌+◌, ℕ, drop, get_or, length, vec_len, rules, arith, sym, ap, ◌∙◌}
-use Rattle.std.proofs.lemmas.Grind.{common_steps}
 use Rattle.std.specs.Vec.Iter.{into_iter_items}
 use Rattle.std.specs.declared.thread.PromisedHandle.{PromisedHandle}
 use Rattle.up_lanes.specs.declared.lane_end.LaneEnd.{LaneEnd}
@@ -33,18 +32,6 @@ loop-lane-preserved g c =
         ap (λ l. l.queue) promised ∙ ap (λ l. l.queue) (sym is) ∙ given.1 ∙ ap g.B.Naming.queue (sym count),
       ));
     }
-
-pub loop-lane-init : goal.loop-lane-init
-loop-lane-init g c = grind (arith, common_steps)
-
-pub push_reserved-requires : goal.push_reserved-requires
-push_reserved-requires g c = grind (arith, common_steps)
-
-pub loop-lane-smaller : goal.loop-lane-smaller
-loop-lane-smaller g c = grind (arith, common_steps)
-
-pub returns-clause-count : goal.returns-clause-count
-returns-clause-count g c = grind (arith, common_steps)
 
 pub returns-clause-lanes : goal.returns-clause-lanes
 returns-clause-lanes g c = c.loop-lane.invariant.lanes
