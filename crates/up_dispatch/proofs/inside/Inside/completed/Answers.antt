@@ -1,5 +1,4 @@
 use Rattle.std.proofs.Common.{◌≡◌, ◌∙◌, List, get_or, vec_len, arith, sym, ap, subst}
-use Rattle.up_events.specs.History.{IsLegal}
 use Rattle.std.proofs.lemmas.List.Elements.{All-get_or}
 use Rattle.up_events.specs.declared.event.Accepted.{Accepted}
 use Rattle.up_events.specs.Log.{log_of}
@@ -33,12 +32,3 @@ returns-clause-handed g c = λ k d within.
 
 pub returns-clause-delivered : goal.returns-clause-delivered
 returns-clause-delivered g c = λ k d within. tells_uploads _ k (get_or c.settle-lanes.result.items k d).left _ _ _ (returns-clause-handed g c k d within)
-
-pub returns-clause-accepted : goal.returns-clause-accepted
-returns-clause-accepted g c = c.into_accepted-accepted.ensures.items ∙ ap (λ (s : BoardView). s.book.journal.accepted) c.self.view_is
-
-pub returns-clause-keeps : goal.returns-clause-keeps
-returns-clause-keeps g c = c.into_accepted-accepted.ensures.keeps ∙ ap (λ (s : BoardView). s.book.journal.keeps) c.self.view_is
-
-pub returns-clause-legal : goal.returns-clause-legal
-returns-clause-legal g c = subst IsLegal (sym c.into_accepted-accepted.ensures.items) c.self.invariant.sound.legal

@@ -1,5 +1,4 @@
 use Rattle.std.proofs.Common.{◌≡◌, ◌+◌, ◌-◌, ◌≤◌, ◌<◌, [], length, get_or, ap, ◌∙◌, subst, arith, rules}
-use Rattle.std.proofs.lemmas.Grind.{common_steps}
 use Rattle.up_events.specs.Records.{lane_log}
 use Rattle.up_events.proofs.JournalLemmas.{log_of-absent}
 use Rattle.up_dispatch.specs.Puts.{end_at}
@@ -26,6 +25,3 @@ returns-clause-unput g c =
           let none : log ≡ [] = log_of-absent i.book.journal.lanes i.book.journal.accepted lane (omega (arith, c.self.invariant.some, c.self.invariant.lanes)) (omega (arith, past, c.self.invariant.lanes)) in
           omega (arith, ap length none)
     ])
-
-pub returns-clause-same : goal.returns-clause-same
-returns-clause-same g c = grind (arith, common_steps)
