@@ -2,9 +2,9 @@
 ghost use Rattle.std.specs.Prelude.{◌≡◌, length};
 ghost use Rattle.up_dispatch.specs.Parts.{IsNamed};
 
-use super::running::{
-    CommitResult, Job, Tally, board_of, change, files_of, plainly, restored, store_on,
-};
+use super::disks::files_of;
+use super::running::{CommitResult, Job, board_of, change, plainly, restored, store_on};
+use super::tally::Tally;
 use crate::logs::What;
 use sqlite_disk::Memory;
 use std::alloc::Global;

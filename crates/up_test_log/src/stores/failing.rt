@@ -1,5 +1,6 @@
 //! Stores on disks that fail, for good or for one call.
-use super::running::{CommitResult, Job, Ran, Seen, Tally, plainly, restored, run_on};
+use super::running::{CommitResult, Job, Ran, Seen, plainly, restored, run_on};
+use super::tally::Tally;
 use super::together::{jobs_of, shared_file, told_plainly};
 use crate::full_once::FullOnce;
 use crate::logs::{Row, What};

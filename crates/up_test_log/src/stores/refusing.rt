@@ -2,9 +2,9 @@
 ghost use Rattle.std.specs.Prelude.{◌≡◌, length};
 ghost use Rattle.up_dispatch.specs.Parts.{IsNamed};
 
-use super::running::{
-    CommitResult, Tally, board_of, change, count_in, files_of, result_of, store_on,
-};
+use super::disks::{count_in, files_of};
+use super::running::{CommitResult, board_of, change, result_of, store_on};
+use super::tally::Tally;
 use crate::logs::{What, entries_of};
 use sqlite_disk::Memory;
 use std::alloc::Global;

@@ -4,13 +4,13 @@ ghost use Rattle.up_dispatch.specs.Parts.{IsNamed};
 ghost use Rattle.up_events.specs.declared.limits.TheConstants.{MAX_UPLOAD_BYTES};
 ghost use Rattle.up_headers.specs.Table.{FitsWithin};
 
-use crate::full_once::FullOnce;
-use crate::logs::{Row, SETUP, entries_of, read, spelled_of};
-use sqlite_disk::{Disk, Fuse, Memory};
+use super::disks::{Files, files_of, reader_of};
+use super::tally::{Again, Tally};
+use crate::logs::{Row, entries_of};
+use sqlite_disk::Disk;
 use std::alloc::Global;
 use std::marker::{Brand, Send, Sync};
 use std::sync::Wait;
-use std::sync::atomic::{AtomicU64, Ordering};
 use std::test::Fail;
 use std::thread;
 use std::thread::Threads;
@@ -19,10 +19,10 @@ use up_events::{Accepted, Id, NoMemory};
 use up_headers::Request;
 use up_history::Chronicle;
 use up_hooks::PreHooks;
-use up_log::{Log, LogFault, LogReader};
+use up_log::{LogFault, LogReader};
 use up_machine::{Asked, Done, Refusal};
 use up_replay::{Unrestored, asked_of, fits};
-use up_store::{Histories, LogFile, Logs, Store, StoreNotices, Stored, Voids};
+use up_store::{Histories, Store, Stored};
 use up_test_board::append;
 use up_tie::{Reading, Site};
 use up_wire::{Output, write_response};
@@ -35,108 +35,6 @@ pub type CommitResult = Result<(u16, Option<Accepted>), Refusal>;
 
 /// The counts of a board, and its responses about each upload.
 pub type Seen = (Counts, Vec<u8>);
-
-/// How often the store reported that changes cannot be written, that they can be again, and that none is made any more;
-/// and that a log was made shorter, and that it could not be.
-#[derive(Drop)]
-pub struct Tally {
-    fails: AtomicU64,
-    works: AtomicU64,
-    stops: AtomicU64,
-    shorter: AtomicU64,
-    not_shorter: AtomicU64,
-}
-
-impl Tally {
-    pub fn new() -> Tally {
-        Tally {
-            fails: AtomicU64::new(0),
-            works: AtomicU64::new(0),
-            stops: AtomicU64::new(0),
-            shorter: AtomicU64::new(0),
-            not_shorter: AtomicU64::new(0),
-        }
-    }
-
-    /// How often a log was made shorter, and how often it could not be.
-    pub fn switches(&self) -> [u64; 2] {
-        [
-            self.shorter.load(Ordering::SeqCst),
-            self.not_shorter.load(Ordering::SeqCst),
-        ]
-    }
-
-    pub fn counts(&self) -> [u64; 3] {
-        [
-            self.fails.load(Ordering::SeqCst),
-            self.works.load(Ordering::SeqCst),
-            self.stops.load(Ordering::SeqCst),
-        ]
-    }
-}
-
-impl StoreNotices for &Tally {
-    fn fails(&self, _fault: LogFault) {
-        self.fails.fetch_add(1, Ordering::SeqCst);
-    }
-
-    fn works(&self) {
-        self.works.fetch_add(1, Ordering::SeqCst);
-    }
-
-    fn is_restored(&self, _entries: u64) {}
-
-    fn is_not_restored(&self, _why: Unrestored) {}
-
-    fn stops(&self, _fault: LogFault) {
-        self.stops.fetch_add(1, Ordering::SeqCst);
-    }
-
-    fn is_shorter(&self, _before: u64, _now: u64) {
-        self.shorter.fetch_add(1, Ordering::SeqCst);
-    }
-
-    fn is_not_shorter(&self, _fault: LogFault) {
-        self.not_shorter.fetch_add(1, Ordering::SeqCst);
-    }
-
-    fn makes_room(&self) -> bool {
-        false
-    }
-}
-
-/// A disk whose file can be opened again.
-pub trait Again: Disk {
-    /// The same file, opened again.
-    fn again(self) -> Self;
-}
-
-impl Again for Memory {
-    fn again(self) -> Memory {
-        self
-    }
-}
-
-impl<D: Disk> Again for Fuse<D> {
-    fn again(self) -> Fuse<D> {
-        self
-    }
-}
-
-impl<D: Disk> Again for FullOnce<D> {
-    fn again(self) -> FullOnce<D> {
-        FullOnce::new(self.into_inner(), 0)
-    }
-}
-
-impl<D: Again> LogFile<D> for &Tally {
-    fn open_again(&self, _generation: u64, failed: Option<D>) -> Result<D, LogFault> {
-        match failed {
-            Some(disk) => Ok(disk.again()),
-            None => Err(LogFault::Busy),
-        }
-    }
-}
 
 /// Makes a change, and returns its result.
 pub fn result_of<K: Keeper>(
@@ -262,42 +160,6 @@ fn plain_of<B: Naming, R: Wait>(
     Ok((outcome, seen(rt, alloc, &board, &mut seat)?))
 }
 
-/// The file of a log with these batches.
-pub fn file_of(alloc: Global, batches: &[&[Row]]) -> Result<Memory, LogFault> {
-    let (mut log, _) = read(alloc, Memory::new(alloc))?;
-    for rows in batches {
-        log.append(&mut Vec::new(alloc), &spelled_of(alloc, rows)?)?;
-    }
-    Ok(log.into_device())
-}
-
-/// Starts to open a log.
-pub fn reader_of<D: Disk>(alloc: Global, device: D) -> Result<LogReader<D>, LogFault>
-where
-    D: Drop,
-{
-    match LogReader::open(alloc, device, SETUP) {
-        Ok(reader) => Ok(reader),
-        Err(refused) => Err(refused.fault),
-    }
-}
-
-/// The number of entries of the log in a file.
-pub fn count_in(alloc: Global, file: Memory) -> Result<(u64, Memory), LogFault> {
-    let mut reader = reader_of(alloc, file)?;
-    let mut count: u64 = 0;
-    for _ in 0..10_000u64 {
-        let Some(entries) = reader.next_batch(alloc)? else {
-            break;
-        };
-        count = count.saturating_add(entries.len() as u64);
-    }
-    match reader.finish() {
-        Ok(log) => Ok((count, log.into_device())),
-        Err(refused) => Err(refused.fault),
-    }
-}
-
 /// A store on these disks that was not read yet, and who reads them.
 type Unread<'a, D, J, K> = (Store<D, &'a Tally, J, K>, (Reading<D, J>, LogReader<D>));
 
@@ -341,37 +203,6 @@ where
     let logs = store.restore(rt, alloc, board, seat, readers, 0)?;
     store.open(rt, logs);
     Ok(store)
-}
-
-/// The open files of a store.
-#[derive(Drop)]
-pub struct Files<D: Disk> {
-    pub changes: Log<D>,
-    pub voids: Voids<D>,
-    /// The number of entries of the log of the changes.
-    pub count: u64,
-}
-
-/// The files of a store that is open.
-pub fn files_of<D: Disk, J: Site, K: Chronicle>(
-    store: Store<D, &Tally, J, K>,
-) -> Result<Files<D>, Fail>
-where
-    D: Drop,
-{
-    let Some(logs) = store.into_logs() else {
-        return Err("a store that is open".into());
-    };
-    let Logs {
-        changes,
-        voids,
-        count,
-    } = logs;
-    Ok(Files {
-        changes: changes.into_log(),
-        voids,
-        count,
-    })
 }
 
 /// The state of a board with these parts that is restored from the logs on these disks, and the logs.

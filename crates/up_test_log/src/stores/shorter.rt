@@ -2,9 +2,9 @@
 ghost use Rattle.std.specs.Prelude.{◌≡◌, length};
 ghost use Rattle.up_dispatch.specs.Parts.{IsNamed};
 
-use super::running::{
-    CommitResult, Files, Tally, board_of, change, files_of, reader_of, restored, seen, store_on,
-};
+use super::disks::{Files, files_of, reader_of};
+use super::running::{CommitResult, board_of, change, restored, seen, store_on};
+use super::tally::Tally;
 use crate::logs::{Row, What};
 use sqlite_disk::{Crash, Fuse, Memory};
 use std::alloc::Global;

@@ -1,5 +1,7 @@
 //! Changes from several seats at once.
-use super::running::{Job, Outcome, Ran, Tally, count_in, file_of, plainly, restored, run_on};
+use super::disks::{count_in, file_of};
+use super::running::{Job, Outcome, Ran, plainly, restored, run_on};
+use super::tally::Tally;
 use crate::logs::{Row, What};
 use sqlite_disk::Memory;
 use std::alloc::{AllocError, Global};

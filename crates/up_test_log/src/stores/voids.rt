@@ -1,5 +1,6 @@
 //! Entries that are on the disk and were not carried out.
-use super::running::{Job, Seen, file_of, plainly, restored};
+use super::disks::file_of;
+use super::running::{Job, Seen, plainly, restored};
 use crate::logs::{Row, What, read};
 use sqlite_disk::Memory;
 use std::alloc::Global;

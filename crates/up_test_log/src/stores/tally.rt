@@ -1,0 +1,109 @@
+//! What a store reports, and disks whose files can be opened again.
+use crate::full_once::FullOnce;
+use sqlite_disk::{Disk, Fuse, Memory};
+use std::sync::atomic::{AtomicU64, Ordering};
+use up_log::LogFault;
+use up_replay::Unrestored;
+use up_store::{LogFile, StoreNotices};
+
+/// How often the store reported that changes cannot be written, that they can be again, and that none is made any more;
+/// and that a log was made shorter, and that it could not be.
+#[derive(Drop)]
+pub struct Tally {
+    fails: AtomicU64,
+    works: AtomicU64,
+    stops: AtomicU64,
+    shorter: AtomicU64,
+    not_shorter: AtomicU64,
+}
+
+impl Tally {
+    pub fn new() -> Tally {
+        Tally {
+            fails: AtomicU64::new(0),
+            works: AtomicU64::new(0),
+            stops: AtomicU64::new(0),
+            shorter: AtomicU64::new(0),
+            not_shorter: AtomicU64::new(0),
+        }
+    }
+
+    /// How often a log was made shorter, and how often it could not be.
+    pub fn switches(&self) -> [u64; 2] {
+        [
+            self.shorter.load(Ordering::SeqCst),
+            self.not_shorter.load(Ordering::SeqCst),
+        ]
+    }
+
+    pub fn counts(&self) -> [u64; 3] {
+        [
+            self.fails.load(Ordering::SeqCst),
+            self.works.load(Ordering::SeqCst),
+            self.stops.load(Ordering::SeqCst),
+        ]
+    }
+}
+
+impl StoreNotices for &Tally {
+    fn fails(&self, _fault: LogFault) {
+        self.fails.fetch_add(1, Ordering::SeqCst);
+    }
+
+    fn works(&self) {
+        self.works.fetch_add(1, Ordering::SeqCst);
+    }
+
+    fn is_restored(&self, _entries: u64) {}
+
+    fn is_not_restored(&self, _why: Unrestored) {}
+
+    fn stops(&self, _fault: LogFault) {
+        self.stops.fetch_add(1, Ordering::SeqCst);
+    }
+
+    fn is_shorter(&self, _before: u64, _now: u64) {
+        self.shorter.fetch_add(1, Ordering::SeqCst);
+    }
+
+    fn is_not_shorter(&self, _fault: LogFault) {
+        self.not_shorter.fetch_add(1, Ordering::SeqCst);
+    }
+
+    fn makes_room(&self) -> bool {
+        false
+    }
+}
+
+/// A disk whose file can be opened again.
+pub trait Again: Disk {
+    /// The same file, opened again.
+    fn again(self) -> Self;
+}
+
+impl Again for Memory {
+    fn again(self) -> Memory {
+        self
+    }
+}
+
+impl<D: Disk> Again for Fuse<D> {
+    fn again(self) -> Fuse<D> {
+        self
+    }
+}
+
+impl<D: Disk> Again for FullOnce<D> {
+    fn again(self) -> FullOnce<D> {
+        FullOnce::new(self.into_inner(), 0)
+    }
+}
+
+impl<D: Again> LogFile<D> for &Tally {
+    fn open_again(&self, _generation: u64, failed: Option<D>) -> Result<D, LogFault> {
+        match failed {
+            Some(disk) => Ok(disk.again()),
+            None => Err(LogFault::Busy),
+        }
+    }
+}
