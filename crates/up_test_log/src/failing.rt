@@ -1,5 +1,6 @@
 //! Disks that fail, and crash.
 use crate::logs::{PAIR, read, spelled_of};
+use crate::same::expect_same;
 use sqlite_disk::{Crash, Fuse, Memory};
 use std::alloc::Global;
 use std::test::Fail;
@@ -43,7 +44,7 @@ fn a_batch_is_whole_or_not_there(rt: HostRuntime) -> Result<(), Fail> {
         };
         let added = is_added(alloc, &mut log, &entries);
         let count = left(alloc, log)?;
-        assert_eq!(rt; Some(count > 0), added, "after {calls} calls");
+        expect_same(&rt, &(calls, Some(count > 0)), &(calls, added));
         is_any = is_any || count > 0;
     }
     assert!(rt; is_any);

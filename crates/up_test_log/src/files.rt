@@ -1,5 +1,6 @@
 //! Files that a crash left, files that are refused, and a file of the system.
 use crate::logs::{PAIR, SETUP, batches_of, disk_of, log_of, read, spelled_of};
+use crate::same::expect_same;
 use sqlite_std_file::Unknown;
 use std::alloc::Global;
 use std::fs;
@@ -56,14 +57,14 @@ fn a_crash_leaves_whole_batches(rt: HostRuntime) -> Result<(), Fail> {
         (0, 0, 9, 0),
     ] {
         let found = counts(alloc, &changed(&three, alloc, left, place, byte)?)?;
-        assert_eq!(rt;
-            found,
-            (want, want.saturating_add(1)),
-            "{left} bytes, {byte} at {place}"
+        expect_same(
+            &rt,
+            &(left, byte, place, found),
+            &(left, byte, place, (want, want.saturating_add(1))),
         );
     }
     let torn = changed(&log_of(alloc, 0)?, alloc, 34, 0, 7)?;
-    assert_eq!(rt; counts(alloc, &torn)?, (0, 1));
+    expect_same(&rt, &counts(alloc, &torn)?, &(0, 1));
     Ok(())
 }
 
@@ -140,10 +141,10 @@ fn a_file_is_open_once(rt: HostRuntime) -> Result<(), Fail> {
     let _ = fs::remove_dir_all(&rt, "up_log_tests_file");
     fs::create_dir(&rt, "up_log_tests_file")?;
     assert!(rt; is_busy(&rt, path)?);
-    assert_eq!(rt; count_of(&rt, path)?, 1);
+    expect_same(&rt, &count_of(&rt, path)?, &1);
     fs::write(&rt, path, b"no log".as_slice())?;
     assert!(rt; matches!(count_of(&rt, path), Err(LogFault::Foreign)));
-    assert_eq!(rt; fs::read(&rt, path)?.as_slice(), b"no log".as_slice());
+    expect_same(&rt, &fs::read(&rt, path)?.as_slice(), &b"no log".as_slice());
     fs::remove_dir_all(&rt, "up_log_tests_file")?;
     Ok(())
 }

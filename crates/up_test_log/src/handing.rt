@@ -5,6 +5,7 @@ ghost use Rattle.up_handed.specs.OnDisk.{IsOnDisk};
 ghost use Rattle.up_hooks.specs.Recorded.{AnswersWithCodes};
 
 use crate::full_once::FullOnce;
+use crate::same::expect_same;
 use sqlite_disk::{Disk, Fuse, Memory};
 use sqlite_std_file::Unknown;
 use std::alloc::Global;
@@ -118,10 +119,14 @@ fn what_earlier_runs_handed_over_is_passed_over(rt: HostRuntime) -> Result<(), F
         let answer = |_: &Event| Outcome::Done;
         let device = left(alloc, answer, before)?;
         let run = run_over(alloc, answer, device, events)?;
-        assert_eq!(rt; run.before(), before);
-        assert_eq!(rt; told(run.hook()), want, "{events} events after {before}");
+        expect_same(&rt, &run.before(), &before);
+        expect_same(
+            &rt,
+            &(events, before, told(run.hook())),
+            &(events, before, want),
+        );
         let (_, handed) = run.into_parts();
-        assert_eq!(rt; handed.count(), before.max(events));
+        expect_same(&rt, &handed.count(), &before.max(events));
     }
     Ok(())
 }
@@ -163,7 +168,7 @@ fn a_crash_repeats_one_event_at_most(rt: HostRuntime) -> Result<(), Fail> {
         (9, 3, 4),
     ] {
         let found = crashed(alloc, |_: &Event| Outcome::Done, calls)?;
-        assert_eq!(rt; found, (handed, next), "after {calls} calls");
+        expect_same(&rt, &(calls, found), &(calls, (handed, next)));
     }
     Ok(())
 }
@@ -183,11 +188,11 @@ fn a_lane_goes_on_when_the_disk_works_again(rt: HostRuntime) -> Result<(), Fail>
     ] {
         let device = FullOnce::new(Memory::new(alloc), calls);
         let first = run_over(alloc, |_: &Event| Outcome::Done, device, 3)?;
-        assert_eq!(rt; told(first.hook()), (1, handed), "call {calls} fails");
+        expect_same(&rt, &(calls, told(first.hook())), &(calls, (1, handed)));
         let (_, count) = first.into_parts();
         let device = count.into_device().into_inner();
         let second = run_over(alloc, |_: &Event| Outcome::Done, device, 4)?;
-        assert_eq!(rt; told(second.hook()).0, next, "call {calls} failed");
+        expect_same(&rt, &(calls, told(second.hook()).0), &(calls, next));
     }
     Ok(())
 }
@@ -218,9 +223,9 @@ fn a_count_outlives_its_run(rt: HostRuntime) -> Result<(), Fail> {
     fs::create_dir(&rt, "up_log_tests_handed")?;
     for want in [1, 2, 3] {
         let found = one_more(&rt, path, |_: &Event| Outcome::Done)?;
-        assert_eq!(rt; found, (want, true));
+        expect_same(&rt, &found, &(want, true));
     }
-    assert_eq!(rt; fs::read(&rt, path)?.len(), 3);
+    expect_same(&rt, &fs::read(&rt, path)?.len(), &3);
     fs::remove_dir_all(&rt, "up_log_tests_handed")?;
     Ok(())
 }

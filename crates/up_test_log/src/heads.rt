@@ -1,5 +1,6 @@
 //! Which log is the current one after disks fail and crash.
 use crate::logs::SETUP;
+use crate::same::expect_same;
 use sqlite_disk::{Crash, Disk, Fuse, Memory};
 use std::alloc::{AllocError, Global};
 use std::test::Fail;
@@ -29,13 +30,13 @@ where
 fn the_last_head_holds(rt: HostRuntime) -> Result<(), Fail> {
     let alloc = rt.alloc();
     let (mut heads, first) = heads_of(alloc, Memory::new(alloc))?;
-    assert_eq!(rt; first.generation, 0);
+    expect_same(&rt, &first.generation, &0);
     heads.add(alloc, &head(alloc, 1, &[7, 9])?)?;
     heads.add(alloc, &head(alloc, 2, &[70, u64::MAX])?)?;
     let (_, last) = heads_of(alloc, heads.into_device())?;
-    assert_eq!(rt; (last.generation, last.entries), (2, 12));
+    expect_same(&rt, &(last.generation, last.entries), &(2, 12));
     let left_out = [70, u64::MAX];
-    assert_eq!(rt; last.left_out.as_slice(), left_out.as_slice());
+    expect_same(&rt, &last.left_out.as_slice(), &left_out.as_slice());
     Ok(())
 }
 
@@ -64,9 +65,9 @@ fn a_crash_leaves_one_of_two_heads(rt: HostRuntime) -> Result<(), Fail> {
             continue;
         };
         let want = if is_added { 2 } else { 1 };
-        assert_eq!(rt; generation, want, "after {calls} calls");
+        expect_same(&rt, &(calls, generation), &(calls, want));
         seen[is_added as usize] = true;
     }
-    assert_eq!(rt; seen, [true; 2]);
+    expect_same(&rt, &seen, &[true; 2]);
     Ok(())
 }

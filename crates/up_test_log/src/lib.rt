@@ -18,6 +18,8 @@ mod logs;
 #[cfg(test)]
 mod replays;
 #[cfg(test)]
+mod same;
+#[cfg(test)]
 mod shortening;
 #[cfg(test)]
 mod stores;

@@ -1,5 +1,6 @@
 //! Books that are restored: from a log on a disk, and from entries that no server writes.
 use crate::logs::{Row, SETUP, What, entries_of, read, spelled_of};
+use crate::same::expect_same;
 use sqlite_disk::Memory;
 use std::alloc::Global;
 use std::test::Fail;
@@ -38,17 +39,18 @@ fn what_was_refused_changes_nothing(rt: HostRuntime) -> Result<(), Fail> {
         (What::Put, 5, 4),
         (What::Put, 5, 3),
     ];
-    assert_eq!(rt; replay_rows(alloc, &mut book, &rows), Ok(()));
-    assert_eq!(rt; book.journal().accepted_count(), 2);
-    assert_eq!(rt; standing(&book, 5), Some((3, Some(3))));
-    assert_eq!(rt; standing(&book, 6), None);
+    expect_same(&rt, &replay_rows(alloc, &mut book, &rows), &Ok(()));
+    expect_same(&rt, &book.journal().accepted_count(), &2);
+    expect_same(&rt, &standing(&book, 5), &Some((3, Some(3))));
+    expect_same(&rt, &standing(&book, 6), &None);
     // A creation that no server receives.
     let rows = [(What::Make, 7, MAX_UPLOAD_BYTES + 1), (What::Make, 8, 3)];
-    assert_eq!(rt;
-        replay_rows(alloc, &mut book, &rows),
-        Err(Unreplayed::TooLong)
+    expect_same(
+        &rt,
+        &replay_rows(alloc, &mut book, &rows),
+        &Err(Unreplayed::TooLong),
     );
-    assert_eq!(rt; book.journal().accepted_count(), 2);
+    expect_same(&rt, &book.journal().accepted_count(), &2);
     Ok(())
 }
 
@@ -78,8 +80,8 @@ fn a_book_comes_back(rt: HostRuntime) -> Result<(), Fail> {
     let second = [(What::Put, 5, 3), (What::Remove, 6, 0)];
     let mut book = Book::new(alloc, 2, 1000)?;
     restore_file(alloc, file_of(alloc, &first, &second)?, &mut book)?;
-    assert_eq!(rt; book.journal().accepted_count(), 4);
-    assert_eq!(rt; standing(&book, 5), Some((3, Some(4))));
-    assert_eq!(rt; standing(&book, 6), None);
+    expect_same(&rt, &book.journal().accepted_count(), &4);
+    expect_same(&rt, &standing(&book, 5), &Some((3, Some(4))));
+    expect_same(&rt, &standing(&book, 6), &None);
     Ok(())
 }

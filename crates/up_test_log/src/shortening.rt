@@ -1,5 +1,6 @@
 //! Shorter logs: what may be left out, and what is written meanwhile.
 use crate::logs::{Row, SETUP, What, read, spelled_of};
+use crate::same::expect_same;
 use sqlite_disk::Memory;
 use std::alloc::{AllocError, Global};
 use std::collections::BTreeSet;
@@ -55,7 +56,7 @@ fn parts_of_what_stays_stay(rt: HostRuntime) -> Result<(), Fail> {
     let mut survey = Survey::new(alloc);
     survey.see(alloc, &joinings(alloc)?)?;
     let made = [Id::new(7), Id::new(8), Id::new(9)];
-    assert_eq!(rt; survey.uploads(), made.as_slice());
+    expect_same(&rt, &survey.uploads(), &made.as_slice());
     // The uploads that were removed, and those of them that can be left out.
     let rows: [(&[u128], &[u128]); 5] = [
         (&[1, 2, 3, 4], &[4]),
@@ -66,7 +67,7 @@ fn parts_of_what_stays_stay(rt: HostRuntime) -> Result<(), Fail> {
     ];
     for (ended, want) in rows {
         let found = survey.left_out(ids_of(alloc, ended)?);
-        assert_eq!(rt; found, ids_of(alloc, want)?);
+        expect_same(&rt, &found, &ids_of(alloc, want)?);
     }
     Ok(())
 }
@@ -119,21 +120,21 @@ fn a_shorter_log_has_what_stays(rt: HostRuntime) -> Result<(), Fail> {
     let left_out = left_out(alloc)?;
     let start = Progress::start::<Memory>();
     let reached = catch_up(alloc, &mut log, &mut shorter, &left_out, start)?;
-    assert_eq!(rt; (reached.count, reached.stayed), (5, 1));
-    assert_eq!(rt; reached.place, log.end_place());
+    expect_same(&rt, &(reached.count, reached.stayed), &(5, 1));
+    expect_same(&rt, &reached.place, &log.end_place());
     // Entries that are appended to the log meanwhile are then appended to the shorter log.
     log.append(
         &mut Vec::new(alloc),
         &spelled_of(alloc, &[(What::Put, 5, 3), (What::Make, 7, 2)])?,
     )?;
     let reached = catch_up(alloc, &mut log, &mut shorter, &left_out, reached)?;
-    assert_eq!(rt; (reached.count, reached.stayed), (7, 3));
+    expect_same(&rt, &(reached.count, reached.stayed), &(7, 3));
     assert!(rt; shorter.end_place() < log.end_place());
     let book = book_of(alloc, shorter)?;
-    assert_eq!(rt; book.journal().accepted_count(), 3);
-    assert_eq!(rt; offset(&book, 5), Some(3));
-    assert_eq!(rt; offset(&book, 6), None);
-    assert_eq!(rt; offset(&book, 7), Some(0));
+    expect_same(&rt, &book.journal().accepted_count(), &3);
+    expect_same(&rt, &offset(&book, 5), &Some(3));
+    expect_same(&rt, &offset(&book, 6), &None);
+    expect_same(&rt, &offset(&book, 7), &Some(0));
     Ok(())
 }
 
@@ -148,7 +149,7 @@ fn an_open_log_is_read_from_its_places(rt: HostRuntime) -> Result<(), Fail> {
         let Some((entries, next)) = log.batch_at(alloc, place)? else {
             return Err(Fail::new("no batch"));
         };
-        assert_eq!(rt; entries.len(), want);
+        expect_same(&rt, &entries.len(), &want);
         place = next;
     }
     assert!(rt; log.batch_at(alloc, place)?.is_none());

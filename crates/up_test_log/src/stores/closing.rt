@@ -6,6 +6,7 @@ use super::disks::files_of;
 use super::running::{CommitResult, Job, board_of, change, plainly, restored, store_on};
 use super::tally::Tally;
 use crate::logs::What;
+use crate::same::expect_same;
 use sqlite_disk::Memory;
 use std::alloc::Global;
 use std::marker::Brand;
@@ -59,9 +60,9 @@ fn what_a_closed_board_refuses_does_not_come_back(rt: HostRuntime) -> Result<(),
         Histories::new(),
     )?;
     for told in &told {
-        assert_eq!(rt; *told, Err(Refusal::Closed));
+        expect_same(&rt, told, &Err(Refusal::Closed));
     }
-    assert_eq!(rt; told.len(), 3);
+    expect_same(&rt, &told.len(), &3);
     let (seen, _) = restored(&rt, alloc, disks)?;
     let mut rows = Vec::new(alloc);
     rows.push((What::Make, 1, 4))?;

@@ -4,6 +4,7 @@ use super::tally::Tally;
 use super::together::{jobs_of, shared_file, told_plainly};
 use crate::full_once::FullOnce;
 use crate::logs::{Row, What};
+use crate::same::expect_same;
 use sqlite_disk::{Crash, Disk, Fuse, Memory};
 use std::alloc::{AllocError, Global};
 use std::marker::Send;
@@ -82,8 +83,8 @@ fn left<R: Threads + Wait + Abort + Sync>(
         return Err("one job".into());
     };
     let (first, all) = made(told);
-    assert_eq!(rt; (first, told.len()), (all, 6));
-    assert_eq!(rt; tally.counts(), [u64::from(all < 6), 0, 0]);
+    expect_same(rt, &(first, told.len()), &(all, 6));
+    expect_same(rt, &tally.counts(), &[u64::from(all < 6), 0, 0]);
     let (mut changes, voids) = (logs.changes.into_device(), logs.voids.into_device());
     changes.crash();
     let seen = seen_again(rt, alloc, (changes, voids))?;
@@ -107,7 +108,7 @@ fn a_crash_leaves_what_was_answered(rt: HostRuntime) -> Result<(), Fail> {
     }
     // A change takes four calls. So in each change, four of the disks fail.
     for count in 1..6usize {
-        assert_eq!(rt; counts[count], 4);
+        expect_same(&rt, &counts[count], &4);
     }
     assert!(rt; counts[6] > 0);
     Ok(())
@@ -142,7 +143,7 @@ fn hold_at_once<R: Threads + Wait + Abort + Sync>(
     else {
         return Err("an open log".into());
     };
-    assert_eq!(rt; tally.counts(), [1, 0, 0]);
+    expect_same(rt, &tally.counts(), &[1, 0, 0]);
     let plain = told_plainly(rt, alloc)?;
     for ((told, _), (want, _)) in outcomes.iter().zip(&plain) {
         assert!(rt; is_cut_off(told, want), "after {calls} calls");
@@ -221,11 +222,12 @@ fn full_at<R: Threads + Wait + Abort + Sync>(
         return Err("one job".into());
     };
     let (first, all) = made(told);
-    assert_eq!(rt;
-        tally.counts(),
-        [u64::from(all < 6), u64::from(first < all), 0]
+    expect_same(
+        rt,
+        &tally.counts(),
+        &[u64::from(all < 6), u64::from(first < all), 0],
     );
-    assert_eq!(rt; logs.count, all as u64);
+    expect_same(rt, &logs.count, &(all as u64));
     hold_taken(rt, alloc, logs.changes.into_device().into_inner(), told)?;
     Ok(Some((first, all)))
 }
@@ -247,7 +249,7 @@ fn a_store_goes_on_once_its_disk_works(rt: HostRuntime) -> Result<(), Fail> {
             want.push((change, 5))?;
         }
     }
-    assert_eq!(rt; places.as_slice(), want.as_slice());
+    expect_same(&rt, &places.as_slice(), &want.as_slice());
     Ok(())
 }
 
@@ -280,10 +282,10 @@ fn seats_at_once_go_on_once_the_disk_works(rt: HostRuntime) -> Result<(), Fail> 
         // A batch takes four calls.
         for calls in first..first + 4 {
             let [fails, works, stops] = told_at_once(&rt, rt.alloc(), calls)?;
-            assert_eq!(rt; (fails, stops), (1, 0));
+            expect_same(&rt, &(fails, stops), &(1, 0));
             goes_on = goes_on.saturating_add(works);
         }
-        assert_eq!(rt; goes_on, 4);
+        expect_same(&rt, &goes_on, &4);
     }
     Ok(())
 }

@@ -6,6 +6,7 @@ use super::disks::{count_in, files_of};
 use super::running::{CommitResult, board_of, change, result_of, store_on};
 use super::tally::Tally;
 use crate::logs::{What, entries_of};
+use crate::same::expect_same;
 use sqlite_disk::Memory;
 use std::alloc::Global;
 use std::marker::Brand;
@@ -114,13 +115,13 @@ fn what_a_closure_refuses_is_not_written(rt: HostRuntime) -> Result<(), Fail> {
     let want = wanted(alloc, reason)?;
     let parts = BoardParts::new(alloc, 2, 4)?;
     let plain = refused_plainly::<Brand, _>(&rt, alloc, parts, &refused)?;
-    assert_eq!(rt; plain.as_slice(), want.as_slice());
+    expect_same(&rt, &plain.as_slice(), &want.as_slice());
     let parts = BoardParts::new(alloc, 2, 4)?;
     let histories = Histories::new();
     let (told, count) = refused_by_store::<Brand, Brand, Brand, _>(
         &rt, alloc, parts, &refused, histories,
     )?;
-    assert_eq!(rt; told.as_slice(), want.as_slice());
-    assert_eq!(rt; count, 1);
+    expect_same(&rt, &told.as_slice(), &want.as_slice());
+    expect_same(&rt, &count, &1);
     Ok(())
 }

@@ -6,6 +6,7 @@ use super::disks::{Files, files_of, reader_of};
 use super::running::{CommitResult, board_of, change, restored, seen, store_on};
 use super::tally::Tally;
 use crate::logs::{Row, What};
+use crate::same::expect_same;
 use sqlite_disk::{Crash, Fuse, Memory};
 use std::alloc::Global;
 use std::marker::Brand;
@@ -187,19 +188,19 @@ fn a_shorter_log_takes_the_place(rt: HostRuntime) -> Result<(), Fail> {
         logs,
         current,
     } = shorten(&rt, alloc, calls, &tally)?;
-    assert_eq!(rt; (tally.switches(), tally.counts()), ([1, 0], [0; 3]));
+    expect_same(&rt, &(tally.switches(), tally.counts()), &([1, 0], [0; 3]));
     for told in told.iter() {
         assert!(rt; told.is_ok());
     }
     // Two of the entries stayed, and three were appended after them.
-    assert_eq!(rt; logs.count, 5);
+    expect_same(&rt, &logs.count, &5);
     let Current { heads, .. } = current;
     let head = head_left(alloc, heads)?;
-    assert_eq!(rt; (head.generation, head.entries), (1, 2));
+    expect_same(&rt, &(head.generation, head.entries), &(1, 2));
     let left_out = [4u64, 4];
-    assert_eq!(rt; head.left_out.as_slice(), left_out.as_slice());
+    expect_same(&rt, &head.left_out.as_slice(), &left_out.as_slice());
     let (seen, count) = left(&rt, alloc, logs)?;
-    assert_eq!(rt; count, 5);
+    expect_same(&rt, &count, &5);
     assert!(rt; seen == before);
     Ok(())
 }
@@ -224,13 +225,13 @@ fn hold<R: Wait + Abort>(
     let [shorter, _] = tally.switches();
     let [_, _, stops] = tally.counts();
     let Current { heads, head: held } = current;
-    assert_eq!(rt; (held.generation, told.len()), (shorter, 3));
+    expect_same(rt, &(held.generation, told.len()), &(shorter, 3));
     let head = head_left(alloc, heads)?;
     for told in told.iter() {
-        assert_eq!(rt; told.is_ok(), stops == 0);
+        expect_same(rt, &told.is_ok(), &(stops == 0));
     }
     if stops == 0 {
-        assert_eq!(rt; head.generation, held.generation);
+        expect_same(rt, &head.generation, &held.generation);
     }
     let (seen, count) = left(rt, alloc, logs)?;
     assert!(rt; count >= held.entries);
@@ -267,7 +268,7 @@ fn a_store_goes_on_without_a_shorter_log(rt: HostRuntime) -> Result<(), Fail> {
             shorter,
         };
         let found = hold(&rt, rt.alloc(), calls)?;
-        assert_eq!(rt; found, Some((false, true)));
+        expect_same(&rt, &found, &Some((false, true)));
     }
     Ok(())
 }

@@ -3,6 +3,7 @@ use super::disks::{count_in, file_of};
 use super::running::{Job, Outcome, Ran, plainly, restored, run_on};
 use super::tally::Tally;
 use crate::logs::{Row, What};
+use crate::same::expect_same;
 use sqlite_disk::Memory;
 use std::alloc::{AllocError, Global};
 use std::process::Abort;
@@ -69,9 +70,9 @@ pub fn shared_file(alloc: Global) -> Result<Memory, LogFault> {
 fn count_of<R: Wait + Abort>(rt: &R, alloc: Global, outcomes: &[Outcome]) -> Result<u64, Fail> {
     let mut count: u64 = 0;
     let plain = told_plainly(rt, alloc)?;
-    assert_eq!(rt; outcomes.len(), plain.len());
+    expect_same(rt, &outcomes.len(), &plain.len());
     for ((told, tries), (want, _)) in outcomes.iter().zip(&plain) {
-        assert_eq!(rt; told.as_slice(), want.as_slice());
+        expect_same(rt, &told.as_slice(), &want.as_slice());
         count = count
             .saturating_add(told.len() as u64)
             .saturating_add(*tries);
@@ -97,14 +98,14 @@ fn changes_made_at_once_come_back(rt: HostRuntime) -> Result<(), Fail> {
     };
     // The upload 0 was created before these. A third of the rows is refused, and half of the removals.
     let count = count_of(&rt, alloc, &outcomes)?.saturating_add(1);
-    assert_eq!(rt; seen.0.changes, 1 + 3 * (30 + 30 + 10 + 60));
-    assert_eq!(rt; (seen.0.uploads, seen.0.bytes), (61, 300));
-    assert_eq!(rt; (tally.counts(), logs.count), ([0, 0, 0], count));
+    expect_same(&rt, &seen.0.changes, &(1 + 3 * (30 + 30 + 10 + 60)));
+    expect_same(&rt, &(seen.0.uploads, seen.0.bytes), &(61, 300));
+    expect_same(&rt, &(tally.counts(), logs.count), &([0, 0, 0], count));
     let (entries, file) = count_in(alloc, logs.changes.into_device())?;
-    assert_eq!(rt; entries, count);
+    expect_same(&rt, &entries, &count);
     let disks = (file, logs.voids.into_device());
     let (again, logs) = restored(&rt, alloc, disks)?;
-    assert_eq!(rt; (again.0, logs.count), (seen.0, count));
-    assert_eq!(rt; again.1.as_slice(), seen.1.as_slice());
+    expect_same(&rt, &(again.0, logs.count), &(seen.0, count));
+    expect_same(&rt, &again.1.as_slice(), &seen.1.as_slice());
     Ok(())
 }

@@ -2,6 +2,7 @@
 use super::disks::file_of;
 use super::running::{Job, Seen, plainly, restored};
 use crate::logs::{Row, What, read};
+use crate::same::expect_same;
 use sqlite_disk::Memory;
 use std::alloc::Global;
 use std::process::Abort;
@@ -46,7 +47,7 @@ fn hold<R: Wait + Abort>(
     );
     let (seen, logs) = restored(rt, alloc, disks)?;
     assert!(rt; seen == standing(rt, alloc, rows)?, "{places:?}");
-    assert_eq!(rt; logs.count, 4);
+    expect_same(rt, &logs.count, &4);
     let mut voids = logs.voids;
     voids.add(alloc, more.0)?;
     let disks = (logs.changes.into_device(), voids.into_device());
