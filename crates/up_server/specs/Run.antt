@@ -9,7 +9,7 @@ use Rattle.up_queue.specs.EndViews.{QueueId}
 use Rattle.up_server.specs.Reported.{IsBrokenOff, IsReportOf, IsWritten, any_stopped}
 use Rattle.up_server.specs.ReportText.{report_text}
 use Rattle.up_server.specs.Seats.{IsServedFrom}
-use Rattle.up_server.specs.declared.running.Served.{Served}
+use Rattle.up_server.specs.declared.served.Served.{Served}
 use Rattle.up_server.specs.declared.server_fault.ServerFault.{ServerFault}
 use Rattle.up_server.specs.declared.server_fault.ServerFault.TheVariants as Fault
 use Rattle.up_wire.specs.Device.{Device}

@@ -13,6 +13,7 @@ mod report;
 mod run_outcome;
 mod runner;
 mod running;
+mod served;
 mod server_fault;
 mod serving;
 mod shown;

@@ -5,7 +5,7 @@ ghost use Rattle.up_server.specs.Reported.{IsOutcomeOfText, any_stopped, is_stop
 ghost use Rattle.up_server.specs.Run.{IsReported};
 
 use crate::report::write_report;
-use crate::running::Served;
+use crate::served::Served;
 use crate::server_fault::ServerFault;
 use crate::shown::Shown;
 use up_dispatch::{Ended, LaneReport, Report};

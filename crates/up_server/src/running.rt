@@ -10,13 +10,12 @@ use crate::beside::run_beside;
 use crate::boards;
 use crate::hooks::Hooks;
 use crate::runner::{Nobody, Runner};
+use crate::served::Served;
 use std::alloc::{AllocError, Global};
 use std::marker::{Send, Sync};
 use std::sync::Wait;
 use std::thread::Threads;
-use up_dispatch::{
-    Board, BoardParts, Counting, Ended, Exchange, Naming, Report, Seat, converse_at,
-};
+use up_dispatch::{Board, BoardParts, Counting, Ended, Exchange, Naming, Seat, converse_at};
 use up_events::NoMemory;
 use up_hooks::{PostHook, PreHooks};
 use up_lanes::{Lane, LaneEnd};
@@ -29,13 +28,6 @@ struct Driven<B: Naming, H: PostHook> {
     ended: Ended,
     seats: Vec<Seat<B>>,
     lanes: Vec<LaneEnd<H>>,
-}
-
-/// What came of a run: the report, and how its conversation ended.
-#[derive(Drop)]
-pub struct Served<H> {
-    pub report: Report<H>,
-    pub ended: Ended,
 }
 
 /// An exchange over these.

@@ -5,11 +5,12 @@ ghost use Rattle.up_hooks.specs.declared.recorder.Recorder.{Recorder};
 ghost use Rattle.up_queue.specs.EndViews.{QueueId};
 ghost use Rattle.up_wire.specs.Device.{Device};
 ghost use Rattle.up_server.specs.Run.{IsServedRun, IsReported};
-ghost use Rattle.up_server.specs.declared.running.Served.{Served};
+ghost use Rattle.up_server.specs.declared.served.Served.{Served};
 
 use crate::hooks::Hooks;
 use crate::run_outcome::run_outcome;
-use crate::running::{Served, run};
+use crate::running::run;
+use crate::served::Served;
 use crate::server_fault::ServerFault;
 use std::alloc::Global;
 use std::marker::{Brand, Sync};
