@@ -24,7 +24,7 @@ TOP = pathlib.Path(ROOT)
 CRATES = TOP / "crates"
 
 # Crates that have no table of modules: programs that try others, tests, and the texts for these.
-UNLISTED = {"up_test_text", "up_example", "up_test_refusals", "up_test_rows", "up_test_talks", "up_test_data"}
+UNLISTED = {"up_example", "up_test_data"}
 
 # Files of definitions that docs/ARCHITECTURE.md names together, since no public contract shows their content.
 HIDDEN = {"Kept", "Fits", "Stored", "Padded", "Inside", "Steps", "Shapes", "StateCode", "BoardViewCode", "TiedCode", "LawfulOnce"}

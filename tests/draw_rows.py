@@ -5,7 +5,7 @@ result.
     tests/draw_rows.py [--seed N] [--drawn N]
     tests/draw_rows.py --hold FILE
 
-The rows are printed in the form that crates/up_test_rows reads. Without options they are
+The rows are printed in the form that up_test_data reads (crates/up_test_data/src/rows.rt). Without options they are
 crates/up_test_data/data/drawn.rows. The expected results come from the plain reader of tests/messages.py, which takes a
 whole input at once, line by line, and knows nothing of the server's code. With --hold the script compares the rows of a
 file that read messages with this reader, and prints those that the reader reads in another way.

@@ -3,10 +3,10 @@
 
     tests/draw_talks.py [--seed N] [--talks N] [--messages N] [--count]
 
-The conversations are printed in the form that crates/up_test_talks reads. Without options they are
-crates/up_test_data/data/drawn.talks. The expected results come from a plain model of the server (tests/model.py), which
-knows nothing of the server's code. With --count the script reports on standard error how often each kind of answer was
-drawn, and exits with status 1 if a kind was never drawn.
+The conversations are printed in the form that up_test_data reads (crates/up_test_data/src/talks.rt). Without options
+they are crates/up_test_data/data/drawn.talks. The expected results come from a plain model of the server
+(tests/model.py), which knows nothing of the server's code. With --count the script reports on standard error how often
+each kind of answer was drawn, and exits with status 1 if a kind was never drawn.
 """
 import argparse
 import base64

@@ -22,8 +22,8 @@ then those after which no id was taken, then those after which an id was taken. 
 conversation, and the id of the next creation shows which of the other two it was. No request of a lane is answered by a
 503.
 
-In the last case `up_test_data` (crates/up_test_data) replaces `up`. It makes the calls of crates/up_test_refusals, and
-prints for each the state before it, its result, and the state after it. If no request is refused, that is the end of
+In the last case `up_test_data` (crates/up_test_data/src/calls.rt) replaces `up`. It makes calls, and prints for each
+the state before it, its result, and the state after it. If no request is refused, that is the end of
 its stored `stdout`. If requests are refused (one, four in a row, or all from some request on), it is still the same, with additional calls that
 ran out of memory: each of these comes before the same call as it is stored, and leaves the state as it was. The program
 may end there, with status 1 and `out of memory`.

@@ -1,5 +1,5 @@
 //! Running the lanes of a board's queues while something else is done.
-ghost use Rattle.std.specs.Prelude.{◌≡◌, All, [], IfOk, length};
+ghost use Rattle.std.specs.Prelude.{◌≡◌, ◌∷◌, All, [], IfOk, length};
 ghost use Rattle.up_dispatch.specs.Lists.{EachAt};
 ghost use Rattle.up_dispatch.specs.Parts.{IsNamed};
 
@@ -51,6 +51,16 @@ fn lanes_of<B: Naming, H: PostHook + Drop>(
     (Lane::new(0, even, hooks.0), Lane::new(1, odd, hooks.1))
 }
 
+/// A list of these two values, in this order.
+pub fn list_of<T: Drop>(alloc: Global, first: T, second: T) -> Result<Vec<T>, AllocError>
+    ensures { IfOk result (λ v. v.items ≡ first ∷ second ∷ []) }
+{
+    let mut list = Vec::new(alloc);
+    list.push(first)?;
+    list.push(second)?;
+    Ok(list)
+}
+
 /// A new board with these parts, which have two queues, and a lane with a post-hook for each queue. The board keeps the
 /// accepted changes if `keeps`, and otherwise counts them.
 pub fn open_board<B: Naming, H: PostHook + Drop>(
@@ -68,10 +78,7 @@ pub fn open_board<B: Naming, H: PostHook + Drop>(
 {
     let (board, takes) = new_board::<B>(alloc, parts, keeps)?;
     let (even, odd) = lanes_of::<B, H>(takes, hooks);
-    let mut lanes = Vec::new(alloc);
-    lanes.push(even)?;
-    lanes.push(odd)?;
-    Ok((board, lanes))
+    Ok((board, list_of(alloc, even, odd)?))
 }
 
 /// Runs each lane of a board to its end, in a thread of its own. The lanes call `refill`, which is the board itself or
@@ -105,20 +112,20 @@ pub fn run_beside<
     H: PostHook + Drop,
     R: Threads + Wait + Sync,
     L: Refill,
-    F: FnOnce() -> T + Send,
-    T: Send,
+    F: FnOnce() -> Result<T, Fail> + Send,
+    T: Send + Drop,
 >(
     rt: &R,
     board: &Board<B>,
     refill: &L,
     lanes: Vec<Lane<H>>,
     work: F,
-) -> (T, Result<Vec<LaneEnd<H>>, AllocError>)
+) -> Result<(T, Vec<LaneEnd<H>>), Fail>
     requires callable { F.pre work }
     requires own { All (λ l. l.queue ≡ B.queue l.lane) lanes.items }
-    ensures own { IfOk result.1 (λ v. All (λ e. e.take_end.queue ≡ B.queue e.lane) v.items) }
+    ensures own { IfOk result (λ r. All (λ e. e.take_end.queue ≡ B.queue e.lane) r.1.items) }
 {
-    thread::join(
+    let (done, ends) = thread::join(
         rt,
         ||
             requires { F.pre work }
@@ -131,7 +138,8 @@ pub fn run_beside<
             requires { All (λ l. l.queue ≡ B.queue l.lane) lanes.items }
             ensures { IfOk result (λ v. All (λ e. e.take_end.queue ≡ B.queue e.lane) v.items) }
         { run_each(rt, board, refill, lanes) },
-    )
+    );
+    Ok((done?, ends?))
 }
 
 /// The report of a board that is finished with all of its lanes, and with the seats from which it was changed.
@@ -147,4 +155,18 @@ pub fn finished<B: Naming, H: PostHook + Drop>(
         Ok(report) => Ok(report),
         Err(_) => Err("all are back".into()),
     }
+}
+
+/// The report of such a board that was changed from one seat.
+pub fn finished_from<B: Naming, H: PostHook + Drop>(
+    alloc: Global,
+    board: Board<B>,
+    seat: Seat<B>,
+    ends: Vec<LaneEnd<H>>,
+) -> Result<Report<H>, Fail>
+    requires own { All (λ e. e.take_end.queue ≡ B.queue e.lane) ends.items }
+{
+    let mut seats = Vec::new(alloc);
+    seats.push(seat)?;
+    finished(alloc, board, seats, ends)
 }

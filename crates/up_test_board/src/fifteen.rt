@@ -5,7 +5,7 @@ ghost use Rattle.up_dispatch.specs.Parts.{IsNamed};
 ghost use Rattle.up_events.specs.declared.limits.TheConstants.{MAX_UPLOAD_BYTES};
 ghost use Rattle.up_headers.specs.Table.{FitsWithin};
 
-use crate::beside::{finished, open_board, run_each};
+use crate::beside::{finished_from, open_board, run_each};
 use crate::requests::{append, creation};
 use crate::same::expect_same;
 use std::alloc::Global;
@@ -152,9 +152,7 @@ fn crowded<B: Naming + Send + Sync, H: PostHook + Drop, R: Threads + Wait + Abor
     board.close(rt);
     board.close(rt);
     let ends = run_each(rt, &board, &board, lanes)?;
-    let mut seats = Vec::new(alloc);
-    seats.push(seat)?;
-    finished(alloc, board, seats, ends)
+    finished_from(alloc, board, seat, ends)
 }
 
 /// Checks that a lane is drained, and that its post-hook was handed these events and returned `Done` for each.

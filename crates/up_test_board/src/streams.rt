@@ -46,7 +46,7 @@ static WAITING: &str =
     Content-Type: application/offset+octet-stream\r\nUpload-Offset: 0\r\nContent-Length: 3\r\n\
     Expect: 100-continue\r\n\r\nabc";
 
-const CONTINUE: &str = "HTTP/1.1 100 Continue\r\n\r\n";
+static CONTINUE: &str = "HTTP/1.1 100 Continue\r\n\r\n";
 
 static NOT_FOUND: &str =
     "HTTP/1.1 404 Not Found\r\nTus-Resumable: 1.0.0\r\nCache-Control: no-store\r\n\
@@ -132,24 +132,66 @@ fn serves_what_came_before_any_break(rt: HostRuntime) -> Result<(), Fail> {
     )
 }
 
+/// What is left if a write fails once this number of bytes is written.
+fn left_after(count: usize) -> Left {
+    match count {
+        0..=140 => (Ended::WriteFailed, 1, Some(0)),
+        141..=233 => (Ended::WriteFailed, 2, Some(11)),
+        _ => SERVED,
+    }
+}
+
+/// Checks what is written, and what is left, if there is only room for these replies.
+fn hold_room(rt: &impl Abort, alloc: Global, replies: &[u8]) -> Result<(), Fail> {
+    let room = replies.len();
+    let mut sink = Slip::new(alloc, room, 0)?;
+    let left = serve(alloc, &mut Tape::new(INPUT.as_bytes(), 0, false), &mut sink)?;
+    expect_same(
+        rt,
+        &(room, left, sink.bytes()),
+        &(room, left_after(room), replies),
+    );
+    Ok(())
+}
+
 #[test]
 fn stops_at_any_write_that_fails(rt: HostRuntime) -> Result<(), Fail> {
     let replies = format!(in rt.alloc(); "{CREATED}{REACHED}")?;
     expect_same(&rt, &(CREATED.len(), replies.len()), &(141, 234));
     for room in 0..235usize {
-        let wanted = match room {
-            0..=140 => (Ended::WriteFailed, 1, Some(0)),
-            141..=233 => (Ended::WriteFailed, 2, Some(11)),
-            _ => SERVED,
-        };
-        let mut sink = Slip::new(rt.alloc(), room, 0)?;
-        let mut source = Tape::new(INPUT.as_bytes(), 0, false);
-        let left = serve(rt.alloc(), &mut source, &mut sink)?;
-        expect_same(
-            &rt,
-            &(room, left, sink.bytes()),
-            &(room, wanted, &replies.as_bytes()[..room]),
-        );
+        hold_room(&rt, rt.alloc(), &replies.as_bytes()[..room])?;
+    }
+    Ok(())
+}
+
+/// How often each read and each write is interrupted, whether the replies are written, and what is left.
+type Row = (u64, u64, bool, Left);
+
+static INTERRUPTED: [Row; 5] = [
+    (999, 0, true, SERVED),
+    (1_000, 0, false, (Ended::ReadFailed, 0, None)),
+    (0, 999, true, SERVED),
+    (0, 1_000, false, (Ended::WriteFailed, 1, Some(0))),
+    (999, 999, true, SERVED),
+];
+
+static INTERRUPTED_WHILE_WAITING: [Row; 2] = [
+    (500, 499, true, (Ended::Closed, 0, None)),
+    (500, 500, false, (Ended::WriteFailed, 0, None)),
+];
+
+/// Serves the input once for each row, and checks the replies, or that there is none, and what is left.
+fn hold_rows(
+    rt: &impl Abort,
+    alloc: Global,
+    input: &str,
+    replies: [&str; 2],
+    rows: &[Row],
+) -> Result<(), Fail> {
+    for (reads, writes, are_written, left) in rows {
+        let replies = if *are_written { replies } else { ["", ""] };
+        let mut source = Tape::new(input.as_bytes(), *reads, false);
+        hold(rt, alloc, &mut source, *writes, (replies, *left), *reads)?;
     }
     Ok(())
 }
@@ -157,20 +199,8 @@ fn stops_at_any_write_that_fails(rt: HostRuntime) -> Result<(), Fail> {
 #[test]
 fn counts_the_interruptions_of_each_call(rt: HostRuntime) -> Result<(), Fail> {
     let (both, told) = ([CREATED, REACHED], [CONTINUE, NOT_FOUND]);
-    for (input, reads, writes, replies, left) in [
-        (INPUT, 999, 0, both, SERVED),
-        (INPUT, 1_000, 0, ["", ""], (Ended::ReadFailed, 0, None)),
-        (INPUT, 0, 999, both, SERVED),
-        (INPUT, 0, 1_000, ["", ""], (Ended::WriteFailed, 1, Some(0))),
-        (INPUT, 999, 999, both, SERVED),
-        (WAITING, 500, 499, told, (Ended::Closed, 0, None)),
-        (WAITING, 500, 500, ["", ""], (Ended::WriteFailed, 0, None)),
-    ] {
-        let mut source = Tape::new(input.as_bytes(), reads, false);
-        let wanted = (replies, left);
-        hold(&rt, rt.alloc(), &mut source, writes, wanted, reads)?;
-    }
-    Ok(())
+    hold_rows(&rt, rt.alloc(), INPUT, both, &INTERRUPTED)?;
+    hold_rows(&rt, rt.alloc(), WAITING, told, &INTERRUPTED_WHILE_WAITING)
 }
 
 /// A reader that returns one byte per call.
@@ -190,17 +220,18 @@ impl<'a> Read for Dripping<'a> {
     }
 }
 
+/// Serves the input from three sources, of which the last returns one byte per call.
+fn hold_each(rt: &impl Abort, alloc: Global, input: &str, wanted: Wanted) -> Result<(), Fail> {
+    let bytes = input.as_bytes();
+    hold(rt, alloc, &mut Tape::new(bytes, 0, false), 0, wanted, 1)?;
+    hold(rt, alloc, &mut Input::new(bytes), 0, wanted, 2)?;
+    let mut drops = Input::new(BufReader::new(alloc, Dripping { bytes })?);
+    hold(rt, alloc, &mut drops, 0, wanted, 3)
+}
+
 #[test]
 fn takes_one_byte_at_a_time_as_all_at_once(rt: HostRuntime) -> Result<(), Fail> {
-    for input in [INPUT, IN_CHUNKS] {
-        let wanted = ([CREATED, REACHED], SERVED);
-        let mut bytes = Tape::new(input.as_bytes(), 0, false);
-        hold(&rt, rt.alloc(), &mut bytes, 0, wanted, 1)?;
-        let mut whole = Input::new(input.as_bytes());
-        hold(&rt, rt.alloc(), &mut whole, 0, wanted, 2)?;
-        let bytes = input.as_bytes();
-        let mut drops = Input::new(BufReader::new(rt.alloc(), Dripping { bytes })?);
-        hold(&rt, rt.alloc(), &mut drops, 0, wanted, 3)?;
-    }
-    Ok(())
+    let wanted = ([CREATED, REACHED], SERVED);
+    hold_each(&rt, rt.alloc(), INPUT, wanted)?;
+    hold_each(&rt, rt.alloc(), IN_CHUNKS, wanted)
 }

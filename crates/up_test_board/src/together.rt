@@ -2,7 +2,7 @@
 ghost use Rattle.std.specs.Prelude.{◌≡◌, [], length};
 ghost use Rattle.up_dispatch.specs.Parts.{IsNamed};
 
-use crate::beside::{finished, open_board, run_beside};
+use crate::beside::{finished, list_of, open_board, run_beside};
 use crate::requests;
 use crate::same::expect_same;
 use std::alloc::Global;
@@ -114,13 +114,21 @@ fn seats_of<B: Naming, R: Wait>(
     ) else {
         return Err("three seats".into());
     };
+    let others = list_of(alloc, first, second)?;
     for upload in 0..UPLOADS {
         make(rt, alloc, board, &mut maker, Id::new(upload as u128));
     }
-    let mut seats = Vec::new(alloc);
-    seats.push(first)?;
-    seats.push(second)?;
-    Ok((maker, seats))
+    Ok((maker, others))
+}
+
+/// Makes the changes from each seat, in a thread of its own.
+fn change_each<B: Naming + Send + Sync, R: Threads + Wait + Sync>(
+    rt: &R,
+    alloc: Global,
+    board: &Board<B>,
+    seats: Vec<Seat<B>>,
+) -> Result<Vec<Seat<B>>, Fail> {
+    Ok(thread::map_vec(rt, seats, &|seat| change(rt, alloc, board, seat))?)
 }
 
 /// The report of a board of two lanes whose uploads are changed from two seats at once.
@@ -140,14 +148,13 @@ fn changed_at_once<B: Naming + Send + Sync, H: PostHook + Drop, R: Threads + Wai
     let (board, lanes) = open_board::<B, _>(alloc, parts, hooks, keeps)?;
     let (maker, others) = seats_of(rt, alloc, &board)?;
     let shared = &board;
-    let (seats, ends) = run_beside(
+    let (mut seats, ends) = run_beside(
         rt,
         shared,
         shared,
         lanes,
-        || thread::map_vec(rt, others, &|seat| change(rt, alloc, shared, seat)),
-    );
-    let (mut seats, ends) = (seats?, ends?);
+        || change_each(rt, alloc, shared, others),
+    )?;
     seats.push(maker)?;
     finished(alloc, board, seats, ends)
 }

@@ -5,7 +5,7 @@ ghost use Rattle.std.specs.Prelude.{◌≡◌, IsTrue, [], length};
 ghost use Rattle.up_dispatch.specs.Parts.{IsNamed};
 ghost use Rattle.up_hooks.specs.Verdicts.{is_allowed_verdict};
 
-use crate::beside::{finished, open_board, run_beside};
+use crate::beside::{finished_from, open_board, run_beside};
 use crate::conversations::talk;
 use crate::same::expect_same;
 use std::alloc::{AllocError, Global};
@@ -15,7 +15,7 @@ use std::sync::Wait;
 use std::test::Fail;
 use std::thread::Threads;
 use up_dispatch::{Board, BoardParts, Counting, Ended, Lent, Naming, Report, Seat, Seated};
-use up_events::{Changes, Event};
+use up_events::{Accepted, Changes, Event};
 use up_hooks::{Outcome, PostHook, PreHook, PreHooks, Recorder};
 use up_machine::{Ask, Book, Point, Reason, Verdict};
 
@@ -79,18 +79,18 @@ static RULED: &str =
 /// How a conversation ended, and what was written.
 type Told = (Ended, Vec<u8>);
 
-/// Serves the conversation from a seat of the board. `None` if it has none.
+/// Serves the conversation from a seat of the board.
 fn told_from<B: Naming, R: Wait>(
     rt: &R,
     alloc: Global,
     board: &Board<B>,
     hooks: &PreHooks,
     asked: &[u8],
-) -> Option<(Seat<B>, Told)> {
-    let mut seat = board.seat(rt)?;
+) -> Result<(Seat<B>, Told), Fail> {
+    let mut seat = board.seat(rt).ok_or("a seat")?;
     let mut keeper = Seated::new(rt, board, &mut seat);
     let told = talk(alloc, &mut keeper, hooks, &mut Counting::new(), asked);
-    Some((seat, told))
+    Ok((seat, told))
 }
 
 /// Serves the conversation from a seat of a new board whose two lanes run meanwhile.
@@ -111,20 +111,14 @@ fn on_board<B: Naming + Send + Sync, H: PostHook + Drop, R: Threads + Wait + Abo
 {
     let (board, lanes) = open_board::<B, _>(alloc, parts, recorders, keeps)?;
     let shared = &board;
-    let (outcome, ends) = run_beside(
+    let ((seat, told), ends) = run_beside(
         rt,
         shared,
         shared,
         lanes,
         || told_from(rt, alloc, shared, hooks, asked),
-    );
-    let ends = ends?;
-    let Some((seat, told)) = outcome else {
-        return Err("a seat".into());
-    };
-    let mut seats = Vec::new(alloc);
-    seats.push(seat)?;
-    Ok((finished(alloc, board, seats, ends)?, told))
+    )?;
+    Ok((finished_from(alloc, board, seat, ends)?, told))
 }
 
 /// Serves the conversation with a new board of two lanes, and returns its end and output, and the accepted changes.
@@ -142,6 +136,24 @@ fn reported<R: Threads + Wait + Abort + Sync>(
     Ok((told, report.accepted))
 }
 
+/// Checks that a board gives the responses that the book gave to a conversation, and that it accepts this number of
+/// changes. The board keeps its changes if a list of them is given, and otherwise counts them.
+fn hold_board<R: Threads + Wait + Abort + Sync>(
+    rt: &R,
+    alloc: Global,
+    hooks: &PreHooks,
+    asked: &[u8],
+    by_book: &Told,
+    list: Option<&[Accepted]>,
+    count: u64,
+) -> Result<(), Fail> {
+    let (by_board, accepted) = reported(rt, alloc, hooks, asked, list.is_some())?;
+    expect_same(rt, &by_board, by_book);
+    expect_same(rt, &accepted.list(), &list);
+    expect_same(rt, &accepted.len(), &count);
+    Ok(())
+}
+
 /// Checks that a book alone and boards of both kinds give the same responses to a conversation, and accept the same
 /// changes, of which the number is given. The board that keeps its changes has the same list as the book. The other
 /// board has no list, so only the number is compared.
@@ -153,18 +165,11 @@ fn hold<R: Threads + Wait + Abort + Sync>(
     count: u64,
 ) -> Result<(), Fail> {
     let mut book = Book::new(alloc, 2, 1_048_576)?;
-    let by_book = talked(alloc, &mut book, hooks, asked.as_bytes());
-    for keeps in [true, false] {
-        let (by_board, accepted) = reported(rt, alloc, hooks, asked.as_bytes(), keeps)?;
-        expect_same(rt, &by_board, &by_book);
-        expect_same(
-            rt,
-            &accepted.list(),
-            &keeps.then_some(book.journal().accepted()),
-        );
-        expect_same(rt, &accepted.len(), &count);
-    }
-    Ok(())
+    let asked = asked.as_bytes();
+    let by_book = talked(alloc, &mut book, hooks, asked);
+    let list = Some(book.journal().accepted());
+    hold_board(rt, alloc, hooks, asked, &by_book, list, count)?;
+    hold_board(rt, alloc, hooks, asked, &by_book, None, count)
 }
 
 /// Serves the conversation with the book alone.

@@ -2,7 +2,7 @@
 ghost use Rattle.std.specs.Prelude.{◌≡◌, All, [], IfOk, length};
 ghost use Rattle.up_dispatch.specs.Parts.{IsNamed};
 
-use crate::beside::{finished, open_board, run_beside, run_each};
+use crate::beside::{finished, list_of, open_board, run_beside, run_each};
 use crate::board::{makes, seats_left};
 use crate::fifteen::status_of;
 use crate::requests::append;
@@ -20,7 +20,7 @@ use up_dispatch::{
 };
 use up_events::{Event, Id};
 use up_hooks::{Outcome, PostHook, Recorder};
-use up_lanes::{How, LaneEnd, Refill};
+use up_lanes::{How, Lane, LaneEnd, Refill};
 
 /// A board as its lanes see it, and how often they fell asleep and woke.
 #[derive(Drop)]
@@ -114,6 +114,63 @@ fn wakes<B: Naming, R: Wait + Abort>(
     Ok(seat)
 }
 
+/// A board that is returned because a seat is out.
+fn returned<B: Naming, H: PostHook + Drop, R: Abort>(
+    rt: &R,
+    alloc: Global,
+    board: Board<B>,
+) -> Result<Board<B>, Fail> {
+    let ends: Vec<LaneEnd<H>> = Vec::new(alloc);
+    let Unfinished { board, .. } = refused(
+        rt,
+        alloc,
+        board,
+        Vec::new(alloc),
+        ends,
+        FinishFault::SeatsOut,
+    )?;
+    Ok(board)
+}
+
+/// The report of a board of which two seats were taken, once they and all of its lanes are back.
+fn both_back<B: Naming, H: PostHook + Drop, R: Wait + Abort>(
+    rt: &R,
+    alloc: Global,
+    board: Board<B>,
+    first: Seat<B>,
+    second: Seat<B>,
+    ends: Vec<LaneEnd<H>>,
+) -> Result<Report<H>, Fail>
+    requires own { All (λ e. e.take_end.queue ≡ B.queue e.lane) ends.items }
+{
+    expect_same(rt, &seats_left(rt, &board), &65_534);
+    let seats = list_of(alloc, first, second)?;
+    finished(alloc, board, seats, ends)
+}
+
+/// The report of a board with one seat out, whose lanes run until they were woken by a change from another seat.
+fn woken<B: Naming + Send + Sync, H: PostHook + Drop, R: Threads + Wait + Abort + Sync>(
+    rt: &R,
+    alloc: Global,
+    board: Board<B>,
+    first: Seat<B>,
+    lanes: Vec<Lane<H>>,
+) -> Result<Report<H>, Fail>
+    requires own { All (λ l. l.queue ≡ B.queue l.lane) lanes.items }
+{
+    let second = board.seat(rt).ok_or("another seat")?;
+    let watched = Watched::new(board);
+    let shared = &watched;
+    let (second, ends) = run_beside(
+        rt,
+        &shared.board,
+        shared,
+        lanes,
+        || wakes(rt, alloc, shared, second),
+    )?;
+    both_back(rt, alloc, watched.board, first, second, ends)
+}
+
 /// The report of a board that was returned once, after an upload of one byte was created, and whose lanes have run
 /// since.
 fn came_back<B: Naming + Send + Sync, H: PostHook + Drop, R: Threads + Wait + Abort + Sync>(
@@ -129,38 +186,10 @@ fn came_back<B: Naming + Send + Sync, H: PostHook + Drop, R: Threads + Wait + Ab
     requires second { H.is_sound hooks.1 × (H.handed hooks.1 ≡ []) }
 {
     let (board, lanes) = open_board::<B, H>(alloc, parts, hooks, true)?;
-    let Some(mut first) = board.seat(rt) else {
-        return Err("a seat".into());
-    };
+    let mut first = board.seat(rt).ok_or("a seat")?;
     expect_same(rt, &makes(rt, alloc, &board, &mut first, 1, 1), &None);
-    let none: Vec<LaneEnd<H>> = Vec::new(alloc);
-    let Unfinished { board, .. } = refused(
-        rt,
-        alloc,
-        board,
-        Vec::new(alloc),
-        none,
-        FinishFault::SeatsOut,
-    )?;
-    let Some(second) = board.seat(rt) else {
-        return Err("another seat".into());
-    };
-    let watched = Watched::new(board);
-    let shared = &watched;
-    let (second, ends) = run_beside(
-        rt,
-        &shared.board,
-        shared,
-        lanes,
-        || wakes(rt, alloc, shared, second),
-    );
-    let (second, ends) = (second?, ends?);
-    let Watched { board, .. } = watched;
-    expect_same(rt, &seats_left(rt, &board), &65_534);
-    let mut seats = Vec::new(alloc);
-    seats.push(first)?;
-    seats.push(second)?;
-    finished(alloc, board, seats, ends)
+    let board = returned::<B, H, R>(rt, alloc, board)?;
+    woken(rt, alloc, board, first, lanes)
 }
 
 /// The lane, how it ended, the number of events left, and the number handed over.
@@ -234,6 +263,22 @@ fn two_seats<B: Naming, H: PostHook + Drop, R: Abort>(
     two_lanes(rt, alloc, back.board, back.seats, back.lanes)
 }
 
+/// Two seats of the board from each of which an upload of one byte was created: the second, and a list of the first.
+fn makers<B: Naming, R: Wait + Abort>(
+    rt: &R,
+    alloc: Global,
+    board: &Board<B>,
+) -> Result<(Seat<B>, Vec<Seat<B>>), Fail> {
+    let (Some(mut first), Some(mut second)) = (board.seat(rt), board.seat(rt)) else {
+        return Err("two seats".into());
+    };
+    expect_same(rt, &makes(rt, alloc, board, &mut first, 1, 1), &None);
+    expect_same(rt, &makes(rt, alloc, board, &mut second, 2, 1), &None);
+    let mut seats = Vec::new(alloc);
+    seats.push(first)?;
+    Ok((second, seats))
+}
+
 /// That report if the lanes run after the board was closed.
 fn each_missing<B: Naming + Send + Sync, H: PostHook + Drop, R: Threads + Wait + Abort + Sync>(
     rt: &R,
@@ -248,15 +293,9 @@ fn each_missing<B: Naming + Send + Sync, H: PostHook + Drop, R: Threads + Wait +
     requires second { H.is_sound hooks.1 × (H.handed hooks.1 ≡ []) }
 {
     let (board, lanes) = open_board::<B, _>(alloc, parts, hooks, true)?;
-    let (Some(mut first), Some(mut second)) = (board.seat(rt), board.seat(rt)) else {
-        return Err("two seats".into());
-    };
-    expect_same(rt, &makes(rt, alloc, &board, &mut first, 1, 1), &None);
-    expect_same(rt, &makes(rt, alloc, &board, &mut second, 2, 1), &None);
+    let (second, seats) = makers(rt, alloc, &board)?;
     board.close(rt);
     let ends = run_each(rt, &board, &board, lanes)?;
-    let mut seats = Vec::new(alloc);
-    seats.push(first)?;
     two_seats(rt, alloc, board, second, seats, ends)
 }
 

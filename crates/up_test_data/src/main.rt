@@ -1,14 +1,23 @@
 //! Compares the crates with expected results that are data. Each word of the command line is the name of a file, whose
 //! ending says what it has:
 //!
-//! - `.rows`: messages, responses, requests, courses of requests and command lines (`up_test_rows`);
-//! - `.talks`: whole conversations with the server (`up_test_talks`);
-//! - `.calls`: calls whose state is printed, and which may be refused memory (`up_test_refusals`).
+//! - `.rows`: messages, responses, requests, courses of requests and command lines (`rows.rt`);
+//! - `.talks`: whole conversations with the server (`talks.rt`);
+//! - `.calls`: calls whose state is printed, and which may be refused memory (`calls.rt`).
 //!
-//! The files are read in the order of the words, and each crate says what is printed of them. If a file cannot be read
-//! or has another ending, or if a crate's call ends with an error, that is said on standard error, and the status is 1.
+//! The files are read in the order of the words, and each of these modules says what is printed of them. If a file
+//! cannot be read or has another ending, or if a module's call ends with an error, that is said on standard error, and
+//! the status is 1.
 #![tactic(auto)]
 
+mod calls;
+mod rows;
+mod talks;
+mod text;
+
+use crate::calls::call_all;
+use crate::rows::hold_rows;
+use crate::talks::hold_talks;
 use std::env::{self, Env};
 use std::fs::{self, Files};
 use std::io::{self, ErrorKind};
@@ -16,9 +25,6 @@ use std::marker::Sync;
 use std::process::ExitCode;
 use std::sync::Wait;
 use std::thread::Threads;
-use up_test_refusals::call_all;
-use up_test_rows::hold_rows;
-use up_test_talks::hold_talks;
 
 /// Reads a file, and compares what it has.
 fn hold_file(

@@ -1,12 +1,12 @@
 //! Clients that use sockets of this machine.
 use std::alloc::Global;
 use std::io::{Read, Write};
-use std::net::{Shutdown, SocketAddr, TcpStream};
+use std::net::{Shutdown, SocketAddr, TcpListener, TcpStream};
 use std::process::Abort;
 use std::test::Fail;
 
 /// Connects, sends the request, and sends no more. The response can then be read.
-pub fn ask(rt: &HostRuntime, address: SocketAddr, asked: &[u8]) -> Result<TcpStream, Fail> {
+fn ask(rt: &HostRuntime, address: SocketAddr, asked: &[u8]) -> Result<TcpStream, Fail> {
     let mut stream = TcpStream::connect(rt, address)?;
     stream.write_all(asked)?;
     stream.shutdown(Shutdown::Write)?;
@@ -14,7 +14,7 @@ pub fn ask(rt: &HostRuntime, address: SocketAddr, asked: &[u8]) -> Result<TcpStr
 }
 
 /// Connects once for each request, and sends it.
-pub fn ask_each(
+fn ask_each(
     rt: &HostRuntime,
     address: SocketAddr,
     requests: &[&[u8]],
@@ -26,8 +26,15 @@ pub fn ask_each(
     Ok(clients)
 }
 
+/// A new listener, and the connections on which these requests were sent to it, each on one of its own.
+pub fn listen(rt: &HostRuntime, requests: &[&[u8]]) -> Result<(TcpListener, Vec<TcpStream>), Fail> {
+    let listener = TcpListener::bind(rt, "127.0.0.1:0")?;
+    let clients = ask_each(rt, listener.local_addr()?, requests)?;
+    Ok((listener, clients))
+}
+
 /// Reads the response to its end, and checks its start and its end.
-pub fn hold_answer(
+fn hold_answer(
     rt: &impl Abort,
     alloc: Global,
     client: &mut TcpStream,
@@ -38,5 +45,19 @@ pub fn hold_answer(
     client.read_to_end(&mut answer)?;
     assert!(rt; answer.starts_with(start));
     assert!(rt; answer.ends_with(end));
+    Ok(())
+}
+
+/// Reads the response on each of the connections to its end, and checks its start and its end.
+pub fn hold_answers(
+    rt: &impl Abort,
+    alloc: Global,
+    clients: &mut [TcpStream],
+    start: &[u8],
+    end: &[u8],
+) -> Result<(), Fail> {
+    for client in clients {
+        hold_answer(rt, alloc, client, start, end)?;
+    }
     Ok(())
 }

@@ -11,13 +11,27 @@ use std::marker::Sync;
 use std::net::TcpListener;
 use std::sync::Wait;
 use std::thread::Threads;
-use up_connections::{Notices, Visits};
+use up_connections::{Notices, Patience, Visits};
 use up_dispatch::{AtOnce, Counting};
 use up_events::Event;
 use up_hooks::{Outcome, PostHook, PreHooks, Recorder, new_recorders};
 use up_server::{Connections, Hooks, ServerFault, serve};
 use up_wire::Output;
 use up_words::Settings;
+
+/// What is to be served: as many connections (`None` sets no limit), with at most `open` of them open at a time.
+/// `notices` is told when none can be let in.
+pub fn visits<N>(connections: Option<u64>, open: u64, notices: &N) -> Visits<'_, N, AtOnce> {
+    Visits {
+        service: &AtOnce,
+        connections,
+        open,
+        patience: Patience::default(),
+        watch: None,
+        ending: None,
+        notices,
+    }
+}
 
 /// The report of a server after its last connection has ended. It has these closures, its post-hooks return the
 /// outcomes of `answer`, and its ids are counted.

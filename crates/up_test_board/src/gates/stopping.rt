@@ -2,7 +2,7 @@
 ghost use Rattle.std.specs.Prelude.{◌≡◌, All, [], IfOk, length};
 ghost use Rattle.up_dispatch.specs.Parts.{IsNamed};
 
-use crate::beside::{finished, open_board, run_beside};
+use crate::beside::{finished_from, open_board, run_beside};
 use crate::fifteen::{answered, events_of_lane_0};
 use crate::lanes::parts::Listing;
 use crate::same::expect_same;
@@ -46,18 +46,19 @@ fn resume_each<B: Naming + Send + Sync, R: Threads + Wait + Sync>(
     )
 }
 
-/// The lanes as they ended, or, if `is_resumed`, as they end after they are resumed.
-fn ends_of<B: Naming + Send + Sync, R: Threads + Wait + Sync>(
+/// The lanes, the first of which stopped, as they ended, or, if `is_resumed`, as they end after they are resumed.
+fn ends_of<B: Naming + Send + Sync, R: Threads + Wait + Abort + Sync>(
     rt: &R,
     board: &Board<B>,
     ends: Vec<LaneEnd<Listing>>,
     is_resumed: bool,
-) -> Result<Vec<LaneEnd<Listing>>, AllocError>
+) -> Result<Vec<LaneEnd<Listing>>, Fail>
     requires own { All (λ e. e.take_end.queue ≡ B.queue e.lane) ends.items }
     ensures own { IfOk result (λ v. All (λ e. e.take_end.queue ≡ B.queue e.lane) v.items) }
 {
+    has_stopped(rt, &ends)?;
     if is_resumed {
-        resume_each(rt, board, ends)
+        Ok(resume_each(rt, board, ends)?)
     } else {
         Ok(ends)
     }
@@ -79,13 +80,9 @@ fn stopped<B: Naming + Send + Sync, R: Threads + Wait + Abort + Sync>(
 {
     let (board, lanes) = open_board::<B, _>(alloc, parts, hooks, true)?;
     let shared = &board;
-    let (seat, ends) = run_beside(rt, shared, shared, lanes, || answered(rt, alloc, shared));
-    let (seat, ends) = (seat?, ends?);
-    has_stopped(rt, &ends)?;
+    let (seat, ends) = run_beside(rt, shared, shared, lanes, || answered(rt, alloc, shared))?;
     let ends = ends_of(rt, &board, ends, is_resumed)?;
-    let mut seats = Vec::new(alloc);
-    seats.push(seat)?;
-    finished(alloc, board, seats, ends)
+    finished_from(alloc, board, seat, ends)
 }
 
 /// That report if the post-hook of lane 0 runs out of memory `refusals` times after two events.

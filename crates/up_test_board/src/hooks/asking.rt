@@ -16,6 +16,9 @@ use up_message::Sequence;
 /// The refusal of a closure: a status and a reason.
 type Refusal = (u16, &'static str);
 
+/// A closure's point and its refusal, if it refuses, and how often it must be called.
+type Row = (Point, Option<Refusal>, u64);
+
 const MISSING: Option<Refusal> = Some((422, "metadata key missing"));
 
 const KEPT: Option<Refusal> = Some((403, "uploads are kept"));
@@ -90,18 +93,17 @@ fn hold_answer(
     Ok(())
 }
 
-/// Checks that closures that refuse in this way, or allow, are called as often as the number after each says, and what
-/// they return together.
-fn hold(
+/// Checks what closures that refuse in this way, or allow, return together. Each counts its calls.
+fn hold_asked(
     rt: &impl Abort,
     alloc: Global,
-    closures: &[(Point, Option<Refusal>, u64)],
+    rows: &[Row],
+    counters: &[Arc<AtomicU64>],
     point: Point,
     wanted: Option<Refusal>,
 ) -> Result<(), Fail> {
-    let counters = new_counters(alloc, closures.len())?;
     let mut hooks = Vec::new(alloc);
-    for ((point, refusal, _), calls) in closures.iter().zip(&counters) {
+    for ((point, refusal, _), calls) in rows.iter().zip(counters) {
         let verdict = verdict_of(*refusal)?;
         let counter = Arc::try_clone(calls)?;
         let judge = Box::new(
@@ -112,90 +114,118 @@ fn hold(
         )?;
         hooks.push(PreHook::new(*point, judge))?;
     }
-    hold_answer(rt, alloc, &PreHooks::new(hooks), point, wanted)?;
-    for ((_, _, times), calls) in closures.iter().zip(&counters) {
+    hold_answer(rt, alloc, &PreHooks::new(hooks), point, wanted)
+}
+
+/// Checks that closures that refuse in this way, or allow, are called as often as the number after each says, and what
+/// they return together.
+fn hold(
+    rt: &impl Abort,
+    alloc: Global,
+    rows: &[Row],
+    point: Point,
+    wanted: Option<Refusal>,
+) -> Result<(), Fail> {
+    let counters = new_counters(alloc, rows.len())?;
+    hold_asked(rt, alloc, rows, &counters, point, wanted)?;
+    for ((_, _, times), calls) in rows.iter().zip(&counters) {
         expect_same(rt, &calls.load(Ordering::SeqCst), times);
     }
     Ok(())
 }
 
+/// Closures of one point, of which the second refuses: the third is not called.
+static FIRST_MISSING: [Row; 3] = [
+    (Point::Create, None, 1),
+    (Point::Create, MISSING, 1),
+    (Point::Create, KEPT, 0),
+];
+
+/// The first refuses: no other is called.
+static FIRST_KEPT: [Row; 3] = [
+    (Point::Create, KEPT, 1),
+    (Point::Create, MISSING, 0),
+    (Point::Create, None, 0),
+];
+
+/// One closure is of the point of a creation, and comes after one of another point.
+static BEHIND_ANOTHER_POINT: [Row; 3] = [
+    (Point::Terminate, KEPT, 0),
+    (Point::Create, MISSING, 1),
+    (Point::Terminate, None, 0),
+];
+
+/// The first that refuses is not of the point of a removal.
+static OF_ANOTHER_POINT: [Row; 3] = [
+    (Point::Create, MISSING, 0),
+    (Point::Terminate, KEPT, 1),
+    (Point::Terminate, MISSING, 0),
+];
+
 #[test]
 fn the_first_that_refuses_decides(rt: HostRuntime) -> Result<(), Fail> {
-    let rows = [
-        (Point::Create, None, 1),
-        (Point::Create, MISSING, 1),
-        (Point::Create, KEPT, 0),
-    ];
-    hold(&rt, rt.alloc(), &rows, Point::Create, MISSING)?;
-    let swapped = [
-        (Point::Create, KEPT, 1),
-        (Point::Create, MISSING, 0),
-        (Point::Create, None, 0),
-    ];
-    hold(&rt, rt.alloc(), &swapped, Point::Create, KEPT)?;
-    let behind_another_point = [
-        (Point::Terminate, KEPT, 0),
-        (Point::Create, MISSING, 1),
-        (Point::Terminate, None, 0),
-    ];
-    hold(
-        &rt,
-        rt.alloc(),
-        &behind_another_point,
-        Point::Create,
-        MISSING,
-    )?;
-    let of_another_point = [
-        (Point::Create, MISSING, 0),
-        (Point::Terminate, KEPT, 1),
-        (Point::Terminate, MISSING, 0),
-    ];
-    hold(&rt, rt.alloc(), &of_another_point, Point::Terminate, KEPT)
+    let alloc = rt.alloc();
+    hold(&rt, alloc, &FIRST_MISSING, Point::Create, MISSING)?;
+    hold(&rt, alloc, &FIRST_KEPT, Point::Create, KEPT)?;
+    hold(&rt, alloc, &BEHIND_ANOTHER_POINT, Point::Create, MISSING)?;
+    hold(&rt, alloc, &OF_ANOTHER_POINT, Point::Terminate, KEPT)
 }
+
+/// No closure refuses.
+static ALL_ALLOW: [Row; 3] = [
+    (Point::Terminate, None, 1),
+    (Point::Terminate, None, 1),
+    (Point::Terminate, None, 1),
+];
+
+/// Only closures of another point refuse.
+static ALLOWS_BESIDE_ANOTHER_POINT: [Row; 3] = [
+    (Point::Create, KEPT, 0),
+    (Point::Terminate, None, 1),
+    (Point::Create, MISSING, 0),
+];
 
 #[test]
 fn allowed_where_none_refuses(rt: HostRuntime) -> Result<(), Fail> {
-    hold(&rt, rt.alloc(), &[], Point::Create, None)?;
-    let each = [
-        (Point::Terminate, None, 1),
-        (Point::Terminate, None, 1),
-        (Point::Terminate, None, 1),
-    ];
-    hold(&rt, rt.alloc(), &each, Point::Terminate, None)?;
-    let of_another_point = [
-        (Point::Create, KEPT, 0),
-        (Point::Terminate, None, 1),
-        (Point::Create, MISSING, 0),
-    ];
-    hold(&rt, rt.alloc(), &of_another_point, Point::Terminate, None)
+    let (alloc, point) = (rt.alloc(), Point::Terminate);
+    hold(&rt, alloc, &[], Point::Create, None)?;
+    hold(&rt, alloc, &ALL_ALLOW, point, None)?;
+    hold(&rt, alloc, &ALLOWS_BESIDE_ANOTHER_POINT, point, None)
 }
+
+/// Closures that are asked whether an upload may be complete, after one of another point.
+static BEFORE_THE_END: [Row; 4] = [
+    (Point::Create, KEPT, 0),
+    (Point::Finish, None, 1),
+    (Point::Finish, MISSING, 1),
+    (Point::Finish, KEPT, 0),
+];
 
 #[test]
 fn closures_are_asked_whether_an_upload_may_be_complete(rt: HostRuntime) -> Result<(), Fail> {
     hold(&rt, rt.alloc(), &[], Point::Finish, None)?;
-    let rows = [
-        (Point::Create, KEPT, 0),
-        (Point::Finish, None, 1),
-        (Point::Finish, MISSING, 1),
-        (Point::Finish, KEPT, 0),
-    ];
-    hold(&rt, rt.alloc(), &rows, Point::Finish, MISSING)
+    hold(&rt, rt.alloc(), &BEFORE_THE_END, Point::Finish, MISSING)
 }
+
+/// A refusal with each status, with the shortest and the longest reason among them.
+static REFUSALS: [Refusal; 6] = [
+    (400, "a"),
+    (403, "uploads are kept"),
+    (409, " "),
+    (413, "too long for this server"),
+    (422, "~"),
+    (
+        429,
+        "01234567890123456789012345678901234567890123456789012345678901234567890123456789",
+    ),
+];
 
 #[test]
 fn status_and_reason_come_through(rt: HostRuntime) -> Result<(), Fail> {
-    let longest =
-        "01234567890123456789012345678901234567890123456789012345678901234567890123456789";
-    for refusal in [
-        (400, "a"),
-        (403, "uploads are kept"),
-        (409, " "),
-        (413, "too long for this server"),
-        (422, "~"),
-        (429, longest),
-    ] {
-        let rows = [(Point::Create, Some(refusal), 1)];
-        hold(&rt, rt.alloc(), &rows, Point::Create, Some(refusal))?;
+    for refusal in &REFUSALS {
+        let refusal = Some(*refusal);
+        let rows = [(Point::Create, refusal, 1)];
+        hold(&rt, rt.alloc(), &rows, Point::Create, refusal)?;
     }
     Ok(())
 }

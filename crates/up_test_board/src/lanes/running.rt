@@ -1,16 +1,18 @@
 //! Lanes that run: what they call if their queue is empty, and a lane in a thread.
-ghost use Rattle.std.specs.Prelude.{◌≡◌, ◌≤◌, [], length, take};
+ghost use Rattle.std.specs.Prelude.{◌≡◌, ◌≤◌, [], IfOk, length, take};
 ghost use Rattle.up_queue.specs.Line.{IsOrderly};
 
 use super::parts::{Listing, hold, items, put_all, put_at};
 use crate::same::expect_same;
+use std::alloc::Global;
 use std::marker::Model;
+use std::process::Abort;
 use std::sync::atomic::{AtomicU64, Ordering};
 use std::sync::{Mutex, Wait};
 use std::test::Fail;
 use std::thread;
 use up_lanes::{How, Lane, Refill};
-use up_queue::{Item, PutEnd, lane_queue};
+use up_queue::{Item, PutEnd, TakeEnd, lane_queue};
 
 /// Items that are put one after another.
 #[derive(Drop)]
@@ -109,21 +111,33 @@ impl Refill for Counted {
     }
 }
 
+/// What fills a queue of one place with the items of four uploads, and the end from which they are taken.
+fn counting_calls(alloc: Global, fills_by_refill: bool) -> Result<(Counted, TakeEnd), Fail>
+    ensures { IfOk result (λ r. r.1.taken ≡ []) }
+{
+    let (put_end, take_end) = lane_queue(alloc, 1)?;
+    let supply = Supply::new(put_end, items(alloc, 4)?);
+    Ok((Counted::new(supply, fills_by_refill), take_end))
+}
+
+/// Checks that lane 7 is handed everything, and how often it waits.
+fn hold_waits(
+    rt: &(impl Wait + Abort),
+    alloc: Global,
+    fills_by_refill: bool,
+    waits: u64,
+) -> Result<(), Fail> {
+    let (counted, take_end) = counting_calls(alloc, fills_by_refill)?;
+    let end = Lane::new(7, take_end, Listing::new(alloc, 0, 0)).run(rt, &counted);
+    hold(rt, alloc, &end, How::Drained, 4)?;
+    expect_same(rt, &(end.lane, counted.counts()), &(7, [9, waits, 0]));
+    Ok(())
+}
+
 #[test]
 fn refills_first_and_then_sleeps(rt: HostRuntime) -> Result<(), Fail> {
-    for (fills_by_refill, wanted_waits) in [(true, 0), (false, 9)] {
-        let (put_end, take_end) = lane_queue(rt.alloc(), 1)?;
-        let supply = Supply::new(put_end, items(rt.alloc(), 4)?);
-        let counted = Counted::new(supply, fills_by_refill);
-        let end = Lane::new(7, take_end, Listing::new(rt.alloc(), 0, 0)).run(&rt, &counted);
-        hold(&rt, rt.alloc(), &end, How::Drained, 4)?;
-        expect_same(
-            &rt,
-            &(end.lane, counted.counts()),
-            &(7, [9, wanted_waits, 0]),
-        );
-    }
-    Ok(())
+    hold_waits(&rt, rt.alloc(), true, 0)?;
+    hold_waits(&rt, rt.alloc(), false, 9)
 }
 
 /// Another thread puts the items.

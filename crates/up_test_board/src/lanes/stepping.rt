@@ -1,4 +1,6 @@
 //! Lanes that are stepped by hand.
+ghost use Rattle.std.specs.Prelude.{◌≡◌, [], IfOk};
+
 use super::parts::{Listing, fill, hold, items, put_at};
 use crate::same::expect_same;
 use std::alloc::Global;
@@ -6,7 +8,7 @@ use std::process::Abort;
 use std::sync::Wait;
 use std::test::Fail;
 use up_lanes::{How, Lane, Refill, StepEnd};
-use up_queue::{Item, lane_queue};
+use up_queue::{Item, PutEnd, QueueFault, lane_queue};
 
 /// A lane for which everything was put already.
 struct NoMore;
@@ -17,12 +19,19 @@ impl Refill for NoMore {
     fn wait<R: Wait>(&self, _rt: &R, _lane: u64, _taken: u64) {}
 }
 
+/// A lane with a queue of this capacity, and the end of the queue into which items are put.
+fn new_lane(alloc: Global, capacity: u64) -> Result<(PutEnd, Lane<Listing>), QueueFault>
+    ensures { IfOk result (λ r. r.0.put ≡ []) }
+{
+    let (put_end, take_end) = lane_queue(alloc, capacity)?;
+    Ok((put_end, Lane::new(0, take_end, Listing::new(alloc, 0, 0))))
+}
+
 /// Checks that a lane with a queue of this capacity is handed an event at each step, and that it is handed all of them
 /// in order.
 fn hands_over_in_order(rt: &(impl Wait + Abort), alloc: Global, capacity: u64) -> Result<(), Fail> {
     let items = items(alloc, 4)?;
-    let (mut put_end, take_end) = lane_queue(alloc, capacity)?;
-    let mut lane = Lane::new(0, take_end, Listing::new(alloc, 0, 0));
+    let (mut put_end, mut lane) = new_lane(alloc, capacity)?;
     let mut place = 0;
     for _ in 0..8 {
         place = fill(rt, &mut put_end, &items, place);
@@ -40,19 +49,23 @@ fn hands_over_in_order_at_every_capacity(rt: HostRuntime) -> Result<(), Fail> {
     Ok(())
 }
 
+/// The end of a step that takes this item.
+fn step_end(item: Item) -> StepEnd {
+    match item {
+        Item::Event(_) => StepEnd::Handed,
+        Item::End => StepEnd::Ended,
+    }
+}
+
 #[test]
 fn finds_nothing_until_more_is_put(rt: HostRuntime) -> Result<(), Fail> {
     let items = items(rt.alloc(), 4)?;
-    let (mut put_end, take_end) = lane_queue(rt.alloc(), 1)?;
-    let mut lane = Lane::new(0, take_end, Listing::new(rt.alloc(), 0, 0));
+    let (mut put_end, mut lane) = new_lane(rt.alloc(), 1)?;
     for place in 0..items.len() {
         let before = lane.step(&rt);
         put_at(&rt, &mut put_end, &items, place)?;
-        let wanted = match items[place] {
-            Item::Event(_) => StepEnd::Handed,
-            Item::End => StepEnd::Ended,
-        };
-        expect_same(&rt, &[before, lane.step(&rt)], &[StepEnd::Nothing, wanted]);
+        let steps = [before, lane.step(&rt)];
+        expect_same(&rt, &steps, &[StepEnd::Nothing, step_end(items[place])]);
     }
     expect_same(&rt, &[lane.step(&rt), lane.step(&rt)], &[StepEnd::Ended; 2]);
     Ok(())
@@ -82,14 +95,25 @@ fn stays_so(rt: &(impl Wait + Abort), mut lane: Lane<Listing>, how: How) {
     expect_same(rt, &lane.run(rt, &NoMore).how, &how);
 }
 
+/// Checks that a lane stops once it has the events of the first upload, and when it is resumed, ends in this way with
+/// the events of this number of uploads.
+fn stops_and_ends(
+    rt: &(impl Wait + Abort),
+    alloc: Global,
+    refusals: u64,
+    how: How,
+    uploads: u64,
+) -> Result<(), Fail> {
+    let end = refused_lane(rt, alloc, refusals)?.run(rt, &NoMore);
+    hold(rt, alloc, &end, How::Stopped, 1)?;
+    let end = Lane::resume(end).run(rt, &NoMore);
+    hold(rt, alloc, &end, how, uploads)?;
+    stays_so(rt, Lane::resume(end), how);
+    Ok(())
+}
+
 #[test]
 fn goes_on_where_it_stood(rt: HostRuntime) -> Result<(), Fail> {
-    for (refusals, how, uploads) in [(1, How::Drained, 4), (u64::MAX, How::Stopped, 1)] {
-        let end = refused_lane(&rt, rt.alloc(), refusals)?.run(&rt, &NoMore);
-        hold(&rt, rt.alloc(), &end, How::Stopped, 1)?;
-        let end = Lane::resume(end).run(&rt, &NoMore);
-        hold(&rt, rt.alloc(), &end, how, uploads)?;
-        stays_so(&rt, Lane::resume(end), how);
-    }
-    Ok(())
+    stops_and_ends(&rt, rt.alloc(), 1, How::Drained, 4)?;
+    stops_and_ends(&rt, rt.alloc(), u64::MAX, How::Stopped, 1)
 }

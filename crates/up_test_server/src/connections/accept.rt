@@ -2,8 +2,10 @@
 ghost use Rattle.std.specs.Prelude.{◌≡◌, length};
 ghost use Rattle.up_dispatch.specs.Parts.{IsNamed};
 
-use crate::clients::{ask_each, hold_answer};
+use super::seats::changes;
+use crate::clients::{hold_answers, listen};
 use crate::same::expect_same;
+use crate::serving::visits;
 use std::alloc::Global;
 use std::cell::Cell;
 use std::marker::{Brand, Send, Sync};
@@ -13,7 +15,7 @@ use std::process::Abort;
 use std::sync::Wait;
 use std::test::Fail;
 use std::thread::Threads;
-use up_connections::{Entrance, Notices, Patience, Silent, Visits, serve_connections};
+use up_connections::{Entrance, Notices, Silent, Visits, serve_connections};
 use up_dispatch::{AtOnce, Board, BoardParts, Counting, Naming, Service};
 use up_hooks::PreHooks;
 
@@ -48,59 +50,40 @@ fn counts<B: Naming + Send + Sync, N: Notices, T: Threads + Wait + Sync>(
     let hooks = PreHooks::new(Vec::new(alloc));
     let ids = Counting::new();
     let seats = serve_connections(rt, alloc, &board, &hooks, ids, listener, visits)?;
-    let mut counts = Vec::new(alloc);
-    for seat in seats {
-        counts.push(seat.count())?;
-    }
-    Ok(counts)
+    changes(alloc, &seats)
 }
 
-/// The same with a board of one lane.
-fn counted<N: Notices, T: Threads + Wait + Sync>(
+/// Serves connections with a board of one lane, and checks the number of changes from each seat.
+fn hold_counts<N: Notices, T: Threads + Wait + Abort + Sync>(
     rt: &T,
     alloc: Global,
     listener: &TcpListener,
     visits: &Visits<'_, N, AtOnce>,
-) -> Result<Vec<u64>, Fail> {
-    let parts = BoardParts::new(alloc, 1, 8)?;
-    counts::<Brand, _, _>(rt, alloc, parts, listener, visits)
-}
-
-/// Serves three connections, one after the other, and checks the number of changes from the only seat.
-fn hold_three<T: Threads + Wait + Abort + Sync>(
-    rt: &T,
-    alloc: Global,
-    listener: &TcpListener,
+    wanted: &[u64],
 ) -> Result<(), Fail> {
-    let visits = Visits {
-        service: &AtOnce,
-        connections: Some(3),
-        open: 1,
-        patience: Patience::default(),
-        watch: None,
-        ending: None,
-        notices: &Silent,
-    };
-    let made = counted(rt, alloc, listener, &visits)?;
-    expect_same(rt, &made.as_slice(), &[3u64].as_slice());
+    let parts = BoardParts::new(alloc, 1, 8)?;
+    let made = counts::<Brand, _, _>(rt, alloc, parts, listener, visits)?;
+    expect_same(rt, &made.as_slice(), &wanted);
     Ok(())
 }
 
 #[test]
 fn serves_three_from_one_seat(rt: HostRuntime) -> Result<(), Fail> {
-    let listener = TcpListener::bind(&rt, "127.0.0.1:0")?;
-    let mut clients = ask_each(&rt, listener.local_addr()?, &[ASKED; 3])?;
-    hold_three(&rt, rt.alloc(), &listener)?;
-    for client in &mut clients {
-        hold_answer(
-            &rt,
-            rt.alloc(),
-            client,
-            b"HTTP/1.1 201 Created\r\n",
-            b"\r\nConnection: close\r\n\r\n",
-        )?;
-    }
-    Ok(())
+    let (listener, mut clients) = listen(&rt, &[ASKED; 3])?;
+    hold_counts(
+        &rt,
+        rt.alloc(),
+        &listener,
+        &visits(Some(3), 1, &Silent),
+        &[3],
+    )?;
+    hold_answers(
+        &rt,
+        rt.alloc(),
+        &mut clients,
+        b"HTTP/1.1 201 Created\r\n",
+        b"\r\nConnection: close\r\n\r\n",
+    )
 }
 
 #[test]
@@ -109,17 +92,7 @@ fn ends_where_the_listener_is_gone(rt: HostRuntime) -> Result<(), Fail> {
     let status = libc::net::shutdown(listener.as_raw_fd(), libc::net::SHUT_RDWR);
     expect_same(&rt, &status, &0);
     let last = Last(Cell::new(None));
-    let visits = Visits {
-        service: &AtOnce,
-        connections: None,
-        open: 2,
-        patience: Patience::default(),
-        watch: None,
-        ending: None,
-        notices: &last,
-    };
-    let made = counted(&rt, rt.alloc(), &listener, &visits)?;
-    expect_same(&rt, &made.as_slice(), &[0u64].as_slice());
+    hold_counts(&rt, rt.alloc(), &listener, &visits(None, 2, &last), &[0])?;
     expect_same(&rt, &last.0.get(), &Some(Entrance::Gone(libc::EINVAL)));
     Ok(())
 }

@@ -50,7 +50,31 @@ fn swap_two<B: Naming, R: Wait + Abort>(
     Ok(())
 }
 
-/// Puts back a seat from which an upload was created, and takes it again before a new one.
+/// The number of changes that were made from each seat.
+pub fn changes<B: Naming>(alloc: Global, seats: &[Seat<B>]) -> Result<Vec<u64>, Fail> {
+    let mut counts = Vec::new(alloc);
+    for seat in seats {
+        counts.push(seat.count())?;
+    }
+    Ok(counts)
+}
+
+/// Puts back a seat from which an upload was created, and takes it again before a new one. Checks the number of changes
+/// from each.
+fn hold_again<B: Naming, R: Wait + Abort>(
+    rt: &R,
+    alloc: Global,
+    board: &Board<B>,
+) -> Result<(), Fail> {
+    let seats = Seats::new(alloc, 2)?;
+    use_one(rt, alloc, board, &seats)?;
+    swap_two(rt, board, &seats)?;
+    let counts = changes(alloc, &seats.into_inner())?;
+    expect_same(rt, &counts.as_slice(), &[0u64, 1].as_slice());
+    Ok(())
+}
+
+/// Checks with a new board that a seat that came back is taken again.
 fn taken_again<B: Naming, R: Wait + Abort>(
     rt: &R,
     alloc: Global,
@@ -61,15 +85,7 @@ fn taken_again<B: Naming, R: Wait + Abort>(
     requires sized { B.max_size ≡ 1 }
 {
     let (board, _takes) = Board::<B>::new(alloc, parts, 1)?;
-    let seats = Seats::new(alloc, 2)?;
-    use_one(rt, alloc, &board, &seats)?;
-    swap_two(rt, &board, &seats)?;
-    let mut counts = Vec::new(alloc);
-    for seat in seats.into_inner() {
-        counts.push(seat.count())?;
-    }
-    expect_same(rt, &counts.as_slice(), &[0u64, 1].as_slice());
-    Ok(())
+    hold_again(rt, alloc, &board)
 }
 
 #[test]

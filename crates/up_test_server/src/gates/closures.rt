@@ -2,21 +2,21 @@
 ghost use Rattle.std.specs.Prelude.{IsTrue};
 ghost use Rattle.up_hooks.specs.Verdicts.{is_allowed_verdict};
 
-use crate::clients::{ask, hold_answer};
-use crate::same::expect_same;
-use crate::serving::reported;
+use crate::clients::{hold_answers, listen};
+use crate::replaying::done;
+use crate::same::expect_text;
+use crate::serving::{reported, visits};
 use std::alloc::Global;
 use std::io::{Read, Write};
 use std::marker::Sync;
 use std::net::{TcpListener, TcpStream};
+use std::process::Abort;
 use std::sync::{Arc, Wait};
 use std::test::Fail;
 use std::thread;
 use std::thread::Threads;
-use up_connections::{Patience, Silent, Visits};
-use up_dispatch::AtOnce;
-use up_events::Event;
-use up_hooks::{Outcome, PreHook, PreHooks};
+use up_connections::Silent;
+use up_hooks::{PreHook, PreHooks};
 use up_machine::{Ask, Point, Verdict};
 use up_test_board::{Gate, HEAD, POST};
 use up_words::Settings;
@@ -47,16 +47,7 @@ fn served<R: Threads + Wait + Eprint + Sync>(
     stream: TcpStream,
     gate: &Gate,
 ) -> Result<(Vec<u8>, Vec<u8>), Fail> {
-    let visits = Visits {
-        service: &AtOnce,
-        connections: Some(2),
-        open: 2,
-        patience: Patience::default(),
-        watch: None,
-        ending: None,
-        notices: &Silent,
-    };
-    let done = |_: &Event| Outcome::Done;
+    let visits = visits(Some(2), 2, &Silent);
     let settings = Settings::default();
     let (report, told) = thread::join(
         rt,
@@ -67,22 +58,42 @@ fn served<R: Threads + Wait + Eprint + Sync>(
     Ok((report?, told))
 }
 
-#[test]
-fn a_closure_waits_for_another_connection(rt: HostRuntime) -> Result<(), Fail> {
-    let listener = TcpListener::bind(&rt, "127.0.0.1:0")?;
-    let address = listener.local_addr()?;
-    let mut client = ask(&rt, address, POST)?;
-    let stream = TcpStream::connect(&rt, address)?;
-    let gate = Arc::new(rt.alloc(), Gate::new())?;
+/// Serves two connections, as above, and checks the report and the response to the request of the second.
+fn hold_two(
+    rt: &(impl Threads + Wait + Eprint + Abort + Sync),
+    alloc: Global,
+    hooks: PreHooks,
+    listener: TcpListener,
+    stream: TcpStream,
+    gate: &Gate,
+) -> Result<(), Fail> {
+    let (report, told) = served(rt, alloc, hooks, listener, stream, gate)?;
+    assert!(rt; told.starts_with(b"HTTP/1.1 404 "));
+    expect_text(rt, &report, REPORT)
+}
+
+/// Serves two connections with a closure that allows a creation once the second got its response, and checks what came
+/// of it.
+fn hold_gated(
+    rt: &(impl Threads + Wait + Eprint + Abort + Sync),
+    alloc: Global,
+    listener: TcpListener,
+    stream: TcpStream,
+) -> Result<(), Fail> {
+    let gate = Arc::new(alloc, Gate::new())?;
     let held = Arc::try_clone(&gate)?;
     let judge = move |_: &Ask| -> Verdict
         ensures { IsTrue (is_allowed_verdict result) }
     { held.judge() };
-    let mut hooks = Vec::new(rt.alloc());
-    hooks.push(PreHook::new(Point::Create, Box::new(rt.alloc(), judge)?))?;
-    let hooks = PreHooks::new(hooks);
-    let (report, told) = served(&rt, rt.alloc(), hooks, listener, stream, &gate)?;
-    assert!(rt; told.starts_with(b"HTTP/1.1 404 "));
-    expect_same(&rt, &str::from_utf8(&report)?, &REPORT);
-    hold_answer(&rt, rt.alloc(), &mut client, b"HTTP/1.1 201 ", b"")
+    let mut hooks = Vec::new(alloc);
+    hooks.push(PreHook::new(Point::Create, Box::new(alloc, judge)?))?;
+    hold_two(rt, alloc, PreHooks::new(hooks), listener, stream, &gate)
+}
+
+#[test]
+fn a_closure_waits_for_another_connection(rt: HostRuntime) -> Result<(), Fail> {
+    let (listener, mut clients) = listen(&rt, &[POST])?;
+    let stream = TcpStream::connect(&rt, listener.local_addr()?)?;
+    hold_gated(&rt, rt.alloc(), listener, stream)?;
+    hold_answers(&rt, rt.alloc(), &mut clients, b"HTTP/1.1 201 ", b"")
 }

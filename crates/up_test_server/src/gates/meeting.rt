@@ -2,10 +2,10 @@
 ghost use Rattle.std.specs.Prelude.{IsTrue};
 ghost use Rattle.up_hooks.specs.Recorded.{has_code};
 
-use crate::clients::{ask_each, hold_answer};
+use crate::clients::{hold_answers, listen};
 use crate::replaying::replayed;
-use crate::same::expect_same;
-use crate::serving::reported;
+use crate::same::{expect_same, expect_text};
+use crate::serving::{reported, visits};
 use std::alloc::Global;
 use std::marker::Sync;
 use std::net::TcpListener;
@@ -13,8 +13,7 @@ use std::sync::Wait;
 use std::sync::atomic::{AtomicBool, Ordering};
 use std::test::Fail;
 use std::thread::Threads;
-use up_connections::{Patience, Silent, Visits};
-use up_dispatch::AtOnce;
+use up_connections::Silent;
 use up_events::Event;
 use up_hooks::{Outcome, PreHooks};
 use up_server::ServerFault;
@@ -103,15 +102,7 @@ fn met<R: Threads + Wait + Eprint + Sync>(
         ensures { IsTrue (has_code result) }
     { shared.answer(event) };
     let hooks = PreHooks::new(Vec::new(alloc));
-    let visits = Visits {
-        service: &AtOnce,
-        connections: Some(2),
-        open: 1,
-        patience: Patience::default(),
-        watch: None,
-        ending: None,
-        notices: &Silent,
-    };
+    let visits = visits(Some(2), 1, &Silent);
     reported(
         rt,
         alloc,
@@ -125,12 +116,7 @@ fn met<R: Threads + Wait + Eprint + Sync>(
 
 #[test]
 fn post_hooks_meet_by_two_connections(rt: HostRuntime) -> Result<(), Fail> {
-    let listener = TcpListener::bind(&rt, "127.0.0.1:0")?;
-    let mut clients = ask_each(&rt, listener.local_addr()?, &[POST, POST])?;
-    let report = met(&rt, rt.alloc(), listener)?;
-    expect_same(&rt, &str::from_utf8(&report)?, &REPORT);
-    for client in &mut clients {
-        hold_answer(&rt, rt.alloc(), client, b"HTTP/1.1 201 ", b"")?;
-    }
-    Ok(())
+    let (listener, mut clients) = listen(&rt, &[POST, POST])?;
+    expect_text(&rt, &met(&rt, rt.alloc(), listener)?, REPORT)?;
+    hold_answers(&rt, rt.alloc(), &mut clients, b"HTTP/1.1 201 ", b"")
 }

@@ -1,7 +1,9 @@
 //! Lines of events, and writers that fail.
 use super::full_writer::FullWriter;
 use crate::same::expect_same;
-use std::test::Fail;
+use std::alloc::Global;
+use std::process::Abort;
+use std::sync::Wait;
 use up_events::{Event, Hook, Id};
 use up_hooks::Outcome;
 use up_server::EventLines;
@@ -25,25 +27,38 @@ static LINES: &str = "000000000000000000000000000000ff 1 post-create 0/- done\n\
 /// The outcomes if the writer fails within the second line.
 const ONE_LINE: [Outcome; 3] = [Outcome::Done, Outcome::Failed(1), Outcome::Failed(1)];
 
+/// Tells the three events, and returns the outcomes.
+fn tell_three(
+    rt: &(impl Eprint + Wait),
+    lines: &EventLines<Output<FullWriter<'_>>>,
+) -> [Outcome; 3] {
+    [
+        lines.tell(rt, &event(1, Hook::Create, 0, None)),
+        lines.tell(rt, &event(2, Hook::Receive, 11, Some(11))),
+        lines.tell(rt, &event(3, Hook::Finish, 11, Some(11))),
+    ]
+}
+
+/// Writes the events with a writer that takes no more bytes than these, and checks the outcomes and what was written.
+fn hold_room(
+    rt: &(impl Eprint + Wait + Abort),
+    alloc: Global,
+    written: &[u8],
+    outcomes: [Outcome; 3],
+) {
+    let mut taken = Vec::new(alloc);
+    let lines = EventLines::new(Output::new(FullWriter {
+        taken: &mut taken,
+        room: written.len(),
+    }));
+    let told = tell_three(rt, &lines);
+    drop(lines);
+    expect_same(rt, &(told, taken.as_slice()), &(outcomes, written));
+}
+
 #[test]
-fn writes_each_event_until_a_line_is_not_written(rt: HostRuntime) -> Result<(), Fail> {
-    for (room, outcomes) in [(LINES.len(), [Outcome::Done; 3]), (60, ONE_LINE)] {
-        let mut taken = Vec::new(rt.alloc());
-        let lines = EventLines::new(Output::new(FullWriter {
-            taken: &mut taken,
-            room,
-        }));
-        let told = [
-            lines.tell(&rt, &event(1, Hook::Create, 0, None)),
-            lines.tell(&rt, &event(2, Hook::Receive, 11, Some(11))),
-            lines.tell(&rt, &event(3, Hook::Finish, 11, Some(11))),
-        ];
-        drop(lines);
-        expect_same(
-            &rt,
-            &(told, taken.as_slice()),
-            &(outcomes, &LINES.as_bytes()[..room]),
-        );
-    }
-    Ok(())
+fn writes_each_event_until_a_line_is_not_written(rt: HostRuntime) {
+    let lines = LINES.as_bytes();
+    hold_room(&rt, rt.alloc(), lines, [Outcome::Done; 3]);
+    hold_room(&rt, rt.alloc(), &lines[..60], ONE_LINE);
 }

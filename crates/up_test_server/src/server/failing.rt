@@ -1,6 +1,5 @@
 //! Reads and writes that fail in mid-stream.
-use super::run_with;
-use crate::replaying::replayed;
+use crate::replaying::{done, replayed, run_with};
 use crate::same::expect_same;
 use std::alloc::{AllocError, Global};
 use std::marker::Sync;
@@ -8,11 +7,9 @@ use std::process::Abort;
 use std::sync::Wait;
 use std::test::Fail;
 use std::thread::Threads;
-use up_events::Event;
-use up_hooks::{Outcome, PreHooks};
+use up_hooks::PreHooks;
 use up_server::ServerFault;
 use up_wire::{Input, Slip, Source, Tape};
-use up_words::Settings;
 
 /// A creation of 75 bytes, and an append whose head ends after 249 bytes and whose body ends after 260.
 static ASKED: &str =
@@ -69,7 +66,7 @@ fn hold_part(
 ) -> Result<(), Fail> {
     let count = part.len();
     let mut source = Tape::new(part, 0, true);
-    let (ended, written) = replayed(rt, alloc, |_: &Event| Outcome::Done, &mut source);
+    let (ended, written) = replayed(rt, alloc, done, &mut source);
     let end = if count < 249 {
         Err(ServerFault::Read)
     } else {
@@ -99,7 +96,7 @@ fn hold_room<R: Source>(
 ) -> Result<(), Fail> {
     let mut sink = Slip::new(alloc, room, 0)?;
     let hooks = PreHooks::new(Vec::new(alloc));
-    let ended = run_with(rt, alloc, hooks, &Settings::default(), source, &mut sink);
+    let ended = run_with(rt, alloc, hooks, done, source, &mut sink);
     let (end, part) = match wanted.get(..room) {
         Some(part) if room < wanted.len() => (Err(ServerFault::Write), part),
         _ => (Ok(()), wanted),
@@ -108,16 +105,25 @@ fn hold_room<R: Source>(
     Ok(())
 }
 
-/// The messages come in one piece, and a byte at a time with a body in chunks.
+/// Does so with messages that come in one piece, and with ones that come a byte at a time, with a body in chunks.
+fn hold_both(
+    rt: &(impl Threads + Wait + Abort + Sync),
+    alloc: Global,
+    room: usize,
+    wanted: &[u8],
+) -> Result<(), Fail> {
+    let mut whole = Input::new(ASKED.as_bytes());
+    hold_room(rt, alloc, &mut whole, room, wanted)?;
+    let mut bytes = Tape::new(IN_CHUNKS.as_bytes(), 0, false);
+    hold_room(rt, alloc, &mut bytes, room, wanted)
+}
+
 #[test]
 fn stops_at_any_write_that_fails(rt: HostRuntime) -> Result<(), Fail> {
     let wanted = format!(in rt.alloc(); "{CREATED}{REACHED}")?;
     let wanted = wanted.as_bytes();
     for room in 0..wanted.len().saturating_add(1) {
-        let mut whole = Input::new(ASKED.as_bytes());
-        hold_room(&rt, rt.alloc(), &mut whole, room, wanted)?;
-        let mut bytes = Tape::new(IN_CHUNKS.as_bytes(), 0, false);
-        hold_room(&rt, rt.alloc(), &mut bytes, room, wanted)?;
+        hold_both(&rt, rt.alloc(), room, wanted)?;
     }
     Ok(())
 }

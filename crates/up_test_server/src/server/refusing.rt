@@ -3,8 +3,8 @@ ghost use Rattle.std.specs.Prelude.{IsTrue};
 ghost use Rattle.up_hooks.specs.Recorded.{has_code};
 ghost use Rattle.up_hooks.specs.Verdicts.{is_allowed_verdict};
 
-use super::{hold, run_with};
-use crate::replaying::replayed;
+use super::hold;
+use crate::replaying::{done, replayed, run_with};
 use crate::same::expect_same;
 use std::alloc::Global;
 use std::marker::Sync;
@@ -17,7 +17,6 @@ use up_events::{Event, Hook};
 use up_hooks::{Outcome, PreHook, PreHooks};
 use up_machine::{Ask, Point, Reason, Verdict};
 use up_wire::{Input, Output};
-use up_words::Settings;
 
 const EIGHTY: &str =
     "The quota of this account is used up until the end of the month (see the rules).";
@@ -81,14 +80,7 @@ fn hold_with(
 ) -> Result<(), Fail> {
     let mut source = Input::new(asked.as_bytes());
     let mut sink = Output::new(Vec::new(alloc));
-    let ended = run_with(
-        rt,
-        alloc,
-        hooks,
-        &Settings::default(),
-        &mut source,
-        &mut sink,
-    );
+    let ended = run_with(rt, alloc, hooks, done, &mut source, &mut sink);
     hold(rt, ended, &sink.into_inner(), wanted)
 }
 
@@ -151,25 +143,30 @@ static ONE_REMOVED: &str =
     00000000000000000000000000000002 3 post-finish 1/1 done\n\
     00000000000000000000000000000002 4 post-terminate 1/1 done\nlane 1 drained 0\n";
 
-#[test]
-fn asks_only_where_nothing_else_refuses(rt: HostRuntime) -> Result<(), Fail> {
-    let made = Arc::new(rt.alloc(), AtomicU64::new(0))?;
-    let removed = Arc::new(rt.alloc(), AtomicU64::new(0))?;
-    let mut hooks = Vec::new(rt.alloc());
-    for (point, calls) in [(Point::Create, &made), (Point::Terminate, &removed)] {
+/// Serves these requests with closures that count in `made` and in `removed`, and checks the output.
+fn hold_counted(
+    rt: &(impl Threads + Wait + Abort + Sync),
+    alloc: Global,
+    made: &Arc<AtomicU64>,
+    removed: &Arc<AtomicU64>,
+) -> Result<(), Fail> {
+    let mut hooks = Vec::new(alloc);
+    for (point, calls) in [(Point::Create, made), (Point::Terminate, removed)] {
         let counter = Arc::try_clone(calls)?;
         let judge = move |_: &Ask| -> Verdict
             ensures { IsTrue (is_allowed_verdict result) }
         { counted(&counter) };
-        hooks.push(PreHook::new(point, Box::new(rt.alloc(), judge)?))?;
+        hooks.push(PreHook::new(point, Box::new(alloc, judge)?))?;
     }
-    hold_with(
-        &rt,
-        rt.alloc(),
-        PreHooks::new(hooks),
-        REFUSED_AND_REMOVED,
-        ONE_REMOVED,
-    )?;
+    let hooks = PreHooks::new(hooks);
+    hold_with(rt, alloc, hooks, REFUSED_AND_REMOVED, ONE_REMOVED)
+}
+
+#[test]
+fn asks_only_where_nothing_else_refuses(rt: HostRuntime) -> Result<(), Fail> {
+    let made = Arc::new(rt.alloc(), AtomicU64::new(0))?;
+    let removed = Arc::new(rt.alloc(), AtomicU64::new(0))?;
+    hold_counted(&rt, rt.alloc(), &made, &removed)?;
     let calls = [made.load(Ordering::SeqCst), removed.load(Ordering::SeqCst)];
     expect_same(&rt, &calls, &[1, 1]);
     Ok(())

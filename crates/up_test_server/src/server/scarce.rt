@@ -1,8 +1,9 @@
 //! Post-hooks that run out of memory while connections are served.
 ghost use Rattle.std.specs.Prelude.{◌≡◌, ◌++◌, ◌∷◌, [], OnOk, true};
 
-use crate::clients::{ask_each, hold_answer};
+use crate::clients::{hold_answers, listen};
 use crate::same::expect_same;
+use crate::serving::visits;
 use std::alloc::Global;
 use std::marker::Sync;
 use std::net::{Shutdown, TcpListener, TcpStream};
@@ -13,8 +14,8 @@ use std::test::Fail;
 use std::thread;
 use std::thread::Threads;
 use std::time::Duration;
-use up_connections::{Patience, Silent, Visits};
-use up_dispatch::{AtOnce, Counting, Report};
+use up_connections::Silent;
+use up_dispatch::{Counting, Report};
 use up_events::{Event, Hook, Id, NoMemory};
 use up_hooks::{Outcome, PostHook, PreHooks};
 use up_lanes::How;
@@ -104,15 +105,6 @@ fn served<'a, T: Threads + Wait + Eprint + Sync>(
         capacity: 4,
         max_size: 1024,
     };
-    let visits = Visits {
-        service: &AtOnce,
-        connections: Some(connections),
-        open: 1,
-        patience: Patience::default(),
-        watch: None,
-        ending: None,
-        notices: &Silent,
-    };
     let mut post_hooks = Vec::new(alloc);
     post_hooks.push(post_hook)?;
     let hooks = Hooks {
@@ -121,7 +113,7 @@ fn served<'a, T: Threads + Wait + Eprint + Sync>(
     };
     let connections = Connections {
         listener,
-        visits: &visits,
+        visits: &visits(Some(connections), 1, &Silent),
         ids: Counting::new(),
     };
     serve_with(rt, alloc, hooks, &settings, connections)
@@ -198,20 +190,26 @@ fn served_meanwhile<'a, T: Threads + Wait + Eprint + Sync>(
     report
 }
 
+/// Serves three connections, as above, with a lane whose post-hook runs out of memory three times, and checks how it
+/// ended.
+fn hold_meanwhile(
+    rt: &(impl Threads + Wait + Eprint + Abort + Sync),
+    alloc: Global,
+    listener: TcpListener,
+    silent: &TcpStream,
+) -> Result<(), Fail> {
+    let told = AtomicU64::new(0);
+    let hook = Scarce::new(alloc, 3, &told);
+    let report = served_meanwhile(rt, alloc, listener, silent, hook, &told)?;
+    hold(rt, &report, How::Drained, 3, 0)
+}
+
 #[test]
 fn a_lane_goes_on_while_the_server_runs(rt: HostRuntime) -> Result<(), Fail> {
-    let listener = TcpListener::bind(&rt, "127.0.0.1:0")?;
-    let address = listener.local_addr()?;
-    let mut clients = ask_each(&rt, address, &ASKED)?;
-    let silent = TcpStream::connect(&rt, address)?;
-    let told = AtomicU64::new(0);
-    let hook = Scarce::new(rt.alloc(), 3, &told);
-    let report = served_meanwhile(&rt, rt.alloc(), listener, &silent, hook, &told)?;
-    hold(&rt, &report, How::Drained, 3, 0)?;
-    for client in &mut clients {
-        hold_answer(&rt, rt.alloc(), client, b"HTTP/1.1 20", b"\r\n\r\n")?;
-    }
-    Ok(())
+    let (listener, mut clients) = listen(&rt, &ASKED)?;
+    let silent = TcpStream::connect(&rt, listener.local_addr()?)?;
+    hold_meanwhile(&rt, rt.alloc(), listener, &silent)?;
+    hold_answers(&rt, rt.alloc(), &mut clients, b"HTTP/1.1 20", b"\r\n\r\n")
 }
 
 /// Serves two connections with a lane whose post-hook runs out of memory `refusals` times, and checks how it ended.
@@ -233,8 +231,7 @@ fn hold_end(
 #[test]
 fn a_lane_is_tried_three_times_more_at_the_end(rt: HostRuntime) -> Result<(), Fail> {
     for (refusals, how, count, left) in [(3, How::Drained, 3, 0), (u64::MAX, How::Stopped, 0, 3)] {
-        let listener = TcpListener::bind(&rt, "127.0.0.1:0")?;
-        let _clients = ask_each(&rt, listener.local_addr()?, &ASKED)?;
+        let (listener, _clients) = listen(&rt, &ASKED)?;
         hold_end(&rt, rt.alloc(), listener, refusals, how, count, left)?;
     }
     Ok(())

@@ -1,4 +1,0 @@
-use Rattle.up_test_refusals.proofs.boards.+finish.Given as goal
-
-abbrev pub decreases-finish : goal.decreases-finish
-decreases-finish g l = l.calls

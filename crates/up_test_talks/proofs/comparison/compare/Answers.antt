@@ -1,5 +1,0 @@
-use Rattle.std.proofs.Common.{rules}
-use Rattle.up_test_talks.proofs.comparison.compare.Goals as goal
-
-pub returns-clause-twin : goal.returns-clause-twin
-returns-clause-twin c = search rules
