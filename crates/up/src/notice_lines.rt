@@ -1,7 +1,7 @@
 //! What is printed about accepting connections.
 use std::sync::{Mutex, Wait};
 use std::time::Clock;
-use up_connections::{Due, Entrance, Notices, Said};
+use up_server::{Due, Entrance, Notices, Said};
 
 /// Prints lines on standard error about accepting connections, no two of them within a second.
 #[derive(Drop)]

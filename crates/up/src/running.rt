@@ -19,13 +19,15 @@ use std::sync::Wait;
 use std::thread;
 use std::thread::Threads;
 use std::time::Clock;
-use up_connections::{Ending, Notices, Patience, RandomIds, Visits, Watch};
 use up_dispatch::{AtOnce, Service};
 use up_events::Event;
 use up_handed::continue_each;
 use up_history::Chronicle;
 use up_hooks::{Outcome, PostHook, PreHooks, Teller, new_recorders, new_tellers};
-use up_server::{Connections, EventLines, Hooks, ServerFault, Shown, keep_serving, replay};
+use up_server::{
+    Connections, Ending, EventLines, Hooks, Notices, Patience, RandomIds, ServerFault, Shown,
+    Visits, Watch, keep_serving, replay,
+};
 use up_store::{EndedUploads, Folder, Histories, Keeping, LogFile, Shortening, StoreNotices};
 use up_tie::Site;
 use up_wire::{Output, Sink};

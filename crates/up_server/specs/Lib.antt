@@ -1,5 +1,7 @@
 -- The definitions that the contracts cite.
 pub mod Seats
+pub mod Said
+pub mod Shards
 pub mod ReportText
 pub mod Reported
 pub mod Run

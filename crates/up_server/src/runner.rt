@@ -2,11 +2,11 @@
 ghost use Rattle.std.specs.Prelude.{◌≡◌};
 
 use crate::status::Status;
+use crate::watch::Watch;
 use std::marker::{Send, Sync};
 use std::sync::Wait;
 use std::sync::atomic::{AtomicU64, Ordering};
 use std::time::Duration;
-use up_connections::Watch;
 use up_dispatch::{Board, Counts, Naming};
 use up_hooks::PostHook;
 use up_lanes::{Lane, LaneEnd, StepEnd};

@@ -1,11 +1,12 @@
 //! The lines on standard error about the state of a server.
+use crate::patience::milliseconds;
 use crate::runner::{LaneNotices, Runner, bit};
+use crate::watch::Watch;
 use std::alloc::AllocError;
 use std::fmt;
 use std::marker::{Send, Sync};
 use std::sync::Wait;
 use std::thread::{Scope, Threads};
-use up_connections::{Watch, milliseconds};
 use up_dispatch::{Board, Counts, Naming};
 
 /// The state of a server: what is counted on its board, the number of open connections, and the lanes that wait for

@@ -11,11 +11,10 @@ use std::marker::Sync;
 use std::net::TcpListener;
 use std::sync::Wait;
 use std::thread::Threads;
-use up_connections::{Notices, Patience, Visits};
 use up_dispatch::{AtOnce, Counting};
 use up_events::Event;
 use up_hooks::{Outcome, PostHook, PreHooks, Recorder, new_recorders};
-use up_server::{Connections, Hooks, ServerFault, serve};
+use up_server::{Connections, Hooks, Notices, Patience, ServerFault, Visits, serve};
 use up_wire::Output;
 use up_words::Settings;
 

@@ -15,9 +15,9 @@ use std::process::Abort;
 use std::sync::Wait;
 use std::test::Fail;
 use std::thread::Threads;
-use up_connections::{Entrance, Notices, Silent, Visits, serve_connections};
 use up_dispatch::{AtOnce, Board, BoardParts, Counting, Naming, Service};
 use up_hooks::PreHooks;
+use up_server::{Entrance, Notices, Silent, Visits, serve_connections};
 
 static ASKED: &[u8] = b"POST /files/ HTTP/1.1\r\nHost: a\r\nTus-Resumable: 1.0.0\r\n\
     Upload-Length: 5\r\nConnection: close\r\n\r\n";

@@ -3,7 +3,7 @@ use crate::same::expect_same;
 use std::test::Fail;
 use std::thread;
 use std::time::{Duration, Instant};
-use up_connections::ConnectionLimit;
+use up_server::ConnectionLimit;
 
 #[test]
 fn lets_the_third_in_once_one_has_left(rt: HostRuntime) -> Result<(), Fail> {

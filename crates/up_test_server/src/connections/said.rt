@@ -1,6 +1,6 @@
 //! When a line about letting connections in is written. Times are in milliseconds.
 use crate::same::expect_same;
-use up_connections::{Due, Entrance, Said, Want};
+use up_server::{Due, Entrance, Said, Want};
 
 const FILES: Entrance = Entrance::Wanting(Want::Descriptors(24));
 

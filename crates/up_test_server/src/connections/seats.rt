@@ -8,10 +8,10 @@ use std::marker::Brand;
 use std::process::Abort;
 use std::sync::Wait;
 use std::test::Fail;
-use up_connections::Seats;
 use up_dispatch::{Board, BoardParts, Naming, Seat};
 use up_events::Id;
 use up_machine::Asked;
+use up_server::Seats;
 use up_test_board::creation;
 
 /// Creates an upload from the seat.

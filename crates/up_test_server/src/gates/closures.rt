@@ -15,9 +15,9 @@ use std::sync::{Arc, Wait};
 use std::test::Fail;
 use std::thread;
 use std::thread::Threads;
-use up_connections::Silent;
 use up_hooks::{PreHook, PreHooks};
 use up_machine::{Ask, Point, Verdict};
+use up_server::Silent;
 use up_test_board::{Gate, HEAD, POST};
 use up_words::Settings;
 

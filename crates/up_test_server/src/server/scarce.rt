@@ -14,12 +14,11 @@ use std::test::Fail;
 use std::thread;
 use std::thread::Threads;
 use std::time::Duration;
-use up_connections::Silent;
 use up_dispatch::{Counting, Report};
 use up_events::{Event, Hook, Id, NoMemory};
 use up_hooks::{Outcome, PostHook, PreHooks};
 use up_lanes::How;
-use up_server::{Connections, Hooks, serve_with};
+use up_server::{Connections, Hooks, Silent, serve_with};
 use up_words::Settings;
 
 /// A creation and an append, each of which closes its connection.

@@ -1,6 +1,6 @@
 //! Ids that nobody can guess.
 ghost use Rattle.std.specs.Prelude.{◌≡◌, IfOk, IfSome};
-ghost use Rattle.up_connections.specs.Shards.{TextsTellTheirByte, first_byte, in_shard};
+ghost use Rattle.up_server.specs.Shards.{TextsTellTheirByte, first_byte, in_shard};
 
 use rand::make_rng;
 use rand::rngs::StdRng;
@@ -45,7 +45,7 @@ fn in_shard(shard: Option<u8>, number: u128) -> u128
 impl Ids for RandomIds {
     ghost use Rattle.std.specs.Prelude.{◌≡◌, ◌+◌, ◌*◌, ◌^◌, IfSome};
     ghost use Rattle.rand_core.specs.Stream.{next_u64};
-    ghost use Rattle.up_connections.specs.Shards.{first_byte, in_shard};
+    ghost use Rattle.up_server.specs.Shards.{first_byte, in_shard};
 
     // The first fact is what a shard guarantees.
     ghost draws = { λ old id new.

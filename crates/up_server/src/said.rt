@@ -1,9 +1,9 @@
 //! When a line is printed about accepting connections.
 ghost use Rattle.std.specs.Prelude.{◌≡◌, ◌≢◌, ◌↔◌, ℤ, IsTrue, true, false, Some};
-ghost use Rattle.up_connections.specs.Said.{was_said, IsApart};
-ghost use Rattle.up_connections.specs.declared.notices.Entrance.TheVariants.{Gone, Wanting};
-ghost use Rattle.up_connections.specs.declared.notices.Want.{Want};
-ghost use Rattle.up_connections.specs.declared.said.Due.TheVariants.{Say};
+ghost use Rattle.up_server.specs.Said.{was_said, IsApart};
+ghost use Rattle.up_server.specs.declared.notices.Entrance.TheVariants.{Gone, Wanting};
+ghost use Rattle.up_server.specs.declared.notices.Want.{Want};
+ghost use Rattle.up_server.specs.declared.said.Due.TheVariants.{Say};
 
 use crate::notices::{Entrance, Want};
 

@@ -1,5 +1,5 @@
 use Rattle.std.proofs.Common.{rules}
-use Rattle.up_connections.proofs.random_ids.RandomIdsIds.next_id.Goals as goal
+use Rattle.up_server.proofs.random_ids.RandomIdsIds.next_id.Goals as goal
 
 pub returns : goal.returns
 returns c = search rules

@@ -1,9 +1,9 @@
 -- Which lines were printed about accepting connections.
 use Rattle.std.specs.Prelude.{ℕ, ◌+◌, ◌≤◌, Bool, IfSome}
-use Rattle.up_connections.specs.declared.notices.Want.{Want}
-use Rattle.up_connections.specs.declared.notices.Want.TheVariants.{Descriptors, Memory, Threads}
-use Rattle.up_connections.specs.declared.said.Said.{Said}
-use Rattle.up_connections.specs.declared.said.Wants.{Wants}
+use Rattle.up_server.specs.declared.notices.Want.{Want}
+use Rattle.up_server.specs.declared.notices.Want.TheVariants.{Descriptors, Memory, Threads}
+use Rattle.up_server.specs.declared.said.Said.{Said}
+use Rattle.up_server.specs.declared.said.Wants.{Wants}
 
 -- whether a line was printed about a shortage of this kind
 abbrev pub was_said : Wants → Want → Bool

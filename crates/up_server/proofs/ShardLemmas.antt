@@ -5,7 +5,7 @@ use Rattle.std.proofs.Math.Seq.{take-length}
 use Rattle.std.proofs.Math.Nat.{div-div-eq-div-mul, pow-succ'}
 use Rattle.up_events.specs.IdText.{hex_digit, hex_digits}
 use Rattle.up_events.proofs.IdLemmas.{digits_length}
-use Rattle.up_connections.specs.Shards.{TextsTellTheirByte}
+use Rattle.up_server.specs.Shards.{TextsTellTheirByte}
 
 -- the first of all the digits of a number are those of the number that is left without the others
 fronts : (more places all n : ℕ) → all ≡ places + more → take places (hex_digits all n) ≡ hex_digits places (n / 16 ^ more)
