@@ -1,7 +1,7 @@
 //! An upload server for the tus resumable upload protocol 1.0.0. Its lanes hand the events of each upload to
 //! post-hooks, in threads of their own. It asks stored closures before an upload is made, completed or removed.
-//! `replay` serves one conversation, `serve` the connections of a listener. `ConnectionLimit` says how many of these may
-//! be open, and `Seats` holds the seats that they take and give back.
+//! `replay` serves one conversation, `serve` the connections of a listener. `ConnectionLimit` says how many of these
+//! may be open, and `Seats` holds the seats that they take and give back.
 #![tactic(auto)]
 
 mod accept;
