@@ -23,7 +23,7 @@ use up_log::{LogFault, LogReader};
 use up_machine::{Asked, Done, Refusal};
 use up_replay::{Unrestored, asked_of, fits};
 use up_store::{Histories, Store, Stored};
-use up_test_board::append;
+use up_test_server::append;
 use up_tie::{Reading, Site};
 use up_wire::{Output, write_response};
 

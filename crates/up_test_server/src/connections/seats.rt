@@ -2,6 +2,7 @@
 ghost use Rattle.std.specs.Prelude.{◌≡◌, length};
 ghost use Rattle.up_dispatch.specs.Parts.{IsNamed};
 
+use crate::requests::creation;
 use crate::same::expect_same;
 use std::alloc::Global;
 use std::marker::Brand;
@@ -12,7 +13,6 @@ use up_dispatch::{Board, BoardParts, Naming, Seat};
 use up_events::Id;
 use up_machine::Asked;
 use up_server::Seats;
-use up_test_board::creation;
 
 /// Creates an upload from the seat.
 fn make<B: Naming, R: Wait>(rt: &R, alloc: Global, board: &Board<B>, seat: &mut Seat<B>) {

@@ -3,6 +3,7 @@ ghost use Rattle.std.specs.Prelude.{IsTrue};
 ghost use Rattle.up_hooks.specs.Verdicts.{is_allowed_verdict};
 
 use crate::clients::{hold_answers, listen};
+use crate::gate::{Gate, HEAD, POST};
 use crate::replaying::done;
 use crate::same::expect_text;
 use crate::serving::{reported, visits};
@@ -18,7 +19,6 @@ use std::thread::Threads;
 use up_hooks::{PreHook, PreHooks};
 use up_machine::{Ask, Point, Verdict};
 use up_server::Silent;
-use up_test_board::{Gate, HEAD, POST};
 use up_words::Settings;
 
 /// The report about the one upload.

@@ -3,6 +3,7 @@ ghost use Rattle.std.specs.Prelude.{IsTrue};
 ghost use Rattle.up_hooks.specs.Recorded.{has_code};
 
 use crate::clients::{hold_answers, listen};
+use crate::gate::{POST, is_set_in_time};
 use crate::replaying::replayed;
 use crate::same::{expect_same, expect_text};
 use crate::serving::{reported, visits};
@@ -16,7 +17,6 @@ use std::thread::Threads;
 use up_events::Event;
 use up_hooks::{Outcome, PreHooks};
 use up_server::{ServerFault, Silent};
-use up_test_board::{POST, is_set_in_time};
 use up_wire::Input;
 use up_words::Settings;
 

@@ -1,3 +1,0 @@
-//! Closures that wait for events elsewhere, and a lane that stops and continues.
-mod boards;
-mod stopping;
