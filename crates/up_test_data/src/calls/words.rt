@@ -1,6 +1,8 @@
 //! Results and states as text.
 use crate::calls::messages::id_of;
-use crate::text::{push_pieces, push_response, push_runs};
+use crate::text::{
+    push_escaped, push_in_brackets, push_pair, push_pieces, push_response, push_runs,
+};
 use std::alloc::AllocError;
 use std::fmt::Write;
 use up_dispatch::Report;
@@ -32,7 +34,8 @@ fn push_upload(words: &mut String, number: u64, view: &View) -> Result<(), Alloc
     write!(words, "{number} {kind:?} {offset}/{length:?} [")?;
     push_runs(words, view.runs)?;
     push_pieces(words, view.pieces)?;
-    write!(words, "{}]; ", view.tail.escape_ascii())
+    push_escaped(words, view.tail)?;
+    words.push_str("]; ")
 }
 
 /// A book, as "open; 1 Plain 3/Some(5) [abc]; ids 1 2; ..": whether it is open, each upload with its number, kind,
@@ -56,9 +59,8 @@ pub fn push_book(words: &mut String, book: &Book) -> Result<(), AllocError> {
 pub fn push_pairs(words: &mut String, pairs: &Pairs) -> Result<(), AllocError> {
     words.push_str("[")?;
     for (key, value) in pairs.as_slice() {
-        let key = key.as_slice().escape_ascii();
-        let value = value.as_slice().escape_ascii();
-        write!(words, "{key}={value}; ")?;
+        push_pair(words, key.as_slice(), "=", value.as_slice())?;
+        words.push_str("; ")?;
     }
     words.push_str("]")
 }
@@ -74,8 +76,8 @@ pub fn push_request(words: &mut String, request: &Request) -> Result<(), AllocEr
         }
         Request::Patch(patch) => {
             let (id, offset) = (patch.id, patch.offset);
-            let bytes = patch.bytes.as_slice().escape_ascii();
-            write!(words, "patch {id:?} at {offset:?} [{bytes}]")
+            write!(words, "patch {id:?} at {offset:?} ")?;
+            push_in_brackets(words, patch.bytes.as_slice())
         }
         Request::Head(id) => write!(words, "head {id:?}"),
         Request::Get(id) => write!(words, "get {id:?}"),

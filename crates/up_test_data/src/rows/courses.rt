@@ -9,7 +9,7 @@ mod working;
 use crate::rows::courses::requests::{asked_of, request_of, size_of};
 use crate::rows::line::{cut, number_of};
 use crate::rows::row_fault::RowFault;
-use crate::text::push_body;
+use crate::text::{push_body, push_in_brackets};
 use std::alloc::{AllocError, Global};
 use std::fmt::Write;
 use up_events::{Accepted, Added, Id, Journal, Kind};
@@ -44,7 +44,7 @@ fn is_response(words: &str) -> bool {
 /// Adds bytes in brackets, or "none".
 fn push_bytes(words: &mut String, bytes: Option<&[u8]>) -> Result<(), AllocError> {
     match bytes {
-        Some(bytes) => write!(words, "[{}]", bytes.escape_ascii()),
+        Some(bytes) => push_in_brackets(words, bytes),
         None => words.push_str("none"),
     }
 }

@@ -1,4 +1,5 @@
 //! Responses and their bytes as text, with Rust's escapes.
+use crate::text::escaped::{push_escaped, push_pair};
 use std::alloc::AllocError;
 use std::fmt::Write;
 use up_message::{Field, Piece, Response, Run, Segments};
@@ -6,7 +7,7 @@ use up_message::{Field, Piece, Response, Run, Segments};
 /// Adds the pieces, one after another.
 pub fn push_pieces(words: &mut String, pieces: &[Piece]) -> Result<(), AllocError> {
     for piece in pieces {
-        write!(words, "{}", piece.as_slice().escape_ascii())?;
+        push_escaped(words, piece.as_slice())?;
     }
     Ok(())
 }
@@ -31,9 +32,8 @@ pub fn push_body(words: &mut String, body: &Segments) -> Result<(), AllocError> 
 /// Adds each field or pair as "name: value; ".
 pub fn push_fields(words: &mut String, fields: &[Field]) -> Result<(), AllocError> {
     for (name, value) in fields {
-        let name = name.as_slice().escape_ascii();
-        let value = value.as_slice().escape_ascii();
-        write!(words, "{name}: {value}; ")?;
+        push_pair(words, name.as_slice(), ": ", value.as_slice())?;
+        words.push_str("; ")?;
     }
     Ok(())
 }

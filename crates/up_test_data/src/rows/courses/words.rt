@@ -1,6 +1,8 @@
 //! The results and the state of a book, as text.
 use crate::rows::row_fault::RowFault;
-use crate::text::{push_fields, push_pieces, push_response, push_runs};
+use crate::text::{
+    push_escaped, push_fields, push_in_brackets, push_pieces, push_response, push_runs,
+};
 use std::alloc::{AllocError, Global};
 use std::fmt::Write;
 use up_events::{Accepted, Id};
@@ -74,8 +76,8 @@ pub fn change_of(decided: &Result<Done, Refusal>) -> Option<Accepted> {
 
 /// Adds a text of an upload in brackets, or a dash if there is none.
 fn push_text(words: &mut String, text: Option<&[u8]>) -> Result<(), AllocError> {
-    let text = text.unwrap_or(b"-".as_slice());
-    write!(words, " [{}]", text.escape_ascii())
+    words.push_str(" ")?;
+    push_in_brackets(words, text.unwrap_or(b"-".as_slice()))
 }
 
 /// Adds an upload as "1 Plain 3/Some(5) [abc] [name YWI=] [-]; ": number, kind, offset and length, bytes, metadata and
@@ -85,7 +87,8 @@ fn push_upload(words: &mut String, number: u64, view: &View) -> Result<(), Alloc
     write!(words, "{number} {kind:?} {offset}/{length:?} [")?;
     push_runs(words, view.runs)?;
     push_pieces(words, view.pieces)?;
-    write!(words, "{}]", view.tail.escape_ascii())?;
+    push_escaped(words, view.tail)?;
+    words.push_str("]")?;
     push_text(words, view.metadata)?;
     push_text(words, view.concat)?;
     words.push_str("; ")

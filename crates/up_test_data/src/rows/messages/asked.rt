@@ -1,5 +1,6 @@
 //! What messages ask for, as text.
 use crate::rows::row_fault::RowFault;
+use crate::text::{push_escaped, push_in_brackets, push_pair};
 use http::Method;
 use std::alloc::{AllocError, Global};
 use std::fmt::Write;
@@ -46,7 +47,10 @@ fn message_of(alloc: Global, text: &str) -> Option<Message> {
 /// A text of a creation, or a dash if there is none.
 fn push_kept(words: &mut String, kept: &Option<Sequence<u8>>) -> Result<(), AllocError> {
     match kept {
-        Some(text) => write!(words, " [{}]", text.as_slice().escape_ascii()),
+        Some(text) => {
+            words.push_str(" ")?;
+            push_in_brackets(words, text.as_slice())
+        }
         None => words.push_str(" -"),
     }
 }
@@ -67,22 +71,20 @@ fn push_upload(words: &mut String, new: &NewUpload) -> Result<(), AllocError> {
 /// bytes.
 fn push_patch(words: &mut String, patch: &Patch) -> Result<(), AllocError> {
     let media = if patch.media { "media" } else { "other" };
-    let bytes = patch.bytes.as_slice().escape_ascii();
     write!(
         words,
-        "patch {:?} {media} {:?} {:?} [{bytes}]",
+        "patch {:?} {media} {:?} {:?} ",
         patch.id, patch.offset, patch.length
-    )
+    )?;
+    push_in_brackets(words, patch.bytes.as_slice())
 }
 
 /// Each pair as " name=ab;".
 fn push_pairs(words: &mut String, pairs: &Pairs) -> Result<(), AllocError> {
     for (key, value) in pairs.as_slice() {
-        let (key, value) = (
-            key.as_slice().escape_ascii(),
-            value.as_slice().escape_ascii(),
-        );
-        write!(words, " {key}={value};")?;
+        words.push_str(" ")?;
+        push_pair(words, key.as_slice(), "=", value.as_slice())?;
+        words.push_str(";")?;
     }
     Ok(())
 }
@@ -148,8 +150,9 @@ fn push_wire_faults(words: &mut String) -> Result<(), AllocError> {
         WireFault::NoMemory,
         WireFault::WriteFailed,
     ] {
-        let text = fault.text().as_bytes().escape_ascii();
-        write!(words, "{:?} {text} ", fault.status())?;
+        write!(words, "{:?} ", fault.status())?;
+        push_escaped(words, fault.text().as_bytes())?;
+        words.push_str(" ")?;
     }
     Ok(())
 }
@@ -167,8 +170,9 @@ fn push_header_faults(words: &mut String) -> Result<(), AllocError> {
         HeaderFault::BadMetadata,
         HeaderFault::NoMemory,
     ] {
-        let text = fault.text().as_bytes().escape_ascii();
-        write!(words, "{} {text} ", fault.status())?;
+        write!(words, "{} ", fault.status())?;
+        push_escaped(words, fault.text().as_bytes())?;
+        words.push_str(" ")?;
     }
     Ok(())
 }

@@ -3,6 +3,7 @@
 use crate::rows::messages::Messages;
 use crate::rows::messages::devices::{Drops, WaitingSink, WaitingSource};
 use crate::rows::row_fault::RowFault;
+use crate::text::{push_escaped, push_in_brackets, push_pair};
 use std::alloc::{AllocError, Global};
 use std::cell::Cell;
 use std::fmt::Write;
@@ -24,17 +25,16 @@ fn push_if(words: &mut String, word: &str, stands: bool) -> Result<(), AllocErro
 }
 
 fn push_message(words: &mut String, message: &Message) -> Result<(), AllocError> {
-    let target = message.target.as_slice().escape_ascii();
-    write!(words, "{} {target}", message.method.as_str())?;
+    words.push_str(message.method.as_str())?;
+    words.push_str(" ")?;
+    push_escaped(words, message.target.as_slice())?;
     for (name, value) in message.fields.as_slice() {
-        let (name, value) = (
-            name.as_slice().escape_ascii(),
-            value.as_slice().escape_ascii(),
-        );
-        write!(words, " {name}: {value};")?;
+        words.push_str(" ")?;
+        push_pair(words, name.as_slice(), ": ", value.as_slice())?;
+        words.push_str(";")?;
     }
-    let body = message.body.as_slice().escape_ascii();
-    write!(words, " [{body}]")?;
+    words.push_str(" ")?;
+    push_in_brackets(words, message.body.as_slice())?;
     push_if(words, " bare", message.bare)?;
     push_if(words, " close", message.close)
 }
@@ -52,13 +52,17 @@ fn push_written(words: &mut String, sink: &WaitingSink, at: bool) -> Result<(), 
             }
             Ok(())
         }
-        _ => write!(words, " wrote [{}]", sink.taken.escape_ascii()),
+        _ => {
+            words.push_str(" wrote ")?;
+            push_in_brackets(words, &sink.taken)
+        }
     }
 }
 
 fn push_rest(words: &mut String, rest: &[u8]) -> Result<(), AllocError> {
     if !rest.is_empty() {
-        write!(words, " rest [{}]", rest.escape_ascii())?;
+        words.push_str(" rest ")?;
+        push_in_brackets(words, rest)?;
     }
     Ok(())
 }

@@ -4,7 +4,7 @@ use crate::rows::line::cut;
 use crate::rows::messages::Messages;
 use crate::rows::messages::devices::WaitingSink;
 use crate::rows::row_fault::RowFault;
-use crate::text::put_bytes;
+use crate::text::{push_in_brackets, put_bytes};
 use std::alloc::{AllocError, Global};
 use std::cell::Cell;
 use std::io::BufWriter;
@@ -55,7 +55,10 @@ fn words_of(
     mark: &str,
 ) -> Result<String, RowFault> {
     let failed = if ended.is_err() { "failed " } else { "" };
-    Ok(format!(in alloc; "{failed}[{}]{mark}", bytes.escape_ascii())?)
+    let mut words = String::from_str(alloc, failed)?;
+    push_in_brackets(&mut words, bytes)?;
+    words.push_str(mark)?;
+    Ok(words)
 }
 
 /// What a sink that takes one byte at a time has received.

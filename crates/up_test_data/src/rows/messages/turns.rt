@@ -1,6 +1,6 @@
 //! Readers and writers of std as devices.
 use crate::rows::row_fault::RowFault;
-use crate::text::put_bytes;
+use crate::text::{push_in_brackets, put_bytes};
 use std::alloc::{AllocError, Global};
 use std::fmt::Write as _;
 use std::io::{self, BufReader, ErrorKind, Read, Write};
@@ -46,6 +46,13 @@ impl<'a> Write for Turns<'a> {
     }
 }
 
+/// Adds the result of a read, and the bytes that it moved.
+fn push_moved(words: &mut String, run: ReadSome, bytes: &[u8]) -> Result<(), AllocError> {
+    write!(words, "{run:?} ")?;
+    push_in_brackets(words, bytes)?;
+    words.push_str(" ")
+}
+
 /// Adds what a source returns if it is asked for at most three bytes.
 fn push_run<R: Source>(
     alloc: Global,
@@ -56,7 +63,7 @@ fn push_run<R: Source>(
     if in_line {
         let mut into = Vec::with_capacity(alloc, 8)?;
         let run = source.take_in_line(&mut into, 3);
-        return write!(words, "{run:?} [{}] ", into.escape_ascii());
+        return push_moved(words, run, &into);
     }
     let mut into = [0; 3];
     let run = source.take_into(&mut into);
@@ -65,7 +72,7 @@ fn push_run<R: Source>(
     } else {
         0
     };
-    write!(words, "{run:?} [{}] ", into[..moved].escape_ascii())
+    push_moved(words, run, &into[..moved])
 }
 
 /// Adds what a source returns for these steps.
@@ -94,7 +101,8 @@ fn push_slice(
     words: &mut String,
 ) -> Result<(), AllocError> {
     push_steps(alloc, &mut Input::new(&mut reader), steps, words)?;
-    write!(words, "rest [{}]", reader.escape_ascii())
+    words.push_str("rest ")?;
+    push_in_brackets(words, reader)
 }
 
 /// What a slice as a source returns, and what is left of the slice.
