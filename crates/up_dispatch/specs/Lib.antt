@@ -3,6 +3,7 @@ pub mod ByBook
 pub mod Commits
 pub mod Counts
 pub mod Exchanges
+pub mod Free
 pub mod QueuedUpTo
 pub mod Idle
 pub mod Keepers

@@ -2,6 +2,7 @@
 ghost use Rattle.std.specs.Prelude.{◌≡◌, ◌≤◌, ◌<◌, ◌^◌, [], length, vec_len, IfNone, IfOk, IfSome, Some};
 ghost use Rattle.up_events.specs.Limits.{max_upload_bytes};
 ghost use Rattle.up_headers.specs.Table.{FitsWithin};
+ghost use Rattle.up_dispatch.specs.Free.{MayCommit};
 ghost use Rattle.up_dispatch.specs.Lists.{EachAt};
 ghost use Rattle.up_dispatch.specs.Parts.{IsNamed, capacities_of};
 ghost use Rattle.up_dispatch.specs.Keepers.{SeatPlans, SeatCommits};
@@ -153,7 +154,8 @@ impl<B: Naming> Board<B> {
 
     /// Decides on a request from a seat, in a state of the board that includes all changes made from this seat, and
     /// carries it out unless it is refused. `asked` is what the closures answered. The error says why the request is
-    /// refused. What the book no longer needs, such as the bytes of a removed upload, is dropped after the lock is
+    /// refused. A board that follows a history is changed by `commit_at` alone: here it only refuses what a closure
+    /// refuses. What the book no longer needs, such as the bytes of a removed upload, is dropped after the lock is
     /// released.
     pub fn commit<R: Wait>(
         &self,
@@ -165,6 +167,7 @@ impl<B: Naming> Board<B> {
         asked: &Asked,
     ) -> Result<Done, Refusal>
         requires bounded { FitsWithin MAX_UPLOAD_BYTES request }
+        requires free { MayCommit B.history asked.now }
         ensures { SeatCommits B.queue B.lanes B.max_size seat.old request id asked.now
             seat.new result }
     {

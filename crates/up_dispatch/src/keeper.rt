@@ -1,6 +1,7 @@
 //! What plans and commits requests: a book that is lent, or a seat of a board.
 ghost use Rattle.std.specs.Prelude.{◌≡◌};
 ghost use Rattle.up_headers.specs.Table.{FitsWithin};
+ghost use Rattle.up_dispatch.specs.Free.{no_history};
 
 use crate::board::Board;
 use crate::naming::Naming;
@@ -101,17 +102,19 @@ impl Keeper for Lent<'_> {
     }
 }
 
-/// A board, through one of its seats. Others may change the board between any two calls.
+/// A board that follows no history, through one of its seats. Others may change the board between any two calls.
 #[derive(Drop)]
 pub struct Seated<'a, B: Naming, R: Wait> {
     rt: &'a R,
     board: &'a Board<B>,
     seat: &'a mut Seat<B>,
+    ghost free: { B.history ≡ no_history },
 }
 
 impl<'a, B: Naming, R: Wait> Seated<'a, B, R> {
     /// Borrows the seat.
     pub fn new(rt: &'a R, board: &'a Board<B>, seat: &'a mut Seat<B>) -> Seated<'a, B, R>
+        requires free { B.history ≡ no_history }
         ensures state { ⟦<Seated<'a, B, R> as Keeper>⟧.state result ≡ seat.old }
         ensures lender { ⟦<Seated<'a, B, R> as Keeper>⟧.lender result ≡ seat.entry.ghost_name }
     {

@@ -3,7 +3,9 @@ ghost use Rattle.std.specs.Prelude.{◌≡◌};
 ghost use Rattle.up_hooks.specs.MayAnswer.{ClosuresMayAnswer};
 ghost use Rattle.up_dispatch.specs.Answering.{Serves};
 ghost use Rattle.up_dispatch.specs.Exchanges.{KeepsBorrows, stand_in};
-ghost use Rattle.up_dispatch.specs.Keepers.{by_seat};
+ghost use Rattle.up_dispatch.specs.Free.{no_history};
+ghost use Rattle.up_dispatch.specs.Keepers.{by_seat, SeatPlans};
+ghost use Rattle.up_dispatch.specs.Keeps.{keeping};
 ghost use Rattle.up_dispatch.specs.Turn.{Converses};
 
 use crate::board::Board;
@@ -19,7 +21,8 @@ use std::sync::Wait;
 use up_hooks::PreHooks;
 use up_wire::{Sink, Source};
 
-/// Serves one conversation from a seat of the board. No body may be larger than an upload of the board.
+/// Serves one conversation from a seat of a board that follows no history. No body may be larger than an upload of
+/// the board.
 pub fn converse_at<B: Naming, I: Ids, R: Source, W: Sink, T: Wait>(
     rt: &T,
     alloc: Global,
@@ -28,6 +31,7 @@ pub fn converse_at<B: Naming, I: Ids, R: Source, W: Sink, T: Wait>(
     hooks: &PreHooks,
     exchange: &mut Exchange<'_, I, R, W>,
 ) -> Ended
+    requires free { B.history ≡ no_history }
     ensures served { Converses
         (Serves (by_seat B.queue B.lanes B.max_size (ClosuresMayAnswer hooks.now)) I.draws)
         B.max_size
@@ -44,8 +48,15 @@ pub fn converse_at<B: Naming, I: Ids, R: Source, W: Sink, T: Wait>(
 pub trait Service: Sync {
     ghost use Rattle.logbook.specs.Pages.{Book};
 
+    ghost use Rattle.std.specs.Prelude.{ℕ};
+    ghost use Rattle.up_queue.specs.EndViews.{QueueId};
+    ghost use Rattle.up_dispatch.specs.Keeps.{Committing};
+
     // The history that the books of its boards follow.
     ghost history: { Book };
+
+    // The commits of its seats, on a board with these queues, this many lanes and this size limit.
+    ghost commits: { (ℕ → QueueId) → ℕ → ℕ → Committing ℕ };
 
     /// Prepares a new board for the first conversation, from this seat, which is returned. Also returns whether the
     /// board is ready. If it isn't, no conversation is to be served on it.
@@ -68,7 +79,13 @@ pub trait Service: Sync {
         hooks: &PreHooks,
         exchange: &mut Exchange<'_, I, R, W>,
     ) -> Ended
-        requires same { B.history ≡ history };
+        requires same { B.history ≡ history }
+        ensures served { Converses
+            (Serves (keeping (SeatPlans B.queue B.lanes B.max_size)
+                (commits B.queue B.lanes B.max_size) (ClosuresMayAnswer hooks.now)) I.draws)
+            B.max_size
+            (stand_in R.device W.device seat.old exchange.old)
+            (stand_in R.device W.device seat.new exchange.new) result };
 }
 
 /// Makes each change at once, in memory only.
@@ -76,7 +93,12 @@ pub trait Service: Sync {
 pub struct AtOnce;
 
 impl Service for AtOnce {
-    ghost history = { record { number = 0; log_name = 0; cells_name = 0 } };
+    ghost use Rattle.up_dispatch.specs.Free.{no_history};
+    ghost use Rattle.up_dispatch.specs.Keepers.{SeatCommits};
+
+    ghost history = { no_history };
+
+    ghost commits = { SeatCommits };
 
     fn begin<B: Naming, T: Wait>(
         &self,

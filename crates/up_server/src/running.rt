@@ -1,6 +1,7 @@
 //! One conversation on a new board, with each lane in a thread of its own.
 ghost use Rattle.std.specs.Prelude.{◌≡◌, ◌∷◌, IfOk, vec_len, [], length, sum, All};
 ghost use Rattle.up_hooks.specs.MayAnswer.{ClosuresMayAnswer};
+ghost use Rattle.up_dispatch.specs.Free.{no_history};
 ghost use Rattle.up_dispatch.specs.Lists.{EachAt};
 ghost use Rattle.up_dispatch.specs.Parts.{IsNamed};
 ghost use Rattle.up_server.specs.Seats.{IsServedFrom};
@@ -56,6 +57,7 @@ fn converse_from<B: Naming, R: Source, W: Sink, T: Wait>(
     source: &mut R,
     sink: &mut W,
 ) -> Ended
+    requires free { B.history ≡ no_history }
     ensures served { IsServedFrom
         B.queue B.lanes (ClosuresMayAnswer hooks.now) B.max_size seat.old seat.new
         (R.device source.old) (R.device source.new)
@@ -91,6 +93,7 @@ fn drive<B: Naming + Send + Sync, H: PostHook + Drop, R: Source, W: Sink, T: Thr
     source: &mut R,
     sink: &mut W,
 ) -> Result<Driven<B, H>, NoMemory>
+    requires free { B.history ≡ no_history }
     requires lanes { EachAt (λ k l. (l.lane ≡ k) × (l.queue ≡ B.queue k)) lanes.items }
     ensures count { IfOk result (λ d. vec_len d.lanes ≡ vec_len lanes) }
     ensures ends { IfOk result (λ d. EachAt (λ k e. H.is_sound e.hook
@@ -110,6 +113,7 @@ fn drive<B: Naming + Send + Sync, H: PostHook + Drop, R: Source, W: Sink, T: Thr
         &runner,
         lanes,
         move || -> (Ended, Seat<B>, &mut R, &mut W)
+            requires free { B.history ≡ no_history }
             ensures same_source { result.2.ghost_name ≡ source.entry.ghost_name }
             ensures same_sink { result.3.ghost_name ≡ sink.entry.ghost_name }
             ensures served { IsServedFrom
@@ -149,6 +153,7 @@ pub fn run<
     sink: &mut W,
 ) -> Result<Served<H>, NoMemory>
     requires named { IsNamed B.name B.parts B.queue B.lanes parts }
+    requires free { B.history ≡ no_history }
     requires lanes { settings.now.lanes ≡ B.lanes }
     requires sized { settings.now.max_size ≡ B.max_size }
     requires one_for_each { vec_len hooks.post ≡ settings.now.lanes }

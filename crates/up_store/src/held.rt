@@ -3,9 +3,9 @@ ghost use Rattle.std.specs.Prelude.{◌≡◌, IfOk, length};
 
 use sqlite_disk::Disk;
 use std::mem;
-use up_history::{Chronicle, Front, History};
-use up_log::{Entry, Log, LogFault};
-use up_tie::{Batch, OnDisk, Site, Written};
+use up_history::Chronicle;
+use up_log::{Log, LogFault};
+use up_tie::{Batch, LogHistory, OnDisk, Site, Written};
 
 /// Who opens the file of the changes.
 pub trait LogFile<D> {
@@ -20,32 +20,24 @@ enum State<D: Disk, J: Site> {
     /// It was not read yet.
     Unread,
     Open(Written<D, J>),
-    /// A call failed, and the file could not be opened again. These entries were written to it, and the next block
-    /// begins at this place.
-    Closed(Front<Entry, J>, usize),
+    /// A call failed, and the file could not be opened again. This was written to it, and the next block begins at this
+    /// place.
+    Closed(LogHistory<J>, usize),
 }
 
 /// The log of the changes, and the history of what is written to it. If a call fails in such a way that the log accepts
 /// no more batches, the next call opens the file again.
 #[derive(Drop)]
 pub(crate) struct Held<D: Disk, J: Site> {
-    /// Only who appends to the log adds to this.
-    history: History<Entry, J>,
     state: State<D, J>,
 }
 
 impl<D: Disk, J: Site> Held<D, J> {
     /// A log that was not read yet.
-    pub(crate) fn unread(history: History<Entry, J>) -> Held<D, J> {
+    pub(crate) fn unread() -> Held<D, J> {
         Held {
-            history,
             state: State::Unread,
         }
-    }
-
-    /// What is written to the log.
-    pub(crate) fn history(&self) -> &History<Entry, J> {
-        &self.history
     }
 
     /// Uses this log from now on.
@@ -61,12 +53,12 @@ impl<D: Disk, J: Site> Held<D, J> {
     where
         D: Drop,
     {
-        let front = match &self.state {
+        let history = match mem::replace(&mut self.state, State::Unread) {
             State::Unread => return,
-            State::Open(written) => written.front(),
-            State::Closed(front, _) => front.again(),
+            State::Open(written) => written.into_parts().1,
+            State::Closed(history, _) => history,
         };
-        self.state = State::Open(Written::over(log, front));
+        self.state = State::Open(Written::over(log, history));
     }
 
     /// The log, if it is open.
@@ -115,20 +107,26 @@ impl<D: Disk, J: Site> Held<D, J> {
     where
         D: Drop,
     {
-        let (front, place, failed) = match mem::replace(&mut self.state, State::Unread) {
+        let (history, place, failed) = match mem::replace(&mut self.state, State::Unread) {
             State::Open(written) if written.is_broken() => {
-                let (front, place) = (written.front(), written.end_place());
-                (front, place, Some(written.into_log().into_device()))
+                let place = written.end_place();
+                let (log, history) = written.into_parts();
+                (history, place, Some(log.into_device()))
             }
-            State::Closed(front, place) => (front, place, None),
+            State::Closed(history, place) => (history, place, None),
             other => {
                 self.state = other;
                 return Ok(());
             }
         };
-        self.state = State::Closed(front.again(), place);
-        let device = file.open_again(generation, failed)?;
-        let (written, resumed) = Written::resume(device, place, front);
+        let device = match file.open_again(generation, failed) {
+            Ok(device) => device,
+            Err(fault) => {
+                self.state = State::Closed(history, place);
+                return Err(fault);
+            }
+        };
+        let (written, resumed) = Written::resume(device, place, history);
         self.state = State::Open(written);
         resumed
     }
@@ -149,7 +147,7 @@ impl<D: Disk, J: Site> Held<D, J> {
     {
         self.open_again(file, generation)?;
         match &mut self.state {
-            State::Open(written) => written.append(room, &self.history, batch),
+            State::Open(written) => written.append(room, batch),
             _ => Err(LogFault::NotRead),
         }
     }

@@ -59,8 +59,8 @@ impl<D: Disk, N, F, J: Site, K: Chronicle> Keeping<D, N, F, J, K> {
         requires reader { J.premise
             → (batches : List (List Logged)) × IsReaderAt D.Disk changes J.setup [] batches }
     {
-        let (store, front) = Store::unread(alloc, notices, histories)?;
-        let reading = Reading::new(changes, front);
+        let (store, history) = Store::unread(alloc, notices, histories)?;
+        let reading = Reading::new(changes, history);
         Ok(Keeping {
             store,
             readers: Mutex::new(Some((reading, voids))),
@@ -115,7 +115,11 @@ impl<
     J: Site + Send,
     K: Chronicle + Send,
 > Service for Keeping<D, N, F, J, K> {
+    ghost use Rattle.up_store.specs.StoredCommits.{StoredCommits};
+
     ghost history = { J.history };
+
+    ghost commits = { StoredCommits };
 
     /// Carries out the changes of the log again, and opens the store. If that fails the notices are told why.
     fn begin<B: Naming, T: Wait>(

@@ -1,9 +1,10 @@
 //! Carrying out the entries of a log again, on a board.
-ghost use Rattle.std.specs.Prelude.{◌≡◌, ◌++◌, OnOk, List, Result, Some, true, false};
+ghost use Rattle.std.specs.Prelude.{◌≡◌, ◌≢◌, ◌++◌, OnOk, List, Result, Err, Some, true, false};
 ghost use Rattle.up_dispatch.specs.Tied.{CommitsAfter};
 ghost use Rattle.up_log.specs.declared.entry.Entry.{Entry as Logged};
 ghost use Rattle.up_machine.specs.declared.plan.Done.{Done as Carried};
 ghost use Rattle.up_machine.specs.declared.refusal.Refusal.{Refusal as Refused};
+ghost use Rattle.up_machine.specs.declared.refusal.Refusal.TheVariants.{NoMemory};
 
 use crate::store::Store;
 use crate::voids::Voids;
@@ -12,7 +13,7 @@ use std::alloc::Global;
 use std::collections::BTreeSet;
 use std::sync::Wait;
 use up_dispatch::{Board, Naming, Seat};
-use up_history::{Chronicle, Front, History, Receipt};
+use up_history::{Chronicle, Front, Receipt};
 use up_log::{Entry, LogFault, LogReader};
 use up_machine::Refusal;
 use up_message::Sequence;
@@ -42,7 +43,8 @@ fn take_in<B: Naming, R: Wait>(
     requires claims { receipt.now.entry ≡ Some entry }
     ensures void { is_void ≡ true → seat.new ≡ seat.old }
     ensures carried { is_void ≡ false → OnOk result ((done : Result Carried Refused)
-        × CommitsAfter B.queue B.lanes B.max_size receipt.now.before seat.old entry seat.new done) }
+        × CommitsAfter B.queue B.lanes B.max_size receipt.now.before seat.old entry seat.new done
+        × (done ≢ Err NoMemory)) }
 {
     if is_void {
         return match board.pass_over(rt, receipt, &entry) {
@@ -82,7 +84,7 @@ fn take_in_all<B: Naming, R: Wait>(
 }
 
 /// Reads the logs of a store to their ends, and carries out the changes again in their order, from this seat of a new
-/// board. What is read is added to the history.
+/// board.
 fn restore_on<B: Naming, D: Disk, J: Site, R: Wait>(
     rt: &R,
     alloc: Global,
@@ -90,7 +92,6 @@ fn restore_on<B: Naming, D: Disk, J: Site, R: Wait>(
     seat: &mut Seat<B>,
     changes: Reading<D, J>,
     voids: LogReader<D>,
-    history: &History<Entry, J>,
 ) -> Result<Logs<D, J>, Unrestored>
 where
     D: Drop,
@@ -99,7 +100,7 @@ where
     let (voids, places) = Voids::read(alloc, voids)?;
     let mut reading = changes;
     for _ in 0..u64::MAX {
-        let (next, batch) = reading.next_batch(alloc, history)?;
+        let (next, batch) = reading.next_batch(alloc)?;
         reading = next;
         let Some(entries) = batch else {
             break;
@@ -135,8 +136,7 @@ impl<D: Disk, N, J: Site, K: Chronicle> Store<D, N, J, K> {
         requires same { J.history ≡ B.history }
     {
         let (changes, voids) = readers;
-        let held = self.log.lock(rt);
-        let logs = restore_on(rt, alloc, board, seat, changes, voids, held.history())?;
+        let logs = restore_on(rt, alloc, board, seat, changes, voids)?;
         if logs.count < least {
             return Err(Unrestored::Log(LogFault::Damaged));
         }

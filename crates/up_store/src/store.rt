@@ -11,9 +11,9 @@ use sqlite_disk::Disk;
 use std::alloc::{AllocError, Global};
 use std::sync::atomic::{AtomicBool, AtomicU64, Ordering};
 use std::sync::{Condvar, Mutex, Wait};
-use up_history::{Chronicle, Front, Opened, Receipt};
+use up_history::{Chronicle, Opened, Receipt};
 use up_log::{Entry, Log, LogFault, Spelled};
-use up_tie::{Batch, OnDisk, Site};
+use up_tie::{Batch, LogHistory, NewHistory, OnDisk, Site};
 
 /// The number of bells. If there are more connections, they share them.
 const BELLS: u64 = 64;
@@ -25,7 +25,7 @@ const MAX_ROOM: usize = 1 << 24;
 #[derive(Drop)]
 pub struct Histories {
     /// What is written to the log.
-    pub written: Opened<Entry>,
+    pub written: NewHistory,
     /// The changes in the order in which they are drawn.
     pub drawn: Opened<Entry>,
 }
@@ -34,7 +34,7 @@ impl Histories {
     /// New histories. Takes no memory.
     pub fn new() -> Histories {
         Histories {
-            written: Opened::new(),
+            written: NewHistory::new(),
             drawn: Opened::new(),
         }
     }
@@ -61,13 +61,13 @@ pub struct Store<D: Disk, N, J: Site, K: Chronicle> {
 }
 
 impl<D: Disk, N, J: Site, K: Chronicle> Store<D, N, J, K> {
-    /// A store whose logs were not read yet, so that nothing can be written. Also returns the front of what is in the
-    /// log, of which nothing was seen. The error is that memory ran out.
+    /// A store whose logs were not read yet, so that nothing can be written. Also returns the history of what is
+    /// in the log, for who reads it. The error is that memory ran out.
     pub fn unread(
         alloc: Global,
         notices: N,
         histories: Histories,
-    ) -> Result<(Store<D, N, J, K>, Front<Entry, J>), AllocError>
+    ) -> Result<(Store<D, N, J, K>, LogHistory<J>), AllocError>
     where
         D: Drop,
         N: Drop,
@@ -80,11 +80,11 @@ impl<D: Disk, N, J: Site, K: Chronicle> Store<D, N, J, K> {
             bells.push(Condvar::new())?;
         }
         let Histories { written, drawn } = histories;
-        let (history, front) = written.named();
-        let line = Line::new(alloc, drawn, front.again())?;
+        let history: LogHistory<J> = written.named();
+        let line = Line::new(alloc, drawn, history.front())?;
         let store = Store {
             line: Mutex::new(line),
-            log: Mutex::new(Held::unread(history)),
+            log: Mutex::new(Held::unread()),
             room: Mutex::new(Vec::new(alloc)),
             voids: Mutex::new(None),
             bells,
@@ -93,7 +93,7 @@ impl<D: Disk, N, J: Site, K: Chronicle> Store<D, N, J, K> {
             is_failing: AtomicBool::new(false),
             notices,
         };
-        Ok((store, front))
+        Ok((store, history))
     }
 
     /// Opens the store with logs that were read to their ends, and to which nobody else writes.

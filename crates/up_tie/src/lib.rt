@@ -2,12 +2,14 @@
 #![tactic(auto)]
 
 mod batch;
+mod log_history;
 mod on_disk;
 mod reading;
 mod site;
 mod written;
 
 pub use batch::Batch;
+pub use log_history::{LogHistory, NewHistory};
 pub use on_disk::OnDisk;
 pub use reading::Reading;
 pub use site::Site;

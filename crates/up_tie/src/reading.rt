@@ -3,6 +3,7 @@ ghost use Rattle.std.specs.Prelude.{◌≡◌, ◌++◌, ◌<◌, [], List, true
 ghost use Rattle.up_log.specs.Logs.{IsReaderAt, unread};
 ghost use Rattle.up_log.specs.declared.entry.Entry.{Entry as Logged};
 
+use crate::log_history::LogHistory;
 use crate::site::Site;
 use crate::written::Written;
 use sqlite_disk::Disk;
@@ -17,6 +18,7 @@ use up_message::Sequence;
 #[derive(Drop)]
 pub struct Reading<D: Disk, J: Site> {
     reader: LogReader<D>,
+    history: History<Entry, J>,
     front: Front<Entry, J>,
 }
 
@@ -32,14 +34,19 @@ impl<D: Disk, J: Site> Model for Reading<D, J> {
 }
 
 impl<D: Disk, J: Site> Reading<D, J> {
-    /// A log of which no batch was read, and a history of which no entry was seen.
-    pub fn new(reader: LogReader<D>, front: Front<Entry, J>) -> Reading<D, J>
+    /// A log of which no batch was read, and a history to which nothing was added.
+    pub fn new(reader: LogReader<D>, history: LogHistory<J>) -> Reading<D, J>
         requires reader { J.premise
             → (batches : List (List Logged)) × IsReaderAt D.Disk reader J.setup [] batches }
-        requires front { front ≡ [] }
+        requires new { history ≡ [] }
         ensures { result ≡ record { entries = []; unread = unread reader } }
     {
-        Reading { reader, front }
+        let LogHistory { history, front } = history;
+        Reading {
+            reader,
+            history,
+            front,
+        }
     }
 
     /// Reads the next batch and adds it to the history; `None` at the end. `Broken` if the history has entries that
@@ -47,7 +54,6 @@ impl<D: Disk, J: Site> Reading<D, J> {
     pub fn next_batch(
         self,
         alloc: Global,
-        history: &History<Entry, J>,
     ) -> Result<(Reading<D, J>, Option<Sequence<Entry>>), LogFault>
     where
         D: Drop,
@@ -56,16 +62,27 @@ impl<D: Disk, J: Site> Reading<D, J> {
         ensures further { IfOk result (λ r. IfSome r.1 (λ _. r.0.unread < self.unread)) }
         ensures end { IfOk result (λ r. IfNone r.1 (r.0.entries ≡ self.entries)) }
     {
-        let Reading { reader, front } = self;
+        let Reading {
+            reader,
+            history,
+            front,
+        } = self;
         let mut reader = reader;
         let mut front = front;
         let found = reader.next_batch(alloc)?;
         if let Some(entries) = &found {
-            if !front.add_all(history, entries.as_slice()) {
+            if !front.add_all(&history, entries.as_slice()) {
                 return Err(LogFault::Broken);
             }
         }
-        Ok((Reading { reader, front }, found))
+        Ok((
+            Reading {
+                reader,
+                history,
+                front,
+            },
+            found,
+        ))
     }
 
     /// The entries that were read.
@@ -81,9 +98,13 @@ impl<D: Disk, J: Site> Reading<D, J> {
         D: Drop,
         ensures { IfOk result (λ w. (w.entries ≡ self.entries) × (w.is_tied ≡ true)) }
     {
-        let Reading { reader, front } = self;
+        let Reading {
+            reader,
+            history,
+            front,
+        } = self;
         match reader.finish() {
-            Ok(log) => Ok(Written::tied(log, front)),
+            Ok(log) => Ok(Written::tied(log, history, front)),
             Err(refused) => Err(refused.fault),
         }
     }

@@ -9,6 +9,7 @@ ghost use Rattle.up_log.specs.declared.setup.Setup.{Setup as Numbers};
 ghost use Rattle.up_tie.specs.Ties.{LogContains, untied};
 
 use crate::batch::Batch;
+use crate::log_history::LogHistory;
 use crate::on_disk::OnDisk;
 use crate::site::Site;
 use logbook::Plain;
@@ -36,6 +37,7 @@ impl Plain<Spelled, Option<Entry>, u64> for OfSpelled {
 #[derive(Drop)]
 pub struct Written<D: Disk, J: Site> {
     log: Log<D>,
+    history: History<Entry, J>,
     front: Front<Entry, J>,
     is_tied: bool,
 }
@@ -70,23 +72,30 @@ fn add_changes<J: Site>(
 
 impl<D: Disk, J: Site> Written<D, J> {
     /// A log that was read to its end: it contains the entries that the front has seen.
-    pub(crate) fn tied(log: Log<D>, front: Front<Entry, J>) -> Written<D, J>
+    pub(crate) fn tied(
+        log: Log<D>,
+        history: History<Entry, J>,
+        front: Front<Entry, J>,
+    ) -> Written<D, J>
         requires { LogContains D.Disk log J.setup J.premise front }
         ensures { result ≡ record { log = log; entries = front; is_tied = true } }
     {
         Written {
             log,
+            history,
             front,
             is_tied: true,
         }
     }
 
     /// A log that takes the place of the one with these entries.
-    pub fn over(log: Log<D>, front: Front<Entry, J>) -> Written<D, J>
-        ensures { result ≡ untied log front }
+    pub fn over(log: Log<D>, history: LogHistory<J>) -> Written<D, J>
+        ensures { result ≡ untied log history }
     {
+        let LogHistory { history, front } = history;
         Written {
             log,
+            history,
             front,
             is_tied: false,
         }
@@ -98,9 +107,9 @@ impl<D: Disk, J: Site> Written<D, J> {
     pub fn resume(
         device: D,
         place: usize,
-        front: Front<Entry, J>,
+        history: LogHistory<J>,
     ) -> (Written<D, J>, Result<(), LogFault>)
-        ensures untied { result.0 ≡ untied result.0.log front }
+        ensures untied { result.0 ≡ untied result.0.log history }
         ensures place { result.0.log.gate ≡ place }
         ensures settled { (setup : Numbers) (batches : List (List Logged)) (more : List Logged)
             → ((c : List ℕ) → D.may_leave device c → IsBeforeOrAfter setup batches more c)
@@ -116,7 +125,7 @@ impl<D: Disk, J: Site> Written<D, J> {
         ensures broken { OnErr result.1 (IsTrue result.0.log.is_broken) }
     {
         let (log, result) = Log::resume(device, place);
-        (Written::over(log, front), result)
+        (Written::over(log, history), result)
     }
 
     /// The number of entries that were written.
@@ -180,7 +189,6 @@ impl<D: Disk, J: Site> Written<D, J> {
     pub fn append<K: Chronicle>(
         &mut self,
         room: &mut Vec<u8>,
-        history: &History<Entry, J>,
         batch: &Batch<K>,
     ) -> Result<OnDisk<J, K>, LogFault>
         ensures ok { IfOk result (λ _.
@@ -211,7 +219,7 @@ impl<D: Disk, J: Site> Written<D, J> {
         }
         self.log.append(room, batch.changes())?;
         let mut front = self.front.again();
-        if !add_changes(&mut front, history, batch.changes()) {
+        if !add_changes(&mut front, &self.history, batch.changes()) {
             // Nobody else adds to this history, so this does not happen.
             self.is_tied = false;
             return Err(LogFault::Broken);
@@ -227,5 +235,18 @@ impl<D: Disk, J: Site> Written<D, J> {
             → LogContains D.Disk result J.setup J.premise self.entries }
     {
         self.log
+    }
+
+    /// The log, and the history of what was written to it.
+    pub fn into_parts(self) -> (Log<D>, LogHistory<J>)
+        ensures { (result.0 ≡ self.log) × (result.1 ≡ self.entries) }
+    {
+        let Written {
+            log,
+            history,
+            front,
+            ..
+        } = self;
+        (log, LogHistory { history, front })
     }
 }

@@ -1,5 +1,6 @@
 //! Changes that a closure refuses.
 ghost use Rattle.std.specs.Prelude.{◌≡◌, length};
+ghost use Rattle.up_dispatch.specs.Free.{no_history};
 ghost use Rattle.up_dispatch.specs.Parts.{IsNamed};
 
 use super::disks::{count_in, files_of};
@@ -51,6 +52,7 @@ fn refused_plainly<B: Naming, R: Wait>(
     requires named { IsNamed B.name B.parts B.queue B.lanes parts }
     requires lanes { length parts.queues ≡ 2 }
     requires sized { B.max_size ≡ 1000 }
+    requires free { B.history ≡ no_history }
 {
     let (board, mut seat) = board_of::<B, R>(rt, alloc, parts)?;
     Ok(refuse(alloc, &mut Seated::new(rt, &board, &mut seat), refused)?)

@@ -1,5 +1,6 @@
 //! Boards whose changes are written to a store first, and boards that are restored from its logs.
 ghost use Rattle.std.specs.Prelude.{◌≡◌, length};
+ghost use Rattle.up_dispatch.specs.Free.{no_history};
 ghost use Rattle.up_dispatch.specs.Parts.{IsNamed};
 ghost use Rattle.up_events.specs.declared.limits.TheConstants.{MAX_UPLOAD_BYTES};
 ghost use Rattle.up_headers.specs.Table.{FitsWithin};
@@ -108,20 +109,19 @@ fn work<K: Keeper>(alloc: Global, keeper: &mut K, job: &Job) -> Result<Outcome, 
 }
 
 /// The counts of a board, and its responses to HEAD and GET of each upload.
-pub fn seen<B: Naming, R: Wait>(
+pub fn seen<B: Naming, K: Keeper, R: Wait>(
     rt: &R,
     alloc: Global,
     board: &Board<B>,
-    seat: &mut Seat<B>,
+    keeper: &mut K,
 ) -> Result<Seen, Fail> {
     let hooks = PreHooks::new(Vec::new(alloc));
     let mut sink = Output::new(Vec::new(alloc));
-    let mut keeper = Seated::new(rt, board, seat);
     for number in 0..UPLOADS {
         let id = Id::new(u128::from(number));
-        let response = answer(alloc, &mut keeper, &hooks, Request::Head(id), id);
+        let response = answer(alloc, keeper, &hooks, Request::Head(id), id);
         write_response(&mut sink, &response, false, false)?;
-        let response = answer(alloc, &mut keeper, &hooks, Request::Get(id), id);
+        let response = answer(alloc, keeper, &hooks, Request::Get(id), id);
         write_response(&mut sink, &response, false, false)?;
     }
     Ok((board.counts(rt), sink.into_inner()))
@@ -154,10 +154,12 @@ fn plain_of<B: Naming, R: Wait>(
     requires named { IsNamed B.name B.parts B.queue B.lanes parts }
     requires lanes { length parts.queues ≡ 2 }
     requires sized { B.max_size ≡ 1000 }
+    requires free { B.history ≡ no_history }
 {
     let (board, mut seat) = board_of::<B, R>(rt, alloc, parts)?;
-    let outcome = work(alloc, &mut Seated::new(rt, &board, &mut seat), job)?;
-    Ok((outcome, seen(rt, alloc, &board, &mut seat)?))
+    let mut keeper = Seated::new(rt, &board, &mut seat);
+    let outcome = work(alloc, &mut keeper, job)?;
+    Ok((outcome, seen(rt, alloc, &board, &mut keeper)?))
 }
 
 /// A store on these disks that was not read yet, and who reads them.
@@ -228,7 +230,8 @@ where
     let store: Store<D, &Tally, J, K> = store_on(
         rt, alloc, &board, &mut seat, disks, &tally, histories,
     )?;
-    let seen = seen(rt, alloc, &board, &mut seat)?;
+    let mut keeper = Stored::new(rt, &board, &store, &mut seat);
+    let seen = seen(rt, alloc, &board, &mut keeper)?;
     Ok((seen, files_of(store)?))
 }
 
@@ -308,7 +311,8 @@ fn run_by<
         return Ok(None);
     };
     let outcomes = work_each(rt, alloc, &board, &store, jobs)?;
-    let seen = seen(rt, alloc, &board, &mut seat)?;
+    let mut keeper = Stored::new(rt, &board, &store, &mut seat);
+    let seen = seen(rt, alloc, &board, &mut keeper)?;
     Ok(Some(Ran {
         outcomes,
         seen,

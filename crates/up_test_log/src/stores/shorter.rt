@@ -139,7 +139,8 @@ fn shorten_by<B: Naming, J: Site, K: Chronicle, R: Wait>(
         &mut Stored::new(rt, &board, &store, &mut seat),
         &SECOND,
     )?;
-    let seen = seen(rt, alloc, &board, &mut seat)?.1;
+    let mut keeper = Stored::new(rt, &board, &store, &mut seat);
+    let seen = seen(rt, alloc, &board, &mut keeper)?.1;
     let Some(current) = shortening.into_current() else {
         return Err("a store that is open".into());
     };
