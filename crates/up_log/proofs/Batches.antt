@@ -32,6 +32,13 @@ nothing (more ∷ others) back tail is (inl short) =
     absurd (omega (arith, ap length (is ∙ split more others back), length-append (body more) (blocks others ++ back), length-append (word (length (batch more))) (batch more), length_word (length (batch more))))
 nothing (more ∷ others) back tail is (inr shut) = absurd (shut (ap (λ (l : List ℕ). get_or l 0 0) (is ∙ split more others back)))
 
+-- without an open gate and something behind it the end is closed
+pub nothing_open : (tail : List ℕ) → (length tail < 2) ⊎ (get_or tail 0 0 ≢ 1) → IsClosed tail
+nothing_open [] none = tt
+nothing_open (gate ∷ []) none = tt
+nothing_open (gate ∷ next ∷ rest) (inl short) = absurd (omega (arith, short))
+nothing_open (gate ∷ next ∷ rest) (inr shut) = shut
+
 open_not : (back : List ℕ) → IsClosed back → 2 ≤ length back → get_or back 0 0 ≢ 1
 open_not [] closed long = absurd (omega arith)
 open_not (gate ∷ []) closed long = absurd (omega arith)

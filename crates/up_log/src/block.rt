@@ -1,5 +1,5 @@
 //! Reading a block of a log at its place.
-ghost use Rattle.std.specs.Prelude.{◌≡◌, ◌+◌, ◌<◌, ◌≤◌, ◌++◌, ◌∷◌, List, ℕ, length, take, drop, IfOk, IfErr, IsTrue};
+ghost use Rattle.std.specs.Prelude.{◌≡◌, ◌+◌, ◌<◌, ◌≤◌, ◌++◌, ◌∷◌, List, ℕ, length, take, drop, false, IfOk, IfErr, IsTrue};
 ghost use Rattle.up_log.specs.Blocks.{blocks, IsClosed};
 ghost use Rattle.up_log.specs.Logs.{NextIs, HasSize, IsBatchRead, BlockIs, IsDamaged};
 ghost use Rattle.up_log.specs.Spelling.{batch};
@@ -30,6 +30,9 @@ pub(crate) fn begins_at<D: Disk>(disk: &mut D, len: usize, gate: usize) -> Resul
         → drop gate (D.seen disk.old) ≡ blocks left ++ back → IsClosed back
         → len ≡ length (D.seen disk.old)
         → IfOk result (λ begins. IsTrue (D.is_clean disk.new) → NextIs left begins) }
+    ensures closed { IfOk result (λ begins. begins ≡ false
+        → len ≡ length (D.seen disk.old) → IsTrue (D.is_clean disk.new)
+        → IsClosed (drop gate (D.seen disk.old))) }
     ensures fault { IfErr result (λ fault. IsDamaged fault → ⊥) }
     ensures seen { D.seen disk.new ≡ D.seen disk.old }
     ensures clean { IsTrue (D.is_clean disk.new) → IsTrue (D.is_clean disk.old) }

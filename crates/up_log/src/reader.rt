@@ -1,7 +1,7 @@
 //! Opening a log: reading its batches one after another, and then repairing its end.
-ghost use Rattle.std.specs.Prelude.{◌≡◌, ◌<◌, ◌++◌, [], List, ℕ, length, IfOk, IfSome, IfErr, OnOk, IsTrue};
+ghost use Rattle.std.specs.Prelude.{◌≡◌, ◌<◌, ◌++◌, [], List, ℕ, length, drop, IfOk, IfSome, IfNone, IfErr, OnOk, IsTrue};
 ghost use Rattle.sqlite_disk.specs.Disk.{Only};
-ghost use Rattle.up_log.specs.Blocks.{written, IsAtRest, IsFileOf, IsLog, IsOurs};
+ghost use Rattle.up_log.specs.Blocks.{written, IsAtRest, IsClosed, IsFileOf, IsLog, IsOurs};
 ghost use Rattle.up_log.specs.Logs.{IsCleanLog, IsCleanReader, IsReaderAt, IsUnusableLog, IsFileReadUpTo};
 ghost use Rattle.up_log.specs.Logs.{IsSettled, ReadsNext, reader_leaves, log_leaves, unread};
 ghost use Rattle.up_log.specs.declared.entry.Entry.{Entry as Logged};
@@ -121,6 +121,9 @@ impl<D: Disk> LogReader<D> {
         ensures reads { (setup : Numbers) (read left : List (List Logged))
             → IsReaderAt D.Disk self.old setup read left
             → IsCleanReader D.Disk self.new → ReadsNext D.Disk self.new setup read left result }
+        ensures end { IfOk result (λ found. IfNone found
+            (self.old.len ≡ length (D.seen self.old.device) → IsCleanReader D.Disk self.new
+            → IsClosed (drop self.old.gate (D.seen self.old.device)))) }
         ensures further { IfOk result (λ found. IfSome found (λ _.
             unread self.new < unread self.old)) }
         ensures seen { D.seen self.new.device ≡ D.seen self.old.device }

@@ -1,5 +1,5 @@
 //! Continuing with a log after a call that failed.
-ghost use Rattle.std.specs.Prelude.{◌≡◌, List, ℕ, length, OnErr, OnOk, IsTrue, false};
+ghost use Rattle.std.specs.Prelude.{◌≡◌, List, ℕ, length, OnErr, OnOk, IsTrue, false, true};
 ghost use Rattle.sqlite_disk.specs.Disk.{Only};
 ghost use Rattle.up_log.specs.Blocks.{written, IsAtRest, IsBeforeOrAfter};
 ghost use Rattle.up_log.specs.Logs.{IsCleanLog, IsSettled};
@@ -57,6 +57,14 @@ fn close_again<D: Disk>(disk: &mut D, gate: usize) -> Result<(), LogFault>
 }
 
 impl<D: Disk> Log<D> {
+    /// Accepts no more batches, as after a call that failed at this place. The file is unchanged.
+    pub fn give_up(&mut self, place: usize)
+        ensures { self.new ≡ record self.old { gate = place; is_broken = true } }
+    {
+        self.gate = place;
+        self.is_broken = true;
+    }
+
     /// Continues with a log after a call that failed. `device` is its file, which was opened again, and `place` is the
     /// place of the next block (`end_place`). If the call left a batch there, the log no longer contains it. After an
     /// error, the log accepts no more batches, as before.

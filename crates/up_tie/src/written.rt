@@ -1,6 +1,6 @@
 //! A log that is written.
 ghost use Rattle.std.specs.Prelude.{◌≡◌, ◌++◌, ◌∷◌, [], List, ℕ, length, true, false, IfOk, OnOk, OnErr};
-ghost use Rattle.std.specs.Prelude.{◌<◌, Err, IfSome, IsErr};
+ghost use Rattle.std.specs.Prelude.{◌<◌, ◌⊎◌, Err, IfSome, IsErr};
 ghost use Rattle.std.specs.Prelude.{IsTrue};
 ghost use Rattle.up_log.specs.Blocks.{written, IsBeforeOrAfter};
 ghost use Rattle.up_log.specs.Logs.{IsCleanLog, IsSettled, ReadsAt};
@@ -207,6 +207,9 @@ impl<D: Disk, J: Site> Written<D, J> {
             → IsSettled D.Disk self.old.log setup batches
             → (c : List ℕ) → D.may_leave self.new.log.device c
             → IsBeforeOrAfter setup batches batch.now.entries c }
+        ensures kept { (setup : Numbers) (batches : List (List Logged))
+            → IsSettled D.Disk self.old.log setup batches → OnErr result
+            (IsSettled D.Disk self.new.log setup batches ⊎ IsTrue self.new.log.is_broken) }
         ensures open { IfOk result (λ _. self.new.log.is_broken ≡ false) }
         ensures gate { IsTrue self.new.log.is_broken → self.new.log.gate ≡ self.old.log.gate }
         ensures memory { result ≡ Err LogFault.Memory → self.new.log ≡ self.old.log }
@@ -217,11 +220,12 @@ impl<D: Disk, J: Site> Written<D, J> {
         if place.checked_add(batch.len() as u64).is_none() {
             return Err(LogFault::Broken);
         }
+        let gate = self.log.end_place();
         self.log.append(room, batch.changes())?;
         let mut front = self.front.again();
         if !add_changes(&mut front, &self.history, batch.changes()) {
-            // Nobody else adds to this history, so this does not happen.
-            self.is_tied = false;
+            // Nobody else adds to this history, so this does not happen. The batch is written over.
+            self.log.give_up(gate);
             return Err(LogFault::Broken);
         }
         self.front = front.again();
