@@ -48,7 +48,7 @@ fn numbers_of(alloc: Global, entries: &[Entry]) -> Result<Vec<u64>, LogFault>
     for entry in entries {
         let number = entry.id.number();
         if number > u128::from(u64::MAX) {
-            return Err(LogFault::Damaged);
+            return Err(LogFault::NoHead);
         }
         numbers.push(number as u64)?;
     }
@@ -67,13 +67,13 @@ impl Head {
         }
     }
 
-    /// The head in a batch. `Damaged` if the batch is not a head.
+    /// The head in a batch. `NoHead` if the batch is not a head.
     pub(crate) fn read(alloc: Global, batch: &[Entry]) -> Result<Head, LogFault>
         ensures { IfOk result (λ head. head_of (ids_of batch.now) ≡ Some head) }
     {
         let numbers = numbers_of(alloc, batch)?;
         if numbers.len() < 2 {
-            return Err(LogFault::Damaged);
+            return Err(LogFault::NoHead);
         }
         let (first, left_out) = numbers.split_at(2);
         Ok(Head {

@@ -23,7 +23,7 @@ pub fn last_head_holds()
 {}
 
 impl<D: Disk> Heads<D> {
-    /// Reads all heads, and returns the current one. `Damaged` if a batch is not a head; otherwise the errors of
+    /// Reads all heads, and returns the current one. `NoHead` if a batch is not a head; otherwise the errors of
     /// reading and finishing the log.
     pub fn read(alloc: Global, reader: LogReader<D>) -> Result<(Heads<D>, Head), LogFault>
     where

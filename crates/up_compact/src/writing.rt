@@ -86,7 +86,7 @@ fn append_any<D: Disk>(alloc: Global, log: &mut Log<D>, spelled: &[Spelled]) -> 
 
 /// Appends those of the entries of a batch that stay to a shorter log, and returns how much of the longer log is then
 /// processed. `next` is the place after the batch. After `Ok` the entries are on the disk. The errors are those of
-/// `Log::append`, `Memory` if memory runs out, and `Damaged` if there are too many entries to count.
+/// `Log::append`, `Memory` if memory runs out, and `TooMany` if there are too many entries to count.
 pub fn add_staying<D: Disk>(
     alloc: Global,
     shorter: &mut Log<D>,
@@ -108,11 +108,11 @@ pub fn add_staying<D: Disk>(
 {
     // No log has that many entries.
     let Some(count) = progress.count.checked_add(entries.len() as u64) else {
-        return Err(LogFault::Damaged);
+        return Err(LogFault::TooMany);
     };
     let spelled = spell_staying(alloc, left_out, progress.count, entries)?;
     let Some(stayed) = progress.stayed.checked_add(spelled.len() as u64) else {
-        return Err(LogFault::Damaged);
+        return Err(LogFault::TooMany);
     };
     append_any(alloc, shorter, &spelled)?;
     Ok(Progress {

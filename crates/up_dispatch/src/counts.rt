@@ -1,4 +1,8 @@
 //! The counts of a board.
+use up_events::MAX_LANES;
+
+/// The most lanes that a board has.
+pub(crate) const LANES: usize = MAX_LANES as usize;
 
 /// The counts of a board at one moment.
 #[derive(Clone, Copy, Debug, PartialEq, Eq)]
@@ -9,8 +13,8 @@ pub struct Counts {
     pub bytes: u64,
     /// The number of changes that were accepted.
     pub changes: u64,
-    /// The number of lanes, from 1 to 16.
+    /// The number of lanes, from 1 to `MAX_LANES`.
     pub lanes: u64,
     /// How many events each lane has yet to take. The first lane is at place 0. The places after the last lane are 0.
-    pub waiting: [u64; 16],
+    pub waiting: [u64; LANES],
 }

@@ -14,7 +14,7 @@ ghost use Rattle.up_dispatch.specs.Parts.{IsNamed, capacities_of};
 ghost use Rattle.up_dispatch.specs.BoardView.{IsLawfulBoardView};
 ghost use Rattle.up_dispatch.specs.Tied.{IsNewBook};
 
-use crate::counts::Counts;
+use crate::counts::{Counts, LANES};
 use crate::naming::Naming;
 use crate::parts::{BoardParts, MAX_SEATS};
 use crate::queue_cursor::{Filled, QueueCursor};
@@ -150,7 +150,7 @@ impl<B: Naming> Inside<B> {
             bytes: journal.bytes(),
             changes: journal.accepted_count(),
             lanes: self.lanes(),
-            waiting: [0; 16],
+            waiting: [0; LANES],
         }
     }
 

@@ -47,7 +47,6 @@ pub fn converse_at<B: Naming, I: Ids, R: Source, W: Sink, T: Wait>(
 /// How the conversations of a server are served.
 pub trait Service: Sync {
     ghost use Rattle.logbook.specs.Pages.{Book};
-
     ghost use Rattle.std.specs.Prelude.{ℕ};
     ghost use Rattle.up_queue.specs.EndViews.{QueueId};
     ghost use Rattle.up_dispatch.specs.Keeps.{Committing};
@@ -82,7 +81,7 @@ pub trait Service: Sync {
         requires same { B.history ≡ history }
         ensures served { Converses
             (Serves (keeping (SeatPlans B.queue B.lanes B.max_size)
-                (commits B.queue B.lanes B.max_size) (ClosuresMayAnswer hooks.now)) I.draws)
+            (commits B.queue B.lanes B.max_size) (ClosuresMayAnswer hooks.now)) I.draws)
             B.max_size
             (stand_in R.device W.device seat.old exchange.old)
             (stand_in R.device W.device seat.new exchange.new) result };

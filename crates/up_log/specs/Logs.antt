@@ -38,7 +38,7 @@ IsUnusableLog fault.Foreign = Unit {0}
 IsUnusableLog (fault.Version version) = Unit {0}
 IsUnusableLog (fault.Lanes made asked) = Unit {0}
 IsUnusableLog (fault.MaxSize made asked) = Unit {0}
-IsUnusableLog fault.Damaged = Unit {0}
+IsUnusableLog (fault.Damaged place) = Unit {0}
 IsUnusableLog other = ⊥
 
 -- the number of bytes of the file that were not read
@@ -51,8 +51,13 @@ NextIs left true = (first : List Entry) × (others : List (List Entry)) × (left
 NextIs left false = left ≡ []
 
 abbrev pub IsDamaged : LogFault → Type 0
-IsDamaged fault.Damaged = Unit {0}
+IsDamaged (fault.Damaged place) = Unit {0}
 IsDamaged other = ⊥
+
+-- damage is at this place
+abbrev pub IsDamagedAt : ℕ → LogFault → Type 0
+IsDamagedAt place (fault.Damaged at) = at ≡ place
+IsDamagedAt place other = Unit {0}
 
 -- the size of this batch, or an error that is not damage
 abbrev pub HasSize : List Entry → Result ℕ LogFault → Type 0

@@ -1,7 +1,7 @@
 //! Reading a block of a log at its place.
 ghost use Rattle.std.specs.Prelude.{◌≡◌, ◌+◌, ◌<◌, ◌≤◌, ◌++◌, ◌∷◌, List, ℕ, length, take, drop, false, IfOk, IfErr, IsTrue};
 ghost use Rattle.up_log.specs.Blocks.{blocks, IsClosed};
-ghost use Rattle.up_log.specs.Logs.{NextIs, HasSize, IsBatchRead, BlockIs, IsDamaged};
+ghost use Rattle.up_log.specs.Logs.{NextIs, HasSize, IsBatchRead, BlockIs, IsDamaged, IsDamagedAt};
 ghost use Rattle.up_log.specs.Spelling.{batch};
 ghost use Rattle.up_log.specs.declared.fault.Unread.TheVariants.{Damaged};
 ghost use Rattle.up_log.specs.declared.entry.Entry.{Entry as Logged};
@@ -14,14 +14,22 @@ use sqlite_disk::Disk;
 use std::alloc::Global;
 use up_message::Sequence;
 
-/// The log's fault for bytes that were not read as a batch.
-fn log_fault(fault: Unread) -> LogFault
-    ensures { IsDamaged result → fault ≡ Damaged }
+/// The log's fault for a block at the place `gate` whose bytes were not read as a batch.
+fn log_fault(fault: Unread, gate: usize) -> LogFault
+    ensures damage { IsDamaged result → fault ≡ Damaged }
+    ensures place { IsDamagedAt gate result }
 {
     match fault {
         Unread::Memory => LogFault::Memory,
-        Unread::Damaged => LogFault::Damaged,
+        Unread::Damaged => damaged_at(gate),
     }
+}
+
+/// The fault that the block at this place is damaged.
+fn damaged_at(gate: usize) -> LogFault
+    ensures { result ≡ LogFault.Damaged gate }
+{
+    LogFault::Damaged { place: gate as u64 }
 }
 
 /// Whether a block begins at this place.
@@ -56,6 +64,7 @@ fn size_at<D: Disk>(disk: &mut D, len: usize, gate: usize) -> Result<usize, LogF
         → len ≡ length (D.seen disk.old)
         → IsTrue (D.is_clean disk.new) → HasSize first result }
     ensures fits { IfOk result (λ n. gate + 9 + n ≤ len) }
+    ensures place { IfErr result (IsDamagedAt gate) }
     ensures seen { D.seen disk.new ≡ D.seen disk.old }
     ensures usable { IsTrue (D.is_usable disk.old) → IsTrue (D.is_usable disk.new) }
     ensures clean { IsTrue (D.is_clean disk.new) → IsTrue (D.is_clean disk.old) }
@@ -63,41 +72,43 @@ fn size_at<D: Disk>(disk: &mut D, len: usize, gate: usize) -> Result<usize, LogF
 {
     let rest = len.saturating_sub(gate);
     if rest < 9 {
-        return Err(LogFault::Damaged);
+        return Err(damaged_at(gate));
     }
     let mut bytes = [0; 8];
     read_from(disk, gate + 1, &mut bytes)?;
     let size = match word_of(&bytes) {
         Ok((size, _)) => size as usize,
-        Err(fault) => return Err(log_fault(fault)),
+        Err(fault) => return Err(log_fault(fault, gate)),
     };
     if rest - 9 < size {
-        return Err(LogFault::Damaged);
+        return Err(damaged_at(gate));
     }
     Ok(size)
 }
 
-/// The batch that is encoded in the `size` bytes at this place.
+/// The batch that is encoded in the `size` bytes at the place `at`. Its block begins at the place `gate`.
 fn batch_from<D: Disk>(
     alloc: Global,
     disk: &mut D,
+    gate: usize,
     at: usize,
     size: usize,
 ) -> Result<Sequence<Entry>, LogFault>
     ensures entries { (first : List Logged) → take size (drop at (D.seen disk.old)) ≡ batch first
         → IsTrue (D.is_clean disk.new) → IsBatchRead first result }
+    ensures place { IfErr result (IsDamagedAt gate) }
     ensures seen { D.seen disk.new ≡ D.seen disk.old }
     ensures usable { IsTrue (D.is_usable disk.old) → IsTrue (D.is_usable disk.new) }
     ensures clean { IsTrue (D.is_clean disk.new) → IsTrue (D.is_clean disk.old) }
     ensures crash { (c : List ℕ) → D.may_leave disk.new c → D.may_leave disk.old c }
 {
     if size == 0 {
-        return Err(LogFault::Damaged);
+        return Err(damaged_at(gate));
     }
     let bytes = read_vec(alloc, disk, at, size)?;
     match whole_batch(alloc, &bytes) {
         Ok(entries) => Ok(entries),
-        Err(fault) => Err(log_fault(fault)),
+        Err(fault) => Err(log_fault(fault, gate)),
     }
 }
 
@@ -113,6 +124,7 @@ pub(crate) fn block_at<D: Disk>(
         → len ≡ length (D.seen disk.old)
         → IsTrue (D.is_clean disk.new) → BlockIs first (gate + 9 + length (batch first)) result }
     ensures fits { IfOk result (λ block. (gate < block.1) × (block.1 ≤ len)) }
+    ensures place { IfErr result (IsDamagedAt gate) }
     ensures seen { D.seen disk.new ≡ D.seen disk.old }
     ensures usable { IsTrue (D.is_usable disk.old) → IsTrue (D.is_usable disk.new) }
     ensures clean { IsTrue (D.is_clean disk.new) → IsTrue (D.is_clean disk.old) }
@@ -120,6 +132,6 @@ pub(crate) fn block_at<D: Disk>(
 {
     let size = size_at(disk, len, gate)?;
     let at = gate + 9;
-    let entries = batch_from(alloc, disk, at, size)?;
+    let entries = batch_from(alloc, disk, gate, at, size)?;
     Ok((entries, at + size))
 }

@@ -52,8 +52,18 @@ pub enum LogFault {
     #[error("the log was made for uploads of at most {made} bytes, and is opened for {asked}")]
     MaxSize { made: u64, asked: u64 },
     /// A block after an open gate does not contain a batch: something else changed the file, or the medium is failing.
-    #[error("the log is damaged")]
-    Damaged,
+    /// The place is that of the gate, in bytes from the beginning of the file.
+    #[error("the log is damaged at byte {place}")]
+    Damaged { place: u64 },
+    /// The file has fewer bytes than were written to it, so it is another file, or something else changed it.
+    #[error("the log has {len} bytes, and {written} were written to it")]
+    Short { len: u64, written: u64 },
+    /// A batch of a log of heads is no head.
+    #[error("the log has a batch that is no head")]
+    NoHead,
+    /// The log has more entries than can be counted.
+    #[error("the log has too many entries")]
+    TooMany,
     /// Some batches were not read.
     #[error("the log was not read to its end")]
     NotRead,

@@ -3,7 +3,7 @@ ghost use Rattle.std.specs.Prelude.{◌≡◌, ◌<◌, ◌++◌, [], List, ℕ,
 ghost use Rattle.sqlite_disk.specs.Disk.{Only};
 ghost use Rattle.up_log.specs.Blocks.{written, IsAtRest, IsClosed, IsFileOf, IsLog, IsOurs};
 ghost use Rattle.up_log.specs.Logs.{IsCleanLog, IsCleanReader, IsReaderAt, IsUnusableLog, IsFileReadUpTo};
-ghost use Rattle.up_log.specs.Logs.{IsSettled, ReadsNext, reader_leaves, log_leaves, unread};
+ghost use Rattle.up_log.specs.Logs.{IsDamagedAt, IsSettled, ReadsNext, reader_leaves, log_leaves, unread};
 ghost use Rattle.up_log.specs.declared.entry.Entry.{Entry as Logged};
 ghost use Rattle.up_log.specs.declared.setup.Setup.{Setup as Numbers};
 
@@ -116,7 +116,7 @@ impl<D: Disk> LogReader<D> {
         }
     }
 
-    /// The next batch, `None` at the end.
+    /// The next batch, `None` at the end. `Damaged` names the place of the block that can't be read.
     pub fn next_batch(&mut self, alloc: Global) -> Result<Option<Sequence<Entry>>, LogFault>
         ensures reads { (setup : Numbers) (read left : List (List Logged))
             → IsReaderAt D.Disk self.old setup read left
@@ -126,6 +126,7 @@ impl<D: Disk> LogReader<D> {
             → IsClosed (drop self.old.gate (D.seen self.old.device)))) }
         ensures further { IfOk result (λ found. IfSome found (λ _.
             unread self.new < unread self.old)) }
+        ensures place { IfErr result (IsDamagedAt self.old.gate) }
         ensures seen { D.seen self.new.device ≡ D.seen self.old.device }
         ensures clean { IsCleanReader D.Disk self.new → IsCleanReader D.Disk self.old }
         ensures crash { (c : List ℕ) → D.may_leave self.new.device c

@@ -1,5 +1,5 @@
 //! Continuing with a log after a call that failed.
-ghost use Rattle.std.specs.Prelude.{◌≡◌, List, ℕ, length, OnErr, OnOk, IsTrue, false, true};
+ghost use Rattle.std.specs.Prelude.{◌≡◌, ◌≤◌, List, ℕ, length, OnErr, OnOk, IsTrue, false, true};
 ghost use Rattle.sqlite_disk.specs.Disk.{Only};
 ghost use Rattle.up_log.specs.Blocks.{written, IsAtRest, IsBeforeOrAfter};
 ghost use Rattle.up_log.specs.Logs.{IsCleanLog, IsSettled};
@@ -37,7 +37,7 @@ fn close<D: Disk>(disk: &mut D, len: usize, gate: usize) -> Result<(), LogFault>
     mend(disk, len, gate)
 }
 
-/// The same, for a file of which it is not known what is on the disk.
+/// The same, for a file of which it is not known what is on the disk. `Short` if it ends before this place.
 fn close_again<D: Disk>(disk: &mut D, gate: usize) -> Result<(), LogFault>
     ensures closed { (setup : Numbers) (batches : List (List Logged)) (more : List Logged)
         → ((c : List ℕ) → D.may_leave disk.old c → IsBeforeOrAfter setup batches more c)
@@ -50,9 +50,16 @@ fn close_again<D: Disk>(disk: &mut D, gate: usize) -> Result<(), LogFault>
         → IsTrue (D.is_clean disk.new) → (c : List ℕ) → D.may_leave disk.new c
         → IsBeforeOrAfter setup batches more c }
     ensures usable { OnOk result (IsTrue (D.is_usable disk.new)) }
+    ensures long { OnOk result (IsTrue (D.is_clean disk.new) → gate ≤ length (D.seen disk.old)) }
 {
     settle(disk)?;
     let len = len_of(disk)?;
+    if len < gate {
+        return Err(LogFault::Short {
+            len: len as u64,
+            written: gate as u64,
+        });
+    }
     close(disk, len, gate)
 }
 
@@ -67,7 +74,8 @@ impl<D: Disk> Log<D> {
 
     /// Continues with a log after a call that failed. `device` is its file, which was opened again, and `place` is the
     /// place of the next block (`end_place`). If the call left a batch there, the log no longer contains it. After an
-    /// error, the log accepts no more batches, as before.
+    /// error, the log accepts no more batches, as before. `Short` if the file ends before this place, so that it is not
+    /// the file that was written.
     pub fn resume(device: D, place: usize) -> (Log<D>, Result<(), LogFault>)
         ensures settled { (setup : Numbers) (batches : List (List Logged)) (more : List Logged)
             → ((c : List ℕ) → D.may_leave device c → IsBeforeOrAfter setup batches more c)
@@ -80,6 +88,7 @@ impl<D: Disk> Log<D> {
             → IsCleanLog D.Disk result.0 → (c : List ℕ) → D.may_leave result.0.device c
             → IsBeforeOrAfter setup batches more c }
         ensures place { result.0.gate ≡ place }
+        ensures long { OnOk result.1 (IsCleanLog D.Disk result.0 → place ≤ length (D.seen device)) }
         ensures broken { OnErr result.1 (IsTrue result.0.is_broken) }
     {
         let mut device = device;

@@ -16,7 +16,7 @@ use up_handed::{Continued, Handed, HandedFault, open_handed, restart};
 use up_hooks::{Outcome, PostHook, Recorder};
 
 /// The count in this file.
-fn opened<D: Disk + Drop>(device: D) -> Result<Handed<D>, HandedFault>
+pub fn opened<D: Disk + Drop>(device: D) -> Result<Handed<D>, HandedFault>
     ensures { IfOk result (λ handed. IsOnDisk D.Disk (device_of handed) (count_of handed)) }
 {
     match Handed::open(device) {

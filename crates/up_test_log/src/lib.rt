@@ -16,6 +16,8 @@ mod heads;
 #[cfg(test)]
 mod logs;
 #[cfg(test)]
+mod noting;
+#[cfg(test)]
 mod replays;
 #[cfg(test)]
 mod same;

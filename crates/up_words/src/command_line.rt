@@ -159,7 +159,7 @@ static WORDS: [Word<'static>; 18] = [
         name: "max-length",
         kind: Kind::Number(0, u64::MAX),
         default: None,
-        help: "Refuse an upload of more than N bytes, from 0 to 18446744073709551615",
+        help: "Refuse an upload that is created with a length of more than N bytes, from 0 to 18446744073709551615",
     },
     Word {
         name: "keep",

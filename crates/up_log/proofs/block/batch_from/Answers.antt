@@ -13,4 +13,4 @@ returns-in-Ok-clause-entries g c = λ first is clean.
 
 pub returns-clause-entries : goal.returns-clause-entries
 returns-clause-entries g c = λ first is clean damaged.
-    batch_reads first c.deref.result.now (c.deref.ensures.value ∙ c.in_ok-bytes.ensures.bytes clean ∙ is) (none_by c.in-Err.fault (whole_at c.deref.result.now) c.in-Err.ensures (c.log_fault.ensures damaged))
+    batch_reads first c.deref.result.now (c.deref.ensures.value ∙ c.in_ok-bytes.ensures.bytes clean ∙ is) (none_by c.in-Err.fault (whole_at c.deref.result.now) c.in-Err.ensures (c.log_fault.ensures.damage damaged))

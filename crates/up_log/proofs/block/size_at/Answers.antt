@@ -9,7 +9,7 @@ returns-then-rest-lt9-clause-size g c = λ first others back is len clean damage
 
 pub returns-in-Err-clause-size : goal.returns-in-Err-clause-size
 returns-in-Err-clause-size g c = λ first others back is len clean damaged.
-    let none = none_by c.in-Err.fault (word_at c.read_from.new.buf) c.in-Err.ensures.exact (c.log_fault.ensures damaged) in
+    let none = none_by c.in-Err.fault (word_at c.read_from.new.buf) c.in-Err.ensures.exact (c.log_fault.ensures.damage damaged) in
     size_reads first others back (g.D.Disk.seen c.args.disk.now) c.args.gate is c.read_from.new.buf (c.in_ok-read_from.ensures.bytes clean) none
 
 pub returns-then-rest-size-clause-size : goal.returns-then-rest-size-clause-size
