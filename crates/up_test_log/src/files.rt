@@ -5,7 +5,7 @@ use sqlite_std_file::Unknown;
 use std::alloc::Global;
 use std::fs;
 use std::test::Fail;
-use up_log::{LogFault, LogReader, Setup, open_file};
+use up_log::{Log, LogFault, LogReader, Setup, open_file};
 
 /// The number of batches of a file, before and after one more is appended.
 fn counts(alloc: Global, bytes: &[u8]) -> Result<(u64, u64), LogFault> {
@@ -115,6 +115,43 @@ fn another_file_is_left_as_it_is(rt: HostRuntime) -> Result<(), Fail> {
     let next = changed(&log, alloc, log.len(), 9, 2)?;
     let want = "the log has version 2, and this program reads version 1";
     assert!(rt; is_refused(alloc, &next, SETUP, want)?);
+    Ok(())
+}
+
+/// The text of the fault of a call that must fail.
+fn text_of<T: Drop>(alloc: Global, result: Result<T, LogFault>) -> Result<String, Fail> {
+    match result {
+        Ok(_) => Err("a fault".into()),
+        Err(fault) => Ok(format!(in alloc; "{fault}")?),
+    }
+}
+
+#[test]
+fn damage_has_its_place(rt: HostRuntime) -> Result<(), Fail> {
+    let alloc = rt.alloc();
+    let (one, two) = (log_of(alloc, 1)?, log_of(alloc, 2)?);
+    if one.is_empty() {
+        return Err(Fail::new("no log"));
+    }
+    // The second block begins with the last byte of a log of one batch. The length after it becomes too large.
+    let gate = one.len() - 1;
+    let damaged = changed(&two, alloc, two.len(), gate.saturating_add(8), 255)?;
+    let found = text_of(alloc, read(alloc, disk_of(alloc, &damaged)?))?;
+    let wanted = format!(in alloc; "the log is damaged at byte {gate}")?;
+    expect_same(&rt, &found, &wanted);
+    Ok(())
+}
+
+#[test]
+fn a_file_that_became_shorter_is_not_resumed(rt: HostRuntime) -> Result<(), Fail> {
+    let alloc = rt.alloc();
+    let log = log_of(alloc, 1)?;
+    let (_, result) = Log::resume(disk_of(alloc, b"short")?, log.len());
+    let wanted = format!(in alloc;
+        "the log has 5 bytes, and {len} were written to it",
+        len = log.len()
+    )?;
+    expect_same(&rt, &text_of(alloc, result)?, &wanted);
     Ok(())
 }
 
