@@ -1,5 +1,6 @@
 //! A board step by step, in one thread.
 ghost use Rattle.std.specs.Prelude.{◌≡◌, length, All, []};
+ghost use Rattle.up_dispatch.specs.Free.{no_history};
 ghost use Rattle.up_dispatch.specs.Parts.{IsNamed};
 
 use crate::fifteen::status_of;
@@ -25,7 +26,9 @@ pub fn makes<B: Naming, R: Wait>(
     seat: &mut Seat<B>,
     id: u8,
     length: u8,
-) -> Option<Refusal> {
+) -> Option<Refusal>
+    requires free { B.history ≡ no_history }
+{
     let request = creation(alloc, Some(u64::from(length)));
     let id = Id::new(u128::from(id));
     let asked = if length == 0 {
@@ -71,6 +74,7 @@ fn stepped<B: Naming + Send, H: PostHook + Drop, R: Wait + Abort>(
     requires lanes { length parts.queues ≡ 1 }
     requires sized { B.max_size ≡ 1048576 }
     requires new { All (λ h. H.is_sound h × (H.handed h ≡ [])) hooks.items }
+    requires free { B.history ≡ no_history }
 {
     let (board, takes) = Board::<B>::new(alloc, parts, 1_048_576)?;
     let Some(mut seat) = board.seat(rt) else {
@@ -113,7 +117,9 @@ fn says_that_it_is_closed<B: Naming, R: Wait + Abort>(
     alloc: Global,
     board: &Board<B>,
     seat: &mut Seat<B>,
-) -> Result<(), Fail> {
+) -> Result<(), Fail>
+    requires free { B.history ≡ no_history }
+{
     let append = append(alloc, Id::new(1), 0, b"abc")?;
     let made = makes(rt, alloc, board, seat, 2, 3);
     let appended = planned(rt, alloc, board, seat, &append);
@@ -152,6 +158,7 @@ fn closed<B: Naming, R: Wait + Abort>(rt: &R, alloc: Global, parts: BoardParts) 
     requires named { IsNamed B.name B.parts B.queue B.lanes parts }
     requires lanes { length parts.queues ≡ 2 }
     requires sized { B.max_size ≡ 3 }
+    requires free { B.history ≡ no_history }
 {
     let (board, takes) = Board::<B>::new(alloc, parts, 3)?;
     expect_same(rt, &takes.len(), &2);

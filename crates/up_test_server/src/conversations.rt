@@ -1,5 +1,6 @@
 //! Conversations with a lent book and from the seats of a board, and the ids of their uploads.
 ghost use Rattle.std.specs.Prelude.{◌≡◌, ◌<◌, ◌≤◌, length};
+ghost use Rattle.up_dispatch.specs.Free.{no_history};
 ghost use Rattle.up_dispatch.specs.Parts.{IsNamed};
 
 use crate::same::expect_same;
@@ -91,7 +92,9 @@ fn hold_from<B: Naming, R: Wait + Abort>(
     ids: &Mutex<Counting>,
     asked: &str,
     wanted: (Ended, &str),
-) -> Result<(), Fail> {
+) -> Result<(), Fail>
+    requires free { B.history ≡ no_history }
+{
     let mut keeper = Seated::new(rt, board, seat);
     hold(
         rt,
@@ -109,7 +112,9 @@ fn talk_from_two_seats<B: Naming, R: Wait + Abort>(
     rt: &R,
     alloc: Global,
     board: &Board<B>,
-) -> Result<(), Fail> {
+) -> Result<(), Fail>
+    requires free { B.history ≡ no_history }
+{
     let (Some(mut first), Some(mut second)) = (board.seat(rt), board.seat(rt)) else {
         return Err("a seat".into());
     };
@@ -145,6 +150,7 @@ fn two_seats<B: Naming, R: Wait + Abort>(
     requires named { IsNamed B.name B.parts B.queue B.lanes parts }
     requires lanes { length parts.queues ≡ 2 }
     requires sized { B.max_size ≡ 1048576 }
+    requires free { B.history ≡ no_history }
 {
     let (board, _takes) = Board::<B>::new(alloc, parts, MAX_SIZE)?;
     talk_from_two_seats(rt, alloc, &board)

@@ -1,6 +1,7 @@
 //! Fifteen requests from a seat of a board whose queues have one place each. All of them get their response before any
 //! lane takes an event, and every event is handed over afterwards.
 ghost use Rattle.std.specs.Prelude.{◌≡◌, [], length};
+ghost use Rattle.up_dispatch.specs.Free.{no_history};
 ghost use Rattle.up_dispatch.specs.Parts.{IsNamed};
 ghost use Rattle.up_events.specs.declared.limits.TheConstants.{MAX_UPLOAD_BYTES};
 ghost use Rattle.up_headers.specs.Table.{FitsWithin};
@@ -48,7 +49,9 @@ pub fn answered<B: Naming, R: Wait + Abort>(
     rt: &R,
     alloc: Global,
     board: &Board<B>,
-) -> Result<Seat<B>, Fail> {
+) -> Result<Seat<B>, Fail>
+    requires free { B.history ≡ no_history }
+{
     let Some(mut seat) = board.seat(rt) else {
         return Err("a seat".into());
     };
@@ -146,6 +149,7 @@ fn crowded<B: Naming + Send + Sync, H: PostHook + Drop, R: Threads + Wait + Abor
     requires sized { B.max_size ≡ 1048576 }
     requires first { H.is_sound hooks.0 × (H.handed hooks.0 ≡ []) }
     requires second { H.is_sound hooks.1 × (H.handed hooks.1 ≡ []) }
+    requires free { B.history ≡ no_history }
 {
     let (board, lanes) = open_board::<B, _>(alloc, parts, hooks, true)?;
     let seat = answered(rt, alloc, &board)?;

@@ -1,5 +1,6 @@
 //! Boards of both kinds with several seats, until they are finished.
 ghost use Rattle.std.specs.Prelude.{◌≡◌, [], length};
+ghost use Rattle.up_dispatch.specs.Free.{no_history};
 ghost use Rattle.up_dispatch.specs.Parts.{IsNamed};
 
 use crate::beside::{finished, list_of, open_board, run_beside};
@@ -25,7 +26,9 @@ const UPLOADS: usize = 10;
 const CHANGES: usize = 1_000;
 
 /// Creates an upload whose length is declared later.
-fn make<B: Naming, R: Wait>(rt: &R, alloc: Global, board: &Board<B>, seat: &mut Seat<B>, id: Id) {
+fn make<B: Naming, R: Wait>(rt: &R, alloc: Global, board: &Board<B>, seat: &mut Seat<B>, id: Id)
+    requires free { B.history ≡ no_history }
+{
     let request = requests::creation(alloc, None);
     let _ = board.commit(rt, alloc, seat, request, id, &Asked::Allowed);
 }
@@ -38,7 +41,9 @@ fn append<B: Naming, R: Wait>(
     seat: &mut Seat<B>,
     upload: usize,
     offset: u64,
-) -> bool {
+) -> bool
+    requires free { B.history ≡ no_history }
+{
     let Ok(request) = requests::append(alloc, Id::new(upload as u128), offset, b"a") else {
         return false;
     };
@@ -48,12 +53,9 @@ fn append<B: Naming, R: Wait>(
 }
 
 /// Makes the changes, each to the next upload at its current end.
-fn change<B: Naming, R: Wait>(
-    rt: &R,
-    alloc: Global,
-    board: &Board<B>,
-    mut seat: Seat<B>,
-) -> Seat<B> {
+fn change<B: Naming, R: Wait>(rt: &R, alloc: Global, board: &Board<B>, mut seat: Seat<B>) -> Seat<B>
+    requires free { B.history ≡ no_history }
+{
     let mut ends = [0u64; UPLOADS];
     for turn in 0..CHANGES {
         let upload = turn % UPLOADS;
@@ -106,7 +108,9 @@ fn seats_of<B: Naming, R: Wait>(
     rt: &R,
     alloc: Global,
     board: &Board<B>,
-) -> Result<(Seat<B>, Vec<Seat<B>>), Fail> {
+) -> Result<(Seat<B>, Vec<Seat<B>>), Fail>
+    requires free { B.history ≡ no_history }
+{
     let (Some(mut maker), Some(first), Some(second)) = (
         board.seat(rt),
         board.seat(rt),
@@ -127,8 +131,16 @@ fn change_each<B: Naming + Send + Sync, R: Threads + Wait + Sync>(
     alloc: Global,
     board: &Board<B>,
     seats: Vec<Seat<B>>,
-) -> Result<Vec<Seat<B>>, Fail> {
-    Ok(thread::map_vec(rt, seats, &|seat| change(rt, alloc, board, seat))?)
+) -> Result<Vec<Seat<B>>, Fail>
+    requires free { B.history ≡ no_history }
+{
+    Ok(thread::map_vec(
+        rt,
+        seats,
+        &|seat: Seat<B>| -> Seat<B>
+            requires { B.history ≡ no_history }
+        { change(rt, alloc, board, seat) },
+    )?)
 }
 
 /// The report of a board of two lanes whose uploads are changed from two seats at once.
@@ -144,6 +156,7 @@ fn changed_at_once<B: Naming + Send + Sync, H: PostHook + Drop, R: Threads + Wai
     requires sized { B.max_size ≡ 1048576 }
     requires first { H.is_sound hooks.0 × (H.handed hooks.0 ≡ []) }
     requires second { H.is_sound hooks.1 × (H.handed hooks.1 ≡ []) }
+    requires free { B.history ≡ no_history }
 {
     let (board, lanes) = open_board::<B, _>(alloc, parts, hooks, keeps)?;
     let (maker, others) = seats_of(rt, alloc, &board)?;
@@ -153,7 +166,9 @@ fn changed_at_once<B: Naming + Send + Sync, H: PostHook + Drop, R: Threads + Wai
         shared,
         shared,
         lanes,
-        || change_each(rt, alloc, shared, others),
+        || -> Result<Vec<Seat<B>>, Fail>
+            requires { B.history ≡ no_history }
+        { change_each(rt, alloc, shared, others) },
     )?;
     seats.push(maker)?;
     finished(alloc, board, seats, ends)

@@ -2,6 +2,7 @@
 //! its changes, and another counts them. The responses are the same, and the same changes are accepted. For the board
 //! that counts its changes, the number is compared.
 ghost use Rattle.std.specs.Prelude.{◌≡◌, IsTrue, [], length};
+ghost use Rattle.up_dispatch.specs.Free.{no_history};
 ghost use Rattle.up_dispatch.specs.Parts.{IsNamed};
 ghost use Rattle.up_hooks.specs.Verdicts.{is_allowed_verdict};
 
@@ -86,7 +87,9 @@ fn told_from<B: Naming, R: Wait>(
     board: &Board<B>,
     hooks: &PreHooks,
     asked: &[u8],
-) -> Result<(Seat<B>, Told), Fail> {
+) -> Result<(Seat<B>, Told), Fail>
+    requires free { B.history ≡ no_history }
+{
     let mut seat = board.seat(rt).ok_or("a seat")?;
     let mut keeper = Seated::new(rt, board, &mut seat);
     let told = talk(alloc, &mut keeper, hooks, &mut Counting::new(), asked);
@@ -108,6 +111,7 @@ fn on_board<B: Naming + Send + Sync, H: PostHook + Drop, R: Threads + Wait + Abo
     requires sized { B.max_size ≡ 1048576 }
     requires first { H.is_sound recorders.0 × (H.handed recorders.0 ≡ []) }
     requires second { H.is_sound recorders.1 × (H.handed recorders.1 ≡ []) }
+    requires free { B.history ≡ no_history }
 {
     let (board, lanes) = open_board::<B, _>(alloc, parts, recorders, keeps)?;
     let shared = &board;
@@ -116,7 +120,9 @@ fn on_board<B: Naming + Send + Sync, H: PostHook + Drop, R: Threads + Wait + Abo
         shared,
         shared,
         lanes,
-        || told_from(rt, alloc, shared, hooks, asked),
+        || -> Result<(Seat<B>, Told), Fail>
+            requires { B.history ≡ no_history }
+        { told_from(rt, alloc, shared, hooks, asked) },
     )?;
     Ok((finished_from(alloc, board, seat, ends)?, told))
 }

@@ -1,5 +1,6 @@
 //! Boards that cannot be finished at first: everything that was passed in is returned, and serves as before.
 ghost use Rattle.std.specs.Prelude.{◌≡◌, All, [], IfOk, length};
+ghost use Rattle.up_dispatch.specs.Free.{no_history};
 ghost use Rattle.up_dispatch.specs.Parts.{IsNamed};
 
 use crate::beside::{finished, list_of, open_board, run_beside, run_each};
@@ -101,7 +102,9 @@ fn wakes<B: Naming, R: Wait + Abort>(
     alloc: Global,
     watched: &Watched<B>,
     mut seat: Seat<B>,
-) -> Result<Seat<B>, Fail> {
+) -> Result<Seat<B>, Fail>
+    requires free { B.history ≡ no_history }
+{
     expect_same(rt, &watched.settled(rt, (2, 0)), &(2, 0));
     let request = append(alloc, Id::new(1), 0, b"a")?;
     let mut keeper = Seated::new(rt, &watched.board, &mut seat);
@@ -157,6 +160,7 @@ fn woken<B: Naming + Send + Sync, H: PostHook + Drop, R: Threads + Wait + Abort 
     lanes: Vec<Lane<H>>,
 ) -> Result<Report<H>, Fail>
     requires own { All (λ l. l.queue ≡ B.queue l.lane) lanes.items }
+    requires free { B.history ≡ no_history }
 {
     let second = board.seat(rt).ok_or("another seat")?;
     let watched = Watched::new(board);
@@ -166,7 +170,9 @@ fn woken<B: Naming + Send + Sync, H: PostHook + Drop, R: Threads + Wait + Abort 
         &shared.board,
         shared,
         lanes,
-        || wakes(rt, alloc, shared, second),
+        || -> Result<Seat<B>, Fail>
+            requires { B.history ≡ no_history }
+        { wakes(rt, alloc, shared, second) },
     )?;
     both_back(rt, alloc, watched.board, first, second, ends)
 }
@@ -184,6 +190,7 @@ fn came_back<B: Naming + Send + Sync, H: PostHook + Drop, R: Threads + Wait + Ab
     requires sized { B.max_size ≡ 1048576 }
     requires first { H.is_sound hooks.0 × (H.handed hooks.0 ≡ []) }
     requires second { H.is_sound hooks.1 × (H.handed hooks.1 ≡ []) }
+    requires free { B.history ≡ no_history }
 {
     let (board, lanes) = open_board::<B, H>(alloc, parts, hooks, true)?;
     let mut first = board.seat(rt).ok_or("a seat")?;
@@ -268,7 +275,9 @@ fn makers<B: Naming, R: Wait + Abort>(
     rt: &R,
     alloc: Global,
     board: &Board<B>,
-) -> Result<(Seat<B>, Vec<Seat<B>>), Fail> {
+) -> Result<(Seat<B>, Vec<Seat<B>>), Fail>
+    requires free { B.history ≡ no_history }
+{
     let (Some(mut first), Some(mut second)) = (board.seat(rt), board.seat(rt)) else {
         return Err("two seats".into());
     };
@@ -291,6 +300,7 @@ fn each_missing<B: Naming + Send + Sync, H: PostHook + Drop, R: Threads + Wait +
     requires sized { B.max_size ≡ 1048576 }
     requires first { H.is_sound hooks.0 × (H.handed hooks.0 ≡ []) }
     requires second { H.is_sound hooks.1 × (H.handed hooks.1 ≡ []) }
+    requires free { B.history ≡ no_history }
 {
     let (board, lanes) = open_board::<B, _>(alloc, parts, hooks, true)?;
     let (second, seats) = makers(rt, alloc, &board)?;

@@ -1,5 +1,6 @@
 //! A board of two lanes, from its parts to its report.
 ghost use Rattle.std.specs.Prelude.{◌≡◌, All, IfOk, IsTrue, [], length};
+ghost use Rattle.up_dispatch.specs.Free.{no_history};
 ghost use Rattle.up_dispatch.specs.Lists.{EachAt};
 ghost use Rattle.up_dispatch.specs.Parts.{IsNamed};
 ghost use Rattle.up_hooks.specs.Recorded.{has_code};
@@ -70,7 +71,9 @@ fn create<B: Naming, R: Wait>(
     board: &Board<B>,
     seat: &mut Seat<B>,
     number: u64,
-) -> Result<Done, Refusal> {
+) -> Result<Done, Refusal>
+    requires free { B.history ≡ no_history }
+{
     let request = Request::Create(NewUpload {
         kind: Kind::Plain,
         length: Some(0),
@@ -90,7 +93,9 @@ fn create<B: Naming, R: Wait>(
 }
 
 /// Creates five uploads without bytes, and closes the board.
-fn fill<B: Naming, R: Wait>(rt: &R, alloc: Global, board: &Board<B>) -> io::Result<Seat<B>> {
+fn fill<B: Naming, R: Wait>(rt: &R, alloc: Global, board: &Board<B>) -> io::Result<Seat<B>>
+    requires free { B.history ≡ no_history }
+{
     let Some(mut seat) = board.seat(rt) else {
         return Err(io::Error::from(io::ErrorKind::ResourceBusy));
     };
@@ -277,6 +282,7 @@ fn run<B: Naming + Send + Sync, H: PostHook + ShownHook + Drop, R: Print + Wait>
     requires ends { EachAt (λ k end. (end.taken ≡ []) × (end.queue ≡ B.queue k)) takes.items }
     requires first { H.is_sound hooks.0 × (H.handed hooks.0 ≡ []) }
     requires second { H.is_sound hooks.1 × (H.handed hooks.1 ≡ []) }
+    requires free { B.history ≡ no_history }
 {
     let mut seats = Vec::with_capacity(alloc, 1)?;
     seats.push(fill(rt, alloc, &board)?)?;
@@ -299,6 +305,7 @@ fn begin<B: Naming + Send + Sync, H: PostHook + ShownHook + Drop, R: Print + Wai
     requires two { length parts.queues ≡ 2 }
     requires first { H.is_sound hooks.0 × (H.handed hooks.0 ≡ []) }
     requires second { H.is_sound hooks.1 × (H.handed hooks.1 ≡ []) }
+    requires free { B.history ≡ no_history }
 {
     lines.begin("Board::new", "1024 bytes")?;
     push_handed(&mut lines.before, handed)?;

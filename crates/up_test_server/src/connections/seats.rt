@@ -1,5 +1,6 @@
 //! Seats that are taken, put back and taken again.
 ghost use Rattle.std.specs.Prelude.{◌≡◌, length};
+ghost use Rattle.up_dispatch.specs.Free.{no_history};
 ghost use Rattle.up_dispatch.specs.Parts.{IsNamed};
 
 use crate::requests::creation;
@@ -15,7 +16,9 @@ use up_machine::Asked;
 use up_server::Seats;
 
 /// Creates an upload from the seat.
-fn make<B: Naming, R: Wait>(rt: &R, alloc: Global, board: &Board<B>, seat: &mut Seat<B>) {
+fn make<B: Naming, R: Wait>(rt: &R, alloc: Global, board: &Board<B>, seat: &mut Seat<B>)
+    requires free { B.history ≡ no_history }
+{
     let request = creation(alloc, Some(1));
     let _ = board.commit(rt, alloc, seat, request, Id::new(7), &Asked::Allowed);
 }
@@ -26,7 +29,9 @@ fn use_one<B: Naming, R: Wait>(
     alloc: Global,
     board: &Board<B>,
     seats: &Seats<B>,
-) -> Result<(), Fail> {
+) -> Result<(), Fail>
+    requires free { B.history ≡ no_history }
+{
     let Some(mut seat) = seats.pop(rt, board) else {
         return Err("a first seat".into());
     };
@@ -65,7 +70,9 @@ fn hold_again<B: Naming, R: Wait + Abort>(
     rt: &R,
     alloc: Global,
     board: &Board<B>,
-) -> Result<(), Fail> {
+) -> Result<(), Fail>
+    requires free { B.history ≡ no_history }
+{
     let seats = Seats::new(alloc, 2)?;
     use_one(rt, alloc, board, &seats)?;
     swap_two(rt, board, &seats)?;
@@ -83,6 +90,7 @@ fn taken_again<B: Naming, R: Wait + Abort>(
     requires named { IsNamed B.name B.parts B.queue B.lanes parts }
     requires lanes { length parts.queues ≡ 1 }
     requires sized { B.max_size ≡ 1 }
+    requires free { B.history ≡ no_history }
 {
     let (board, _takes) = Board::<B>::new(alloc, parts, 1)?;
     hold_again(rt, alloc, &board)

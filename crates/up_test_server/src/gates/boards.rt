@@ -1,6 +1,7 @@
 //! A closure that is asked about a request from one seat of a board, and waits until a request from another seat got
 //! its response.
 ghost use Rattle.std.specs.Prelude.{◌≡◌, IsTrue, length};
+ghost use Rattle.up_dispatch.specs.Free.{no_history};
 ghost use Rattle.up_dispatch.specs.Parts.{IsNamed};
 ghost use Rattle.up_hooks.specs.Verdicts.{is_allowed_verdict};
 
@@ -28,7 +29,9 @@ fn talk_from<B: Naming, R: Wait>(
     seat: &mut Seat<B>,
     hooks: &PreHooks,
     asked: &[u8],
-) -> (Ended, Vec<u8>) {
+) -> (Ended, Vec<u8>)
+    requires free { B.history ≡ no_history }
+{
     let mut keeper = Seated::new(rt, board, seat);
     talk(alloc, &mut keeper, hooks, &mut Counting::new(), asked)
 }
@@ -41,7 +44,9 @@ fn talk_meanwhile<B: Naming, R: Wait>(
     mut seat: Seat<B>,
     hooks: &PreHooks,
     gate: &Gate,
-) -> (bool, Vec<u8>) {
+) -> (bool, Vec<u8>)
+    requires free { B.history ≡ no_history }
+{
     let was_called = gate.is_called_in_time();
     let (_, written) = talk_from(rt, alloc, board, &mut seat, hooks, HEAD);
     gate.open();
@@ -55,14 +60,20 @@ fn talk_from_two_seats<B: Naming + Send + Sync, R: Threads + Wait + Abort + Sync
     board: &Board<B>,
     hooks: &PreHooks,
     gate: &Gate,
-) -> Result<(), Fail> {
+) -> Result<(), Fail>
+    requires free { B.history ≡ no_history }
+{
     let (Some(mut first), Some(second)) = (board.seat(rt), board.seat(rt)) else {
         return Err("two seats".into());
     };
     let ((ended, made), (was_called, shown)) = thread::join(
         rt,
-        || talk_from(rt, alloc, board, &mut first, hooks, POST),
-        || talk_meanwhile(rt, alloc, board, second, hooks, gate),
+        || -> (Ended, Vec<u8>)
+            requires { B.history ≡ no_history }
+        { talk_from(rt, alloc, board, &mut first, hooks, POST) },
+        || -> (bool, Vec<u8>)
+            requires { B.history ≡ no_history }
+        { talk_meanwhile(rt, alloc, board, second, hooks, gate) },
     );
     expect_same(rt, &(was_called, ended), &(true, Ended::Closed));
     assert!(rt; shown.starts_with(b"HTTP/1.1 404 "));
@@ -81,6 +92,7 @@ fn two_seats<B: Naming + Send + Sync, R: Threads + Wait + Abort + Sync>(
     requires named { IsNamed B.name B.parts B.queue B.lanes parts }
     requires lanes { length parts.queues ≡ 2 }
     requires sized { B.max_size ≡ 1048576 }
+    requires free { B.history ≡ no_history }
 {
     let (board, _takes) = Board::<B>::new(alloc, parts, MAX_SIZE)?;
     talk_from_two_seats(rt, alloc, &board, hooks, gate)

@@ -1,5 +1,6 @@
 //! A lane whose post-hook runs out of memory: only this lane stops, and it continues where it stopped.
 ghost use Rattle.std.specs.Prelude.{◌≡◌, All, [], IfOk, length};
+ghost use Rattle.up_dispatch.specs.Free.{no_history};
 ghost use Rattle.up_dispatch.specs.Parts.{IsNamed};
 
 use crate::beside::{finished_from, open_board, run_beside};
@@ -13,7 +14,7 @@ use std::sync::Wait;
 use std::test::Fail;
 use std::thread;
 use std::thread::Threads;
-use up_dispatch::{Board, BoardParts, LaneReport, Naming, Report};
+use up_dispatch::{Board, BoardParts, LaneReport, Naming, Report, Seat};
 use up_hooks::PostHook;
 use up_lanes::{How, Lane, LaneEnd};
 
@@ -77,10 +78,19 @@ fn stopped<B: Naming + Send + Sync, R: Threads + Wait + Abort + Sync>(
     requires sized { B.max_size ≡ 1048576 }
     requires first { ⟦<Listing as PostHook>⟧.handed hooks.0 ≡ [] }
     requires second { ⟦<Listing as PostHook>⟧.handed hooks.1 ≡ [] }
+    requires free { B.history ≡ no_history }
 {
     let (board, lanes) = open_board::<B, _>(alloc, parts, hooks, true)?;
     let shared = &board;
-    let (seat, ends) = run_beside(rt, shared, shared, lanes, || answered(rt, alloc, shared))?;
+    let (seat, ends) = run_beside(
+        rt,
+        shared,
+        shared,
+        lanes,
+        || -> Result<Seat<B>, Fail>
+            requires { B.history ≡ no_history }
+        { answered(rt, alloc, shared) },
+    )?;
     let ends = ends_of(rt, &board, ends, is_resumed)?;
     finished_from(alloc, board, seat, ends)
 }
