@@ -17,6 +17,8 @@ For each case, one line says whether it passed. The last line is `N passed, M fa
 case failed.
 """
 import argparse
+import contextlib
+import functools
 import os
 import random
 import re
@@ -26,16 +28,19 @@ import tempfile
 import threading
 import time
 
-from crashed import LANES, Client, Told, adopt, lane_of
+from crashed import LANES, Client, Ended, Told, adopt, lane_of
 from endings import ended
 from serving import MAX_SIZE, MAX_WAIT, Server, at_once, build, events_of, same, soon, try_all
 from stored import (
-    LIMIT, Hasty, Limited, Store, enlarge, failing_syncs, files_of, gates_of, logs_left, may_mount, may_trace, put_store,
-    small_disk, store_of,
+    LIMIT, Hasty, Limited, Store, counts_of, enlarge, failing_syncs, files_of, gates_of, logs_left, may_mount, may_trace,
+    put_store, small_disk, store_of, tracing, was_changed,
 )
 
 # The number of clients, and the seconds of work before a kill.
 CLIENTS, WORK = 16, (0.02, 0.3)
+
+# How often a server is killed in its first start.
+HASTY = 5
 
 # The number of rounds in the case that ends servers in order.
 ENDS = 4
@@ -50,6 +55,23 @@ BODY = 100_000
 # after that.
 HEAPED, PIECE, KILLS = 70, bytes(range(256)) * 4096, 5
 
+# The files of which a sync fails once, and which of the first syncs of a thread do, and the number of clients meanwhile.
+# A thread makes fewer syncs of some files than of others.
+SYNCED = {"heads": 4, "log": 10, "log.1": 10, "void.1": 6, "handed": 10}
+FEW = 6
+
+# The seconds for which a shorter log is held up when it is opened, and how many large uploads are made meanwhile.
+HELD_UP, MEANWHILE = 1, 20
+
+# The calls of a first start at which it is killed, and how many there are of each for the files of a store.
+CALLS = {"mkdir": 1, "openat": 24, "pwrite64": 14, "fsync": 24, "fdatasync": 16}
+
+# How many of these starts are made for each round.
+FIRST = 5
+
+# What is said if there is no room to write that a shorter log takes the place of the log.
+NO_ROOM = "up_server: the log can't be made shorter yet: the disk failed: No space left on device (os error 28)\n"
+
 # The files of a store.
 NAMES = {"heads", "log", "void", "spare", *(f"handed.{lane}" for lane in range(LANES))}
 
@@ -61,16 +83,20 @@ NAMES = {"heads", "log", "void", "spare", *(f"handed.{lane}" for lane in range(L
 SHORTER = re.compile(r"up_server: the log has (\d+) bytes instead of (\d+)")
 
 
+# How the line begins that says that no change is made any more.
+STOPPED = "up_server: no change is made until the server is started again: "
+
+
 def new_clients():
     return [Client(number) for number in range(CLIENTS)]
 
 
-def together(clients, server, ending, work, beside=lambda: None):
+def together(clients, server, ending, work, beside=lambda: None, may_fail=False):
     """Has all clients do this work with the server at once, and runs `beside` meanwhile."""
     for client in clients:
-        client.meet(server, ending)
+        client.meet(server, ending, may_fail)
     try:
-        at_once(lambda number: work(clients[number]) if number < CLIENTS else beside(), CLIENTS + 1)
+        at_once(lambda number: work(clients[number]) if number < len(clients) else beside(), len(clients) + 1)
     finally:
         for client in clients:
             client.leave()
@@ -159,6 +185,9 @@ def by_kill():
     clients, told = new_clients(), Told()
     with store_of(program) as store:
         for number in range(rounds):
+            for _ in range(HASTY if number == 0 else 0):
+                with store.kept(Hasty):
+                    pass
             with store.kept() as server:
                 come_back(clients, server, told)
                 work_until(clients, server, server.kill)
@@ -303,8 +332,14 @@ def torn_log():
         places = range(gates[-3] + 2, gates[-2])
         for cut in random.sample(places, min(20, len(places))):
             line = put_store(program, f"{store.folder}.{cut}", files, log[:cut], states[-3][0]).unread()
+            same(line, damage_of("log", gates[-3]), "why nothing is served")
         hold_copy(put_store(program, f"{store.folder}.whole", files, log[:-1], states[-1][0]), states[-1][0], [])
     return repr(line)
+
+
+def damage_of(name, gate):
+    """The line that says that the block at this gate of a log can't be read."""
+    return f"up_server: cannot read the store: {name}: the log is damaged at byte {gate}"
 
 
 # Logs that are made shorter.
@@ -369,6 +404,75 @@ def hold_shorter(store, clients, told):
         told.add(ended(server), is_killed=False)
         told.hold(clients, is_whole=True)
     same(sum(told.counts()) - sum(before), 3, "how many events came in a run with three")
+
+
+# Copies of a store.
+
+
+class Original:
+    """A store whose server has ended in order, with clients that know all of it, and all events. Tries are made on
+    copies of it."""
+
+    def __init__(self):
+        self.place = tempfile.TemporaryDirectory(prefix="up-crash-")
+        self.store = Store(program, os.path.join(self.place.name, "store"))
+        self.clients, self.told = [Client(number) for number in range(FEW)], Told()
+
+    @contextlib.contextmanager
+    def serving(self):
+        """A server of the store, which ends in order. Only then its output is looked at."""
+        with self.store.plain() as server:
+            yield server
+            server.end()
+            same(server.process.wait(MAX_WAIT), 0, "the status of the server")
+            self.told.add(server.output(), is_killed=False)
+
+    @contextlib.contextmanager
+    def copied(self):
+        """A copy of the store, with copies of the clients and of the events."""
+        with store_of(program) as store:
+            shutil.copytree(self.store.folder, store.folder)
+            yield store, [client.copy() for client in self.clients], Told(self.told)
+
+
+@functools.cache
+def heaped():
+    """A store with large uploads of its first client. Once these are removed, its log may be made shorter."""
+    original = Original()
+    with original.serving() as server:
+        for client in original.clients:
+            with Lone(server, client):
+                if client.number == 0:
+                    for _ in range(HEAPED):
+                        client.append(client.create(len(PIECE)), PIECE)
+                list(small_changes(client))
+    return original
+
+
+def remove_heap(client):
+    """Removes the large uploads. A removal that is refused is tried once more."""
+    for path, upload in list(client.uploads.items()):
+        if upload.is_there and upload.length == len(PIECE):
+            try:
+                client.remove(path)
+            except Ended:
+                client.remove(path)
+
+
+@functools.cache
+def switched():
+    """A store whose log was made shorter, and to which nothing was added since. `long` is the longer log, as it was in
+    the end."""
+    original = Original()
+    with heaped().copied() as (store, clients, told):
+        shutil.copytree(store.folder, original.store.folder)
+        original.clients, original.told = clients, told
+    with open(original.store.path("log"), "rb") as log, original.serving() as server:
+        with Lone(server, original.clients[0]) as client:
+            remove_heap(client)
+            soon(lambda: original.store.logs() == ["log.1"], "the log is made shorter")
+        original.long = log.read()
+    return original
 
 
 # Starts that are refused, and the files of a folder.
@@ -439,6 +543,136 @@ def files_made():
     locks = {f"{name}-wal" for name in NAMES}
     same(files.keys() - locks, NAMES, "the files")
     same([name for name in files if name in locks and files[name]], [], "the locks that aren't empty")
+
+
+@functools.cache
+def small():
+    """A store with the small changes, and what is there after each of them."""
+    original = Original()
+    client = original.clients[0]
+    with original.serving() as server, Lone(server, client):
+        original.states = [{}, *small_changes(client)]
+    return original
+
+
+def without(store, *names):
+    """Removes files of a store."""
+    for name in names:
+        os.remove(store.path(name))
+
+
+def without_counts(store):
+    """Empties the counts of a store."""
+    for lane in range(LANES):
+        os.truncate(store.path(f"handed.{lane}"), 0)
+
+
+def move_log(store):
+    """Gives the log of a store the name of another one, and empties the counts."""
+    os.rename(store.path("log"), store.path("log.1"))
+    without_counts(store)
+
+
+def lose_heads(store):
+    """Removes the heads, and empties the counts."""
+    without(store, "heads")
+    without_counts(store)
+
+
+def lost_files():
+    """A store without its heads, or without the log that they name, is refused if another file tells that there was
+    one, and is left as it is."""
+    losses = [
+        (small, lose_heads),
+        (small, lambda store: without(store, "heads", "log", "void")),
+        (small, lambda store: without(store, "log")),
+        (small, lambda store: os.truncate(store.path("log"), 0)),
+        (small, lambda store: without(store, "log", "void")),
+        (small, move_log),
+        (switched, lambda store: without(store, "heads")),
+        (switched, lambda store: without(store, "heads", "log.1", "void.1")),
+        (switched, lambda store: without(store, "log.1")),
+        (switched, lambda store: os.rename(store.path("log.1"), store.path("log"))),
+    ]
+    lines = []
+    for number, (original, lose) in enumerate(losses):
+        with original().copied() as (store, *_):
+            lose(store)
+            line = store.refused()
+            begins = f'up_server: cannot open the store at "{store.folder}'
+            same(line.startswith(begins), True, f"whether {line!r} begins so, without the files {number}")
+            lines.append(line.removeprefix(begins))
+    return lines[0]
+
+
+def put(store, name, text):
+    """Writes a file of a store."""
+    with open(store.path(name), "wb") as file:
+        file.write(text)
+
+
+def cut_shorter_log():
+    """A shorter log that lacks its last batch isn't served, and the longer log is left beside it."""
+    with switched().copied() as (store, clients, _):
+        log = store.files()["log.1"]
+        put(store, "log", switched().long)
+        for end in (b"\0", b""):
+            put(store, "log.1", log[: gates_of(log)[-2]] + end)
+            line = store.unread()
+        put(store, "log.1", log)
+        with store.kept() as server:
+            come_back(clients, server, Told(), everything=True)
+    return repr(line)
+
+
+def older_log():
+    """A log with fewer events of a lane than its count isn't served, no event is handed over, and all is left."""
+    log, states = small().store.files()["log"], small().states
+    gates, counts = gates_of(log), counts_of(states[-1])
+    lines = set()
+    for number, gate in enumerate(gates[:-1]):
+        for left in (log[:gate], log[: gate + 1], log[:gate] + b"\0" + log[gate + 1 :]):
+            with small().copied() as (store, *_):
+                put(store, "log", left)
+                there = counts_of(states[number])
+                lane = next(lane for lane in range(LANES) if counts[lane] > there[lane])
+                wanted = f"handed.{lane} counts {counts[lane]} events, and the log has {there[lane]} of lane {lane}"
+                same(store.unread(), f"up_server: cannot read the store: {wanted}", "why nothing is served")
+                lines.add(wanted)
+    return f"{len(lines)} lines, such as {max(lines)!r}"
+
+
+def damaged_log():
+    """A log with a block that can't be read isn't served, and a line names its file and its place."""
+    for original, name in ((small, "log"), (switched, "log.1")):
+        log = original().store.files()[name]
+        for gate in gates_of(log)[:-1]:
+            # The highest byte of a length, and that of what closures said.
+            for place in (gate + 8, gate + 9 + 16):
+                with original().copied() as (store, *_):
+                    put(store, name, log[:place] + b"\xff" + log[place + 1 :])
+                    line = store.unread()
+                    same(line, damage_of(name, gate), "why nothing is served")
+    return repr(line)
+
+
+def lost_folder():
+    """Once the folder of a store is removed, changes are refused within two seconds, and reads continue."""
+    with store_of(program) as store:
+        with store.kept() as server, Lone(server) as client:
+            path = client.append(client.create(5), b"abcde")
+            store.until_counted(client.uploads)
+            shutil.rmtree(store.folder)
+            end = time.monotonic() + 2
+            while client.ask("POST", "/files/").status != 503 and time.monotonic() < end:
+                time.sleep(0.05)
+            for _ in range(3):
+                reply = client.connection.ask("POST", "/files/", upload_length=3)
+                same(reply.status, 503, "the status of a change two seconds after the folder was removed")
+            client.look(path)
+            lines = lines_of(server)
+        same(lines, [f"{STOPPED}the folder of the store is gone"], "what is said")
+        same(os.path.exists(store.folder), False, "whether the folder is there")
 
 
 class Elsewhere(Server):
@@ -597,6 +831,150 @@ def failed_syncs():
     return " and ".join(repr(line.rstrip("\n")) for line in lines)
 
 
+# Syncs that fail once.
+
+
+def failing_once(server, store, name, number, told):
+    """Makes a sync of a file fail for the time of a `with`: of the syncs that a thread makes, the one with this number.
+    strace tells what it has changed in the file `told`. A switch of heads is held up."""
+    calls = "fsync,fdatasync,fcntl" if name == "heads" else "fsync,fdatasync"
+    words = ["-o", told, "-P", store.path(name), "-e", f"trace={calls}"]
+    if name == "heads":
+        words += ["-P", store.path("log.1-wal"), "-e", f"inject=fcntl:delay_exit={HELD_UP}s"]
+        return tracing(server.process.pid, *words, "-e", f"inject=fdatasync:error=EIO:when={number}")
+    return tracing(server.process.pid, *words, "-e", f"inject=fsync,fdatasync:error=EIO:when={number}")
+
+
+def meanwhile(store, client):
+    """Once a shorter log is being opened, makes the longer one longer by more than a quarter. Returns in the middle of
+    the time in which another one would be opened, if a switch has failed and is tried again."""
+    size = os.path.getsize(store.path("heads"))
+    soon(lambda: os.path.exists(store.path("log.1-wal")), "a shorter log is opened")
+    with contextlib.suppress(Ended):
+        for _ in range(MEANWHILE):
+            client.append(client.create(len(PIECE)), PIECE)
+    soon(lambda: os.path.getsize(store.path("heads")) > size, "a switch is tried")
+    time.sleep(1.5 * HELD_UP)
+
+
+def until_shorter(store):
+    """Waits until the log was made shorter, or for longer than that takes, and then for a moment."""
+    end = time.monotonic() + 3
+    while store.logs() != ["log.1"] and time.monotonic() < end:
+        time.sleep(0.05)
+    time.sleep(random.uniform(0.3, 0.8))
+
+
+def work_while_failing(store, clients, server, name):
+    """Has clients begin to work one after another while the log becomes shorter and a file fails, and ends the server.
+    Returns whether a change could be made at the end."""
+    first, *_, last = clients
+    ending, goes_on = threading.Event(), []
+    # The end in order waits for a lane whose count has failed.
+    may_end = [server.kill] if name.startswith("handed") else [server.kill, server.end]
+
+    def work(client):
+        if client is first:
+            with contextlib.suppress(Ended):
+                remove_heap(client)
+        if client is not last:
+            ending.wait(0.3 * client.number)
+            client.work(0.01)
+
+    def end():
+        meanwhile(store, last) if name == "heads" else until_shorter(store)
+        last.resolve()
+        goes_on.append(last.goes_on())
+        ending.set()
+        random.choice(may_end)()
+        server.process.wait(MAX_WAIT)
+
+    together(clients, server, ending, work, end, may_fail=True)
+    return goes_on[0]
+
+
+def fail_sync(name, number):
+    """Has a sync of a file fail, and checks what is there afterwards. Returns whether it failed, and whether the server
+    made changes at the end."""
+    name = f"handed.{random.randrange(LANES)}" if name == "handed" else name
+    with heaped().copied() as (store, clients, told), tempfile.NamedTemporaryFile() as changes:
+        with store.plain() as server:
+            with failing_once(server, store, name, number, changes.name):
+                goes_on = work_while_failing(store, clients, server, name)
+            lines = server.process.stderr.read().decode().splitlines()
+            is_told = any(line.startswith(STOPPED) for line in lines)
+            same(is_told, not goes_on, f"whether {lines} say that no change is made")
+            told.add(server.output(), is_killed=server.process.returncode != 0)
+            told.was_killed = True
+            told.hold(clients, is_whole=False)
+        last_runs(store, clients, told)
+        return was_changed(changes), goes_on
+
+
+def by_failed_sync():
+    """Whichever sync of a file fails, before and after a switch to a shorter log, what was acknowledged is there after
+    a restart. Until then the server makes changes again, or says that it makes none."""
+    tries = [
+        (name, number) for name, most in SYNCED.items() for number in random.sample(range(1, most + 1), min(rounds, most))
+    ]
+    results = []
+    heaped()
+
+    def try_some(start):
+        for name, number in tries[start::AT_ONCE]:
+            try:
+                results.append(fail_sync(name, number))
+            except AssertionError as fault:
+                raise AssertionError(f"sync {number} of {name}: {fault}") from fault
+
+    at_once(try_some, AT_ONCE)
+    failed, went_on = map(sum, zip(*results))
+    return f"{len(tries)} runs, {failed} with a sync that failed, {went_on} in which changes were made at the end"
+
+
+# Starts that are killed, and disks with no room for heads.
+
+
+def first_start():
+    """A first start that is killed at any of its calls for the files of the store, or one of whose syncs fails, leaves
+    what the next start makes a store of."""
+    tries = [(call, number, "signal=KILL") for call in CALLS for number in range(1, 1 + CALLS[call])]
+    tries += [("fsync,fdatasync", number, "error=EIO") for number in range(1, 1 + CALLS["fdatasync"])]
+    tries = random.sample(tries, min(FIRST * rounds, len(tries)))
+    ended = []
+
+    def try_some(start):
+        for call, number, what in tries[start::AT_ONCE]:
+            with store_of(program) as store:
+                paths = [word for name in ("", *NAMES) for word in ("-P", store.path(name).rstrip("/"))]
+                words = [*paths, "-e", f"trace={call}", "-e", f"inject={call}:{what}:when={number}"]
+                with store.traced(*words) as server:
+                    if server.port is None:
+                        ended.append(server.process.wait(MAX_WAIT))
+                hold_there(store, Client(0))
+
+    at_once(try_some, AT_ONCE)
+    return f"{len(ended)} of {len(tries)} starts ended early"
+
+
+def full_heads():
+    """If there is no room to write that a shorter log takes the place of the log, changes go on in the longer one."""
+    with heaped().copied() as (store, clients, told):
+        with store.kept() as server:
+            words = ["-P", store.path("heads"), "-e", "trace=pwrite64", "-e", "inject=pwrite64:error=ENOSPC"]
+            with tracing(server.process.pid, *words), Lone(server, clients[0]) as client:
+                remove_heap(client)
+                line = server.line()
+                same(line, NO_ROOM, "what is said of the switch that finds no room")
+                client.finish()
+                client.append(client.create(3), b"abc")
+            same(lines_of(server), [], "what else is said")
+            same(store.logs(), ["log"], "the logs")
+            told.add(server.output(), is_killed=True)
+        last_runs(store, clients, told)
+    return repr(line)
+
+
 given = argparse.ArgumentParser(description=__doc__)
 given.add_argument("--program", metavar="PATH", help="what is tried in place of crates/up/out/up")
 given.add_argument("--rounds", type=int, default=20, metavar="N", help="how often a busy server is killed")
@@ -606,7 +984,7 @@ program, rounds = os.path.abspath(given.program or build()), given.rounds
 
 CASES = [
     by_kill, by_end, cut_log, torn_log, shorter_log, second_server, other_lanes, other_size, no_log, no_folder,
-    files_made, no_store, full_file, full_of_many,
+    files_made, no_store, full_file, full_of_many, lost_files, cut_shorter_log, older_log, damaged_log, lost_folder,
 ]
 passed_over = []
 if may_mount():
@@ -614,7 +992,7 @@ if may_mount():
 else:
     passed_over.append("full_disk, since no disk may be mounted here")
 if may_trace():
-    CASES.append(failed_syncs)
+    CASES += [failed_syncs, by_failed_sync, first_start, full_heads]
 else:
     passed_over.append("failed_syncs, since strace isn't there or may trace nothing")
 sys.exit(try_all(CASES, given.names, passed_over))

@@ -5,6 +5,7 @@ import base64
 import contextlib
 import random
 import re
+import time
 
 from serving import Connection, head, patch, same
 
@@ -83,9 +84,9 @@ class Ended(Exception):
 
 class Client:
     """A client of one server after another, with its own uploads, by their paths. Once `ending` is set, its
-    connection may end within a change, or the change may be refused. Such a change is `asked` until its result is
-    known: the path of an upload, and the upload as it is if the change is done. A creation without an answer is in
-    `lost`, by its mark."""
+    connection may end within a change, or the change may be refused. It may also be refused if the server's disk
+    fails. Such a change is `asked` until its result is known: the path of an upload, and the upload as it is if the
+    change is done. A creation without an answer is in `lost`, by its mark."""
 
     def __init__(self, number):
         self.number = number
@@ -95,9 +96,15 @@ class Client:
         self.touched = set()
         self.made = 0
 
-    def meet(self, server, ending):
-        """Continues at this server."""
-        self.connection, self.ending, self.sent = Connection(server), ending, 0
+    def copy(self):
+        """A client that knows the same, and is at no server. There is nothing that this one doesn't know."""
+        other = Client(self.number)
+        other.uploads, other.made = dict(self.uploads), self.made
+        return other
+
+    def meet(self, server, ending, may_fail=False):
+        """Continues at this server, whose disk may fail."""
+        self.connection, self.ending, self.may_fail = Connection(server), ending, may_fail
 
     def leave(self):
         self.connection.socket.close()
@@ -121,8 +128,9 @@ class Client:
         """Sends a change after which the upload is `after`, and returns its path."""
         self.asked = path, after
         reply = self.hear(message)
-        if reply.status == 503 and self.ending.is_set():
-            same(reply.body, b"20 Closed\n", "what a server says that ends")
+        if reply.status == 503 and (self.may_fail or self.ending.is_set()):
+            said = (b"", b"20 Closed\n") if self.may_fail else (b"20 Closed\n",)
+            same(reply.body in said, True, f"whether {reply.body!r} is what a server says that ends or whose disk fails")
             raise Ended
         same(reply.status, 204 if path else 201, f"the status of a change, as {reply.whole!r} says")
         return self.settle(path or reply.fields["location"])
@@ -229,19 +237,32 @@ class Client:
             return self.append(path, piece, len(upload.body) + len(piece) + random.choice([0, PIECE]))
         return self.append(path, piece or b"x")
 
-    def work(self):
-        """Changes uploads until the connection ends, or changes are refused."""
+    def work(self, pause=0):
+        """Changes uploads until the connection ends, or a change is refused, with this pause after each change."""
         with contextlib.suppress(Ended):
             for _ in range(4_000):
-                begun, whole = self.begun(), self.whole()
-                if len(whole) > MAX_WHOLE or whole and random.random() < 0.05:
-                    self.remove(random.choice(whole))
-                elif begun and (len(begun) >= MAX_BEGUN or random.random() < 0.7):
-                    self.go_on_with(random.choice(begun))
-                elif whole and random.random() < 0.1:
-                    self.look(random.choice(whole))
-                else:
-                    self.begin()
+                self.step()
+                time.sleep(pause)
+
+    def step(self):
+        begun, whole = self.begun(), self.whole()
+        if len(whole) > MAX_WHOLE or whole and random.random() < 0.05:
+            self.remove(random.choice(whole))
+        elif begun and (len(begun) >= MAX_BEGUN or random.random() < 0.7):
+            self.go_on_with(random.choice(begun))
+        elif whole and random.random() < 0.1:
+            self.look(random.choice(whole))
+        else:
+            self.begin()
+
+    def goes_on(self):
+        """Whether one of three creations is made. A file that failed may be opened again at the next one."""
+        for _ in range(3):
+            with contextlib.suppress(Ended):
+                self.create(3)
+                return True
+            self.resolve()
+        return False
 
     def finish(self):
         """Completes all uploads that are under way."""

@@ -136,7 +136,7 @@ class Server:
         if self.may_fail:
             return None
         self.process.kill()
-        sys.exit(f"the server does not listen: {self.first_line!r}")
+        raise AssertionError(f"the server does not listen: {self.first_line!r}")
 
     def line(self):
         """The next line on standard error, or an empty text if none comes in time. The pipe has no buffer, so a line

@@ -32,6 +32,10 @@ class Kept(Server):
         self.process.wait()
 
 
+class Plain(endings.Plain, Kept):
+    """A server that ends in order at the end of its standard input, or by a kill."""
+
+
 class Hasty(Kept):
     """A server that is killed while it starts, or soon after. Nobody connects to it."""
 
@@ -52,6 +56,15 @@ class Limited(Kept):
         resource.prlimit(self.process.pid, resource.RLIMIT_FSIZE, (resource.RLIM_INFINITY, resource.RLIM_INFINITY))
 
 
+class Traced(Kept):
+    """A server that strace traces from its start, and whose system calls it changes, as these words say. The server may
+    not come to listen."""
+
+    def __init__(self, program, *words, tracing):
+        super().__init__(program, *words, may_fail=True)
+        self.words[:0] = ["strace", "-D", "-f", "-qq", "-o", "/dev/null", "-e", "signal=none", *tracing]
+
+
 class Store:
     """The folder of a store, and the program that serves it."""
 
@@ -67,7 +80,11 @@ class Store:
 
     def plain(self):
         """A server that ends in order at the end of its standard input."""
-        return endings.Plain(self.program, *self.words())
+        return Plain(self.program, *self.words())
+
+    def traced(self, *tracing):
+        """A server that ends by a kill, and whose system calls strace changes."""
+        return Traced(self.program, *self.words(), tracing=tracing)
 
     def script(self):
         """A server that ends in order when its script gets a TERM."""
@@ -107,10 +124,15 @@ class Store:
         """A run that must end by itself with status 1, and must leave the files as they are."""
         before = self.files()
         words = [self.program, "serve", "--address", "127.0.0.1:0", "--max-size", str(size), *self.words(lanes)]
-        ran = subprocess.run(words, stdin=subprocess.DEVNULL, capture_output=True, timeout=MAX_WAIT)
+        try:
+            ran = subprocess.run(words, stdin=subprocess.DEVNULL, capture_output=True, timeout=MAX_WAIT)
+        except subprocess.TimeoutExpired as fault:
+            raise AssertionError(f"a server that must be refused serves, and says {fault.stderr!r}") from fault
         same(ran.returncode, 1, f"the status, with {ran.stderr!r}")
         after = self.files()
         same([name for name in before if after.get(name) != before[name]], [], "the files that aren't as they were")
+        new = [name for name in after if name not in before and (after[name] or not name.endswith("-wal"))]
+        same(new, [], "the files that are new, besides locks")
         return ran
 
     def refused(self, lanes=None, size=MAX_SIZE):
@@ -122,8 +144,12 @@ class Store:
         return lines[0]
 
     def unread(self):
-        """Checks that the log can't be read to its end, so that nobody is served. Returns the line that says why."""
-        lines = self.run().stderr.decode().splitlines()
+        """Checks that the log can't be read to its end, so that nobody is served and no event is handed over. Returns the
+        line that says why."""
+        ran = self.run()
+        report = re.fullmatch(rb"\naccepted \d+\n(lane \d+ drained \d+\n)+", ran.stdout)
+        same(report is not None, True, f"whether {ran.stdout!r} is a report without events")
+        lines = ran.stderr.decode().splitlines()
         same(len(lines), 2, f"how many lines say that it listens, and why it ends: {lines}")
         same(lines[1].startswith("up_server: cannot read the store: "), True, f"whether {lines} say why it ends")
         return lines[1]
@@ -133,7 +159,7 @@ class Store:
 def store_of(program):
     """A store whose folder doesn't exist yet, on the disk of temporary files."""
     with tempfile.TemporaryDirectory(prefix="up-crash-") as folder:
-        yield Store(program, os.path.join(folder, "store"))
+        yield Store(program, os.path.join(os.path.realpath(folder), "store"))
 
 
 def files_of(folder):
@@ -199,9 +225,10 @@ def small_disk():
 
 
 @contextlib.contextmanager
-def failing_syncs(process):
-    """Makes each sync of a process fail for the time of a `with`."""
-    words = ["strace", "-f", "-p", str(process), "-e", "trace=fsync,fdatasync", "-e", "inject=fsync,fdatasync:error=EIO"]
+def tracing(process, *words):
+    """Has strace change the system calls of a process, as these words say, for the time of a `with` or until the process
+    ends. It counts the calls of each thread apart."""
+    words = ["strace", "-f", "-p", str(process), "-e", "signal=none", *words]
     with subprocess.Popen(words, stdin=subprocess.DEVNULL, stderr=subprocess.PIPE, bufsize=0) as tracer:
         # strace writes a line when it has attached itself, and another for each thread.
         tracer.stderr.readline()
@@ -212,6 +239,16 @@ def failing_syncs(process):
         finally:
             tracer.terminate()
             hearing.join()
+
+
+def failing_syncs(process):
+    """Makes each sync of a process fail for the time of a `with`."""
+    return tracing(process, "-e", "trace=fsync,fdatasync", "-e", "inject=fsync,fdatasync:error=EIO")
+
+
+def was_changed(file):
+    """Whether strace, whose lines are in this file, has changed a call."""
+    return b"(INJECTED)" in file.read()
 
 
 def may_trace():
