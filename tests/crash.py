@@ -1,11 +1,11 @@
 #!/usr/bin/env python3
-"""Kills, ends and restarts `up serve --store DIR`, cuts its log, and fills its disk. It compares what is there after
-that, and the events of all runs, with what was acknowledged.
+"""Kills, ends and restarts `up serve --store DIR`, has its syncs fail, loses, cuts and damages its files, and fills its
+disk. It compares what is there after that, and the events of all runs, with what was acknowledged.
 
     tests/crash.py [--program PATH] [--rounds N] [NAME..]
 
-It needs only Python 3 and Linux, and takes two minutes with twenty rounds, which is the default. Cases are skipped if
-they need something that is missing or not permitted (a mount, Debian's strace).
+It needs only Python 3 and Linux, and takes MINUTES minutes with twenty rounds, which is the default. Cases are skipped
+if they need something that is missing or not permitted (a mount, Debian's strace).
 
 In each round sixteen clients create, append, declare lengths, concatenate and remove, and the server is killed at a
 random moment. After a restart on the same DIR each change that was acknowledged must be there, by HEAD and by the bytes
@@ -13,12 +13,14 @@ of a GET. A change without an answer is there as a whole, or not at all. The lin
 must be, for each upload, the events that its accepted changes define, each once and in order. At each kill, the one
 event of each lane that was being handed over may be repeated, as the first of its lane in the next run.
 
+With N rounds, N of the first syncs of each file fail, each in a run of its own, and `5 * N` first starts are killed or
+have a sync that fails; with twenty rounds that is all of them.
+
 For each case, one line says whether it passed. The last line is `N passed, M failed`, and the exit status is 1 if a
 case failed.
 """
 import argparse
 import contextlib
-import functools
 import os
 import random
 import re
@@ -28,6 +30,7 @@ import tempfile
 import threading
 import time
 
+from copied import HEAPED, PIECE, Lone, heaped, put, remove_heap, small, small_changes, switched
 from crashed import LANES, Client, Ended, Told, adopt, lane_of
 from endings import ended
 from serving import MAX_SIZE, MAX_WAIT, Server, at_once, build, events_of, same, soon, try_all
@@ -51,17 +54,18 @@ MAX_CUTS, AT_ONCE = 240, 4
 # The bytes of the bodies that fill a disk.
 BODY = 100_000
 
-# The number of uploads that are removed before a log is made shorter, their bytes, and how often a server is killed
-# after that.
-HEAPED, PIECE, KILLS = 70, bytes(range(256)) * 4096, 5
+# How often a server is killed once its log may be made shorter.
+KILLS = 5
 
-# The files of which a sync fails once, and which of the first syncs of a thread do, and the number of clients meanwhile.
-# A thread makes fewer syncs of some files than of others.
+# The files of which a sync fails once, and how many of the first syncs of a thread do. A thread makes fewer syncs of
+# some files than of others.
 SYNCED = {"heads": 4, "log": 10, "log.1": 10, "void.1": 6, "handed": 10}
-FEW = 6
 
 # The seconds for which a shorter log is held up when it is opened, and how many large uploads are made meanwhile.
 HELD_UP, MEANWHILE = 1, 20
+
+# The most seconds that a server which is traced may take for a shorter log.
+MAX_TRACED = 100
 
 # The calls of a first start at which it is killed, and how many there are of each for the files of a store.
 CALLS = {"mkdir": 1, "openat": 24, "pwrite64": 14, "fsync": 24, "fdatasync": 16}
@@ -226,38 +230,6 @@ def hold_report(report, clients, told):
 # Cases with one client.
 
 
-class Lone:
-    """A client that is connected to a server for the time of a `with`; a new client unless one is given."""
-
-    def __init__(self, server, client=None):
-        self.client = client or Client(0)
-        self.client.meet(server, threading.Event())
-
-    def __enter__(self):
-        return self.client
-
-    def __exit__(self, *_):
-        self.client.leave()
-
-
-def small_changes(client):
-    """Makes changes one after another, each in a batch of its own, and yields all uploads after each change."""
-    first = client.create(5)
-    yield dict(client.uploads)
-    client.append(first, b"ab")
-    yield dict(client.uploads)
-    other = client.create(None, "partial")
-    yield dict(client.uploads)
-    client.append(other, b"0123456789", 10)
-    yield dict(client.uploads)
-    client.join([other, other])
-    yield dict(client.uploads)
-    client.remove(other)
-    yield dict(client.uploads)
-    client.append(first, b"cde")
-    yield dict(client.uploads)
-
-
 def made(store):
     """Makes a store with the small changes. Returns the client, and the uploads before and after each change, each with
     the length of the log at that time."""
@@ -406,75 +378,6 @@ def hold_shorter(store, clients, told):
     same(sum(told.counts()) - sum(before), 3, "how many events came in a run with three")
 
 
-# Copies of a store.
-
-
-class Original:
-    """A store whose server has ended in order, with clients that know all of it, and all events. Tries are made on
-    copies of it."""
-
-    def __init__(self):
-        self.place = tempfile.TemporaryDirectory(prefix="up-crash-")
-        self.store = Store(program, os.path.join(self.place.name, "store"))
-        self.clients, self.told = [Client(number) for number in range(FEW)], Told()
-
-    @contextlib.contextmanager
-    def serving(self):
-        """A server of the store, which ends in order. Only then its output is looked at."""
-        with self.store.plain() as server:
-            yield server
-            server.end()
-            same(server.process.wait(MAX_WAIT), 0, "the status of the server")
-            self.told.add(server.output(), is_killed=False)
-
-    @contextlib.contextmanager
-    def copied(self):
-        """A copy of the store, with copies of the clients and of the events."""
-        with store_of(program) as store:
-            shutil.copytree(self.store.folder, store.folder)
-            yield store, [client.copy() for client in self.clients], Told(self.told)
-
-
-@functools.cache
-def heaped():
-    """A store with large uploads of its first client. Once these are removed, its log may be made shorter."""
-    original = Original()
-    with original.serving() as server:
-        for client in original.clients:
-            with Lone(server, client):
-                if client.number == 0:
-                    for _ in range(HEAPED):
-                        client.append(client.create(len(PIECE)), PIECE)
-                list(small_changes(client))
-    return original
-
-
-def remove_heap(client):
-    """Removes the large uploads. A removal that is refused is tried once more."""
-    for path, upload in list(client.uploads.items()):
-        if upload.is_there and upload.length == len(PIECE):
-            try:
-                client.remove(path)
-            except Ended:
-                client.remove(path)
-
-
-@functools.cache
-def switched():
-    """A store whose log was made shorter, and to which nothing was added since. `long` is the longer log, as it was in
-    the end."""
-    original = Original()
-    with heaped().copied() as (store, clients, told):
-        shutil.copytree(store.folder, original.store.folder)
-        original.clients, original.told = clients, told
-    with open(original.store.path("log"), "rb") as log, original.serving() as server:
-        with Lone(server, original.clients[0]) as client:
-            remove_heap(client)
-            soon(lambda: original.store.logs() == ["log.1"], "the log is made shorter")
-        original.long = log.read()
-    return original
-
-
 # Starts that are refused, and the files of a folder.
 
 
@@ -545,16 +448,6 @@ def files_made():
     same([name for name in files if name in locks and files[name]], [], "the locks that aren't empty")
 
 
-@functools.cache
-def small():
-    """A store with the small changes, and what is there after each of them."""
-    original = Original()
-    client = original.clients[0]
-    with original.serving() as server, Lone(server, client):
-        original.states = [{}, *small_changes(client)]
-    return original
-
-
 def without(store, *names):
     """Removes files of a store."""
     for name in names:
@@ -596,7 +489,7 @@ def lost_files():
     ]
     lines = []
     for number, (original, lose) in enumerate(losses):
-        with original().copied() as (store, *_):
+        with original(program).copied() as (store, *_):
             lose(store)
             line = store.refused()
             begins = f'up_server: cannot open the store at "{store.folder}'
@@ -605,17 +498,11 @@ def lost_files():
     return lines[0]
 
 
-def put(store, name, text):
-    """Writes a file of a store."""
-    with open(store.path(name), "wb") as file:
-        file.write(text)
-
-
 def cut_shorter_log():
     """A shorter log that lacks its last batch isn't served, and the longer log is left beside it."""
-    with switched().copied() as (store, clients, _):
+    with switched(program).copied() as (store, clients, _):
         log = store.files()["log.1"]
-        put(store, "log", switched().long)
+        put(store, "log", switched(program).long)
         for end in (b"\0", b""):
             put(store, "log.1", log[: gates_of(log)[-2]] + end)
             line = store.unread()
@@ -627,12 +514,12 @@ def cut_shorter_log():
 
 def older_log():
     """A log with fewer events of a lane than its count isn't served, no event is handed over, and all is left."""
-    log, states = small().store.files()["log"], small().states
+    log, states = small(program).store.files()["log"], small(program).states
     gates, counts = gates_of(log), counts_of(states[-1])
     lines = set()
     for number, gate in enumerate(gates[:-1]):
         for left in (log[:gate], log[: gate + 1], log[:gate] + b"\0" + log[gate + 1 :]):
-            with small().copied() as (store, *_):
+            with small(program).copied() as (store, *_):
                 put(store, "log", left)
                 there = counts_of(states[number])
                 lane = next(lane for lane in range(LANES) if counts[lane] > there[lane])
@@ -645,11 +532,11 @@ def older_log():
 def damaged_log():
     """A log with a block that can't be read isn't served, and a line names its file and its place."""
     for original, name in ((small, "log"), (switched, "log.1")):
-        log = original().store.files()[name]
+        log = original(program).store.files()[name]
         for gate in gates_of(log)[:-1]:
             # The highest byte of a length, and that of what closures said.
             for place in (gate + 8, gate + 9 + 16):
-                with original().copied() as (store, *_):
+                with original(program).copied() as (store, *_):
                     put(store, name, log[:place] + b"\xff" + log[place + 1 :])
                     line = store.unread()
                     same(line, damage_of(name, gate), "why nothing is served")
@@ -849,11 +736,11 @@ def meanwhile(store, client):
     """Once a shorter log is being opened, makes the longer one longer by more than a quarter. Returns in the middle of
     the time in which another one would be opened, if a switch has failed and is tried again."""
     size = os.path.getsize(store.path("heads"))
-    soon(lambda: os.path.exists(store.path("log.1-wal")), "a shorter log is opened")
+    soon(lambda: os.path.exists(store.path("log.1-wal")), "a shorter log is opened", MAX_TRACED)
     with contextlib.suppress(Ended):
         for _ in range(MEANWHILE):
             client.append(client.create(len(PIECE)), PIECE)
-    soon(lambda: os.path.getsize(store.path("heads")) > size, "a switch is tried")
+    soon(lambda: os.path.getsize(store.path("heads")) > size, "a switch is tried", MAX_TRACED)
     time.sleep(1.5 * HELD_UP)
 
 
@@ -897,7 +784,7 @@ def fail_sync(name, number):
     """Has a sync of a file fail, and checks what is there afterwards. Returns whether it failed, and whether the server
     made changes at the end."""
     name = f"handed.{random.randrange(LANES)}" if name == "handed" else name
-    with heaped().copied() as (store, clients, told), tempfile.NamedTemporaryFile() as changes:
+    with heaped(program).copied() as (store, clients, told), tempfile.NamedTemporaryFile() as changes:
         with store.plain() as server:
             with failing_once(server, store, name, number, changes.name):
                 goes_on = work_while_failing(store, clients, server, name)
@@ -914,11 +801,10 @@ def fail_sync(name, number):
 def by_failed_sync():
     """Whichever sync of a file fails, before and after a switch to a shorter log, what was acknowledged is there after
     a restart. Until then the server makes changes again, or says that it makes none."""
-    tries = [
-        (name, number) for name, most in SYNCED.items() for number in random.sample(range(1, most + 1), min(rounds, most))
-    ]
-    results = []
-    heaped()
+    tries, results = [], []
+    for name, most in SYNCED.items():
+        tries += [(name, number) for number in random.sample(range(1, most + 1), min(rounds, most))]
+    heaped(program)
 
     def try_some(start):
         for name, number in tries[start::AT_ONCE]:
@@ -959,7 +845,7 @@ def first_start():
 
 def full_heads():
     """If there is no room to write that a shorter log takes the place of the log, changes go on in the longer one."""
-    with heaped().copied() as (store, clients, told):
+    with heaped(program).copied() as (store, clients, told):
         with store.kept() as server:
             words = ["-P", store.path("heads"), "-e", "trace=pwrite64", "-e", "inject=pwrite64:error=ENOSPC"]
             with tracing(server.process.pid, *words), Lone(server, clients[0]) as client:

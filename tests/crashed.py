@@ -129,8 +129,8 @@ class Client:
         self.asked = path, after
         reply = self.hear(message)
         if reply.status == 503 and (self.may_fail or self.ending.is_set()):
-            said = (b"", b"20 Closed\n") if self.may_fail else (b"20 Closed\n",)
-            same(reply.body in said, True, f"whether {reply.body!r} is what a server says that ends or whose disk fails")
+            said = {b"20 Closed\n", *([b""] if self.may_fail else [])}
+            same(reply.body in said, True, f"whether {reply.body!r} is what a server says that ends, or that fails")
             raise Ended
         same(reply.status, 204 if path else 201, f"the status of a change, as {reply.whole!r} says")
         return self.settle(path or reply.fields["location"])

@@ -412,12 +412,12 @@ def settled(server):
     return server.status("VmRSS")
 
 
-def soon(holds, what):
-    """Waits until `holds()` is true; fails the case if that takes too long."""
-    end = time.monotonic() + MAX_WAIT
+def soon(holds, what, most=MAX_WAIT):
+    """Waits until `holds()` is true; fails the case if that takes more than so many seconds."""
+    end = time.monotonic() + most
     while not holds():
         if time.monotonic() > end:
-            raise AssertionError(f"not in {MAX_WAIT} s: {what}")
+            raise AssertionError(f"not in {most} s: {what}")
         time.sleep(0.01)
 
 
