@@ -35,8 +35,8 @@ from crashed import LANES, Client, Ended, Told, adopt, lane_of
 from endings import ended
 from serving import MAX_SIZE, MAX_WAIT, Server, at_once, build, events_of, same, soon, try_all
 from stored import (
-    LIMIT, Hasty, Limited, Store, counts_of, enlarge, failing_syncs, files_of, gates_of, logs_left, may_mount, may_trace,
-    put_store, small_disk, store_of, tracing, was_changed,
+    HEADING, LIMIT, Hasty, Limited, Store, counts_of, enlarge, failing_syncs, files_of, gates_of, logs_left, may_mount,
+    may_trace, put_store, small_disk, store_of, tracing, was_changed,
 )
 
 # The number of clients, and the seconds of work before a kill.
@@ -769,12 +769,16 @@ def work_while_failing(store, clients, server, name):
             client.work(0.01)
 
     def end():
-        meanwhile(store, last) if name == "heads" else until_shorter(store)
-        last.resolve()
-        goes_on.append(last.goes_on())
-        ending.set()
-        random.choice(may_end)()
-        server.process.wait(MAX_WAIT)
+        try:
+            meanwhile(store, last) if name == "heads" else until_shorter(store)
+            last.resolve()
+            goes_on.append(last.goes_on())
+            ending.set()
+            random.choice(may_end)()
+            server.process.wait(MAX_TRACED)
+        finally:
+            ending.set()
+            server.kill()
 
     together(clients, server, ending, work, end, may_fail=True)
     return goes_on[0]
@@ -861,6 +865,27 @@ def full_heads():
     return repr(line)
 
 
+def cut_meanwhile():
+    """A log that becomes shorter by itself while syncs fail takes no change any more, since it isn't what was
+    written."""
+    with store_of(program) as store:
+        store.lanes = 1
+        with store.kept() as server, Lone(server) as client:
+            path = client.append(client.create(64 << 20), random.randbytes(BODY))
+            store.until_counted(client.uploads)
+            with failing_syncs(server.process.pid):
+                same(status_of_append(client, path, BODY), 503, "the status of a change while syncs fail")
+                os.truncate(store.path("log"), HEADING + BODY // 2)
+            # The server opens the log again every second.
+            time.sleep(1.5)
+            for _ in range(3):
+                same(status_of_append(client, path, BODY), 503, "the status of a change to a log that was cut")
+            client.come_back(everything=True)
+            lines = lines_of(server)
+        same(len(lines), 1, f"how many lines say that changes are refused, and not that they are stored again: {lines}")
+    return repr(lines[0])
+
+
 given = argparse.ArgumentParser(description=__doc__)
 given.add_argument("--program", metavar="PATH", help="what is tried in place of crates/up/out/up")
 given.add_argument("--rounds", type=int, default=20, metavar="N", help="how often a busy server is killed")
@@ -878,7 +903,7 @@ if may_mount():
 else:
     passed_over.append("full_disk, since no disk may be mounted here")
 if may_trace():
-    CASES += [failed_syncs, by_failed_sync, first_start, full_heads]
+    CASES += [failed_syncs, by_failed_sync, cut_meanwhile, first_start, full_heads]
 else:
     passed_over.append("failed_syncs, since strace isn't there or may trace nothing")
 sys.exit(try_all(CASES, given.names, passed_over))
