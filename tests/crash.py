@@ -755,7 +755,7 @@ def until_shorter(store):
 def work_while_failing(store, clients, server, name):
     """Has clients begin to work one after another while the log becomes shorter and a file fails, and ends the server.
     Returns whether a change could be made at the end."""
-    first, *_, last = clients
+    first, *_, large, last = clients
     ending, goes_on = threading.Event(), []
     # The end in order waits for a lane whose count has failed.
     may_end = [server.kill] if name.startswith("handed") else [server.kill, server.end]
@@ -764,14 +764,13 @@ def work_while_failing(store, clients, server, name):
         if client is first:
             with contextlib.suppress(Ended):
                 remove_heap(client)
-        if client is not last:
+        if client not in (large, last):
             ending.wait(0.3 * client.number)
             client.work(0.01)
 
     def end():
         try:
-            meanwhile(store, last) if name == "heads" else until_shorter(store)
-            last.resolve()
+            meanwhile(store, large) if name == "heads" else until_shorter(store)
             goes_on.append(last.goes_on())
             ending.set()
             random.choice(may_end)()
