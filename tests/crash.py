@@ -761,12 +761,12 @@ def work_while_failing(store, clients, server, name):
     may_end = [server.kill] if name.startswith("handed") else [server.kill, server.end]
 
     def work(client):
-        if client is first:
-            with contextlib.suppress(Ended):
+        with contextlib.suppress(Ended):
+            if client is first:
                 remove_heap(client)
-        if client not in (large, last):
-            ending.wait(0.3 * client.number)
-            client.work(0.01)
+            if client not in (large, last):
+                ending.wait(0.3 * client.number)
+                client.work(0.01)
 
     def end():
         try:
