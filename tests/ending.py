@@ -18,13 +18,16 @@ case failed.
 """
 import argparse
 import contextlib
+import errno
 import fcntl
 import os
 import pty
 import random
 import re
+import resource
 import shutil
 import signal
+import socket
 import struct
 import subprocess
 import sys
@@ -36,7 +39,8 @@ import time
 import endings
 from endings import MAX_BUSY, MAX_IDLE, SCRIPT, child_of, ended
 from serving import (
-    NOWHERE, ROOT, Connection, Server, at_once, below, build, events_of, head, numbered, patch, same, soon, try_all,
+    NOWHERE, ROOT, Connection, Server, at_once, below, build, events_of, free_port, head, numbered, patch, same, soon,
+    try_all,
 )
 
 UNIT = os.path.join(ROOT, "packaging", "up.service")
@@ -45,6 +49,9 @@ UNIT = os.path.join(ROOT, "packaging", "up.service")
 CLIENTS, LANES = 16, 3
 PARTS = [b"hello ", b"world"]
 WHOLE = b"".join(PARTS)
+
+# The bytes of an upload that is larger than what the system takes of an answer while nobody reads it.
+LARGE = 1 << 23
 
 # The report of a server that did nothing.
 NOTHING = "\naccepted 0\n" + "".join(f"lane {lane} drained 0\n" for lane in range(LANES))
@@ -62,6 +69,13 @@ class Script(endings.Script):
 
 class Plain(endings.Plain):
     """A server without the script, with `--events` and these words."""
+
+    def __init__(self, *words, **how):
+        super().__init__(program, "--events", "--lanes", str(LANES), *words, **how)
+
+
+class Endless(Server):
+    """A server without the script that nothing ends, with `--events` and these words."""
 
     def __init__(self, *words, **how):
         super().__init__(program, "--events", "--lanes", str(LANES), *words, **how)
@@ -381,6 +395,184 @@ def under_way():
         hold(ended(server, MAX_IDLE), [body])
 
 
+def half_a_head():
+    """A client whose head is half sent when a run ends is sent nothing, also behind an earlier answer."""
+    with Plain() as server, Connection(server) as first, Connection(server) as second:
+        first.send(b"GET /files/ HTTP/1.1\r\nHost: a\r\n")
+        second.send(head("OPTIONS", "/", {}) + b"PATCH /fi")
+        same(second.reply().status, 204, "the status of OPTIONS")
+        time.sleep(0.2)
+        server.end()
+        for client in (first, second):
+            same(client.is_closed(), True, "whether the connection has ended without an answer")
+        same(ended(server, MAX_IDLE), NOTHING, "what is written")
+
+
+def large(server):
+    """The path of a new upload that is larger than what the system takes of an answer while nobody reads it."""
+    with Connection(server) as client:
+        path = client.make(LARGE)
+        same(client.append(path, 0, bytes(LARGE)).status, 204, "the status of a PATCH")
+    return path
+
+
+def arrived():
+    """A request that has arrived whole when a run ends is answered, although the server hasn't read it yet."""
+    with Plain() as server:
+        path = large(server)
+        with Connection(server, room=4096) as client:
+            client.send(head("GET", path, {}))
+            same(client.reply_head().status, 200, "the status of a GET")
+            client.send(head("OPTIONS", "/", {}))
+            time.sleep(0.2)
+            server.end()
+            time.sleep(0.5)
+            same(len(client.take(LARGE)), LARGE, "how many bytes of the upload came")
+            same(client.reply().status, 204, "the status of the request that had arrived")
+            same(client.is_closed(), True, "whether the connection has ended behind it")
+        ended(server)
+
+
+def sends_on():
+    """A client that sends requests without an end doesn't hold up the end of a run."""
+    with Plain() as server, Connection(server) as client:
+        is_busy = threading.Event()
+
+        def ask(number):
+            if number == 0:
+                is_busy.wait(MAX_IDLE)
+                server.end()
+                same(server.process.wait(2 * MAX_IDLE), 0, "the status of the server")
+                return
+            with contextlib.suppress(OSError):
+                while client.more():
+                    is_busy.set()
+                    client.send(head("OPTIONS", "/", {}) * 20)
+
+        client.send(head("OPTIONS", "/", {}) * 100)
+        at_once(ask, 2)
+        same(server.output(), NOTHING, "what is written")
+
+
+def slow_at_the_end():
+    """With `--patience`, a client that takes its answer slowly holds up the end of a run until the grace and the
+    patience are over, and no longer."""
+    with Plain("--grace", "1", "--patience", "1") as server:
+        path = large(server)
+        with Connection(server, room=4096) as client:
+            client.send(head("GET", path, {}))
+            same(client.reply_head().status, 200, "the status of a GET")
+            start = time.monotonic()
+            server.end()
+            while server.process.poll() is None:
+                below(time.monotonic() - start, 6, "seconds until the server ends")
+                with contextlib.suppress(ConnectionError):
+                    client.socket.recv(4096)
+                time.sleep(0.05)
+            below(1.9, time.monotonic() - start, "grace and patience, and the seconds until the server ends")
+        ended(server)
+
+
+class Narrow(Plain):
+    """A server whose files may have so many bytes."""
+
+    def __init__(self, most, **how):
+        super().__init__(**how)
+        self.most = most
+
+    def limit(self):
+        super().limit()
+        signal.signal(signal.SIGXFSZ, signal.SIG_IGN)
+        resource.setrlimit(resource.RLIMIT_FSIZE, (self.most, resource.RLIM_INFINITY))
+
+    def widen(self):
+        """Lets the files grow without a limit."""
+        resource.prlimit(self.process.pid, resource.RLIMIT_FSIZE, (resource.RLIM_INFINITY,) * 2)
+
+
+def torn_line():
+    """Nothing is written behind a line of events that can't be written: not the rest of it, no later line, no report.
+    The reason is said once, and the status is 1."""
+    most = 200
+    with Narrow(most) as server:
+        with Connection(server) as client:
+            paths = [client.make(len(WHOLE)) for _ in range(5)]
+            reason = f"{os.strerror(errno.EFBIG)} (os error {errno.EFBIG})"
+            same(server.line(), f"up_server: events can't be written: {reason}\n", "what is said")
+            server.widen()
+            for path in paths:
+                same(client.append(path, 0, WHOLE).status, 204, "the status of a PATCH")
+        server.end()
+        same(server.process.wait(MAX_IDLE), 1, "the status")
+        same(server.process.stderr.read(), b"up_server: write failed\n", "what is said at the end")
+        lines = server.output()
+        same(len(lines), most, "how many bytes are written")
+        whole = " 1 post-create 0/11 done\n"
+        same((lines.count("\n"), lines.count(whole)), (most // (32 + len(whole)),) * 2, "how many lines are whole")
+
+
+class Closed:
+    """A server all of whose standard streams are closed when it starts, with lines of status. The port is chosen
+    here, since nobody can be told of it."""
+
+    def __init__(self, *words, **how):
+        super().__init__("--status", "1", *words, **how)
+        self.words[self.words.index("127.0.0.1:0")] = f"127.0.0.1:{free_port()}"
+
+    def limit(self):
+        super().limit()
+        os.closerange(0, 3)
+
+    def listening(self):
+        address = next(word for word in self.words if word.startswith("127.0.0.1:"))
+        port = int(address.rpartition(":")[2])
+
+        def listens():
+            with socket.socket() as probe:
+                return probe.connect_ex(("127.0.0.1", port)) == 0
+
+        soon(listens, "the server listens")
+        return port
+
+
+class ClosedPlain(Closed, Endless):
+    """Such a server without the script."""
+
+
+class ClosedScript(Closed, Script):
+    """Such a server that the script runs."""
+
+
+def closed_streams():
+    """If the standard streams of a server are closed when it starts, what it writes to them goes neither to a client
+    nor into a file of a store, and its input has ended."""
+    with tempfile.TemporaryDirectory() as folder:
+        with ClosedPlain("--store", folder) as server:
+            path = replies_alone(server)
+        with Endless("--store", folder) as server, Connection(server) as client:
+            same(client.ask("GET", path).body, WHOLE, "what a GET brings of the store")
+    with ClosedScript() as server:
+        replies_alone(server)
+        server.end()
+        same(server.process.wait(MAX_IDLE), 0, "the status")
+    words = ["serve", "--address", "127.0.0.1:0", "--until-eof", "--lanes", str(LANES)]
+    ran = subprocess.run([program, *words], capture_output=True, timeout=MAX_IDLE, preexec_fn=lambda: os.close(0))
+    same((ran.returncode, ran.stdout.decode()), (0, NOTHING), "the status, and what is written without an input")
+
+
+def replies_alone(server):
+    """Checks that a client is sent nothing but replies for longer than a line of status takes. Returns the path of an
+    upload that it made."""
+    with Connection(server) as client:
+        path = client.make(len(WHOLE))
+        same(client.append(path, 0, WHOLE).status, 204, "the status of a PATCH")
+        time.sleep(1.2)
+        same(client.ask("GET", path).body, WHOLE, "what a GET brings")
+        client.socket.shutdown(socket.SHUT_WR)
+        same(client.is_closed(), True, "whether nothing else comes")
+    return path
+
+
 def dropped_input():
     """Data on standard input is dropped, and an input that has ended before ends the server at once."""
     with Plain() as server:
@@ -451,7 +643,10 @@ given.add_argument("names", nargs="*", metavar="NAME", help="the cases to be tri
 given = given.parse_args()
 program, rounds = os.path.abspath(given.program or build()), given.rounds
 
-CASES = [by_signal, by_input, slow_reader, grace, twice, idle, terminal, under_way, dropped_input, by_itself, installed]
+CASES = [
+    by_signal, by_input, slow_reader, grace, twice, idle, terminal, under_way, half_a_head, arrived, sends_on,
+    slow_at_the_end, torn_line, closed_streams, dropped_input, by_itself, installed,
+]
 NAMESPACE, passed_over = namespace(), []
 if NAMESPACE:
     CASES.insert(1, as_first)

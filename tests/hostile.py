@@ -15,6 +15,7 @@ import socket
 import struct
 import sys
 import termios
+import threading
 import time
 
 from serving import (
@@ -567,6 +568,47 @@ def too_slow():
         same(900 < asking.offset(paths[0]) < 1200, True, "whether the slow one's bytes are there")
 
 
+def takes_slowly():
+    """With `--least-rate 1000000` a client that takes the answer to a GET at 80 KB a second loses its place after ten
+    seconds; one that takes 2 MB a second goes on, and so does one that takes small answers, but seldom."""
+    with Server(program, "--least-rate", "1000000", "--open", "3") as other:
+        with Connection(other) as asking:
+            path = filled(asking, bytes(64 * MIB))
+            small = filled(asking, b"small")
+        is_over = threading.Event()
+
+        def take(number):
+            connection = Connection(other, room=4096)
+            with connection, contextlib.suppress(ConnectionError):
+                connection.send(head("GET", path, {}))
+                start = time.monotonic()
+                while time.monotonic() - start < 16 and not (number == 0 and is_over.is_set()):
+                    same(len(connection.take(4000 if number == 0 else 100_000)) > 0, True, "whether more of it comes")
+                    time.sleep(0.05)
+            return time.monotonic() - start
+
+        def work(number):
+            if number == 0:
+                take(0)
+            elif number == 1:
+                below(15.9, take(1), "seconds that the faster one goes on")
+            elif number == 2:
+                with Connection(other) as seldom:
+                    for _ in range(16):
+                        holds(seldom, small, b"small")
+                        time.sleep(1)
+            else:
+                time.sleep(0.5)
+                start = time.monotonic()
+                with Connection(other) as late:
+                    holds(late, small, b"small")
+                is_over.set()
+                below(9, time.monotonic() - start, "seconds until a place is free, and those for which any rate is")
+                below(time.monotonic() - start, 13, "seconds until a place is free")
+
+        at_once(work, 4)
+
+
 def events_unheard():
     """If the reader of the lines of events has gone, the server continues to serve, and says so once."""
     with Server(program, "--events", unheard=True) as other:
@@ -581,7 +623,7 @@ def events_unheard():
 CASES = [
     slow_clients, dropped_at_once, few_files, few_open, burst, never_reads, vanish_in_a_body, reset_in_a_body,
     break_off_anywhere, vanish_in_chunks, drop_in_a_head, begun_after, rivals, half_closed, nonsense, refused_unread,
-    larger_than_taken, closed_but_held, dropped_on_and_on, lost_patience, too_slow, events_unheard,
+    larger_than_taken, closed_but_held, dropped_on_and_on, lost_patience, too_slow, takes_slowly, events_unheard,
 ]
 
 program, names = words_of(__doc__)

@@ -38,7 +38,7 @@ NO_THREAD = "up_server: no connection can be let in: no thread can be started\n"
 AGAIN = "up_server: connections are let in again\n"
 
 # What a server reports once the reader of its events has gone.
-UNHEARD = b"up_server: events can't be written: whoever reads them is gone\n"
+UNHEARD = b"up_server: events can't be written: Broken pipe (os error 32)\n"
 
 
 def build(name="up", root=ROOT):
@@ -256,10 +256,17 @@ def patch_in_chunks(path):
 
 
 class Connection:
-    """A connection to a server, from an address of the loopback. A read waits at most `MAX_WAIT` seconds."""
+    """A connection to a server, from an address of the loopback. A read waits at most `MAX_WAIT` seconds. With `room`
+    the system takes only about so many bytes for a client that doesn't read."""
 
-    def __init__(self, server, address=None):
-        self.socket = socket.create_connection(("127.0.0.1", server.port), MAX_WAIT, address and (address, 0))
+    def __init__(self, server, address=None, room=None):
+        self.socket = socket.socket()
+        self.socket.settimeout(MAX_WAIT)
+        if address:
+            self.socket.bind((address, 0))
+        if room:
+            self.socket.setsockopt(socket.SOL_SOCKET, socket.SO_RCVBUF, room)
+        self.socket.connect(("127.0.0.1", server.port))
         self.socket.setsockopt(socket.IPPROTO_TCP, socket.TCP_NODELAY, 1)
         self.read = b""
 

@@ -193,6 +193,26 @@ def unread_and_unwritten():
     same((ran.returncode, ran.stderr), (1, b"up_server: write failed\n"), "what is said of a full disk")
 
 
+def closed_streams():
+    """A standard stream that is closed when the program starts is empty, or drops what is written to it, with the same
+    status as ever."""
+    report = b"\naccepted 0\nlane 0 drained 0\nlane 1 drained 0\n"
+    for bits in range(1, 8):
+        closed = [stream for stream in range(3) if bits >> stream & 1]
+
+        def close():
+            for stream in closed:
+                os.close(stream)
+
+        for words, status, wanted in ((["replay"], 0, report), (["replay", "--lanes", "0"], 2, b"")):
+            ran = subprocess.run(
+                [program, *words], timeout=MAX_SECONDS, stdin=subprocess.DEVNULL, capture_output=True, preexec_fn=close,
+            )
+            same(ran.returncode, status, f"the status of {words} with {closed} closed")
+            same(ran.stdout, b"" if 1 in closed else wanted, f"what {words} writes with {closed} closed")
+            same(ran.stderr == b"", 2 in closed or status == 0, f"whether {words} say nothing with {closed} closed")
+
+
 def words_of_serve():
     """`replay` refuses `--events`, whose lines would be among its replies, and words that are meaningless for it."""
     for words in (["--events"], ["--until-eof"], ["--shard", "1"]):
@@ -207,7 +227,7 @@ def no_shard():
 
 CASES = [
     no_text, nobody_hears, taken_port, unknown_name, no_port, too_few_and_too_many, wrong_words, version, nothing_asked,
-    unread_and_unwritten, words_of_serve, no_shard,
+    unread_and_unwritten, closed_streams, words_of_serve, no_shard,
 ]
 
 program, names = words_of(__doc__)

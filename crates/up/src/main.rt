@@ -11,14 +11,16 @@ mod running;
 mod store_files;
 mod store_folder;
 mod store_lines;
+mod streams;
 
 use crate::fault::Fault;
 use crate::listener::listen;
 use crate::rules::run_by_rules;
 use crate::store_files::{StoreFiles, store_of};
+use crate::streams::open_closed_streams;
 use clap::error::ErrorKind;
 use std::alloc::Global;
-use std::io::{self, BufWriter};
+use std::io;
 use std::marker::Sync;
 use std::net::{Net, TcpListener, TcpStream};
 use std::process::ExitCode;
@@ -27,7 +29,6 @@ use std::sync::Wait;
 use std::thread::Threads;
 use std::time::Clock;
 use up_server::{EventLines, ServerFault};
-use up_wire::Output;
 use up_words::{Words, WordsFault, words};
 
 /// Serves as the arguments ask. Takes the listener and the files, if there are any.
@@ -39,7 +40,7 @@ fn run_by_words<
     listener: &mut Option<TcpListener>,
     files: &mut Option<StoreFiles<'_>>,
 ) -> Result<(), Fault> {
-    let lines = EventLines::new(Output::new(BufWriter::new(rt.alloc(), io::writer(rt))?));
+    let lines = EventLines::new(rt.alloc(), io::writer(rt))?;
     let wanted = match &words.serve {
         Some(serving) if serving.events => Some(&lines),
         _ => None,
@@ -94,8 +95,9 @@ fn run<
 }
 
 /// What the arguments ask for, and the files of the store if they ask for one, which are then open. `None` if they only
-/// ask for the version.
+/// ask for the version. No standard stream is closed when the first file is opened.
 fn prepared(rt: &HostRuntime) -> Result<Option<(Words, Option<StoreFiles<'_>>)>, Fault> {
+    open_closed_streams(rt)?;
     let Some(words) = asked(rt, rt.alloc(), arguments(rt)?)? else {
         return Ok(None);
     };

@@ -6,6 +6,7 @@ ghost use Rattle.up_rules.specs.Rules.{judged};
 use crate::fault::Fault;
 use crate::running::run_with;
 use crate::store_files::StoreFiles;
+use std::io::Write;
 use std::marker::{Send, Sync};
 use std::net::TcpListener;
 use std::random::RandomSource;
@@ -16,7 +17,6 @@ use up_hooks::{PreHook, PreHooks};
 use up_machine::{Ask, Verdict};
 use up_rules::rules_of;
 use up_server::EventLines;
-use up_wire::Sink;
 use up_words::Words;
 
 /// Serves what the arguments ask for, with the closures for their rules. These are asked in the order in which the help
@@ -24,7 +24,7 @@ use up_words::Words;
 pub fn run_by_rules<
     'a,
     R: Input + Print + Eprint + AllocGlobal + Clock + RandomSource + Threads + Wait + Sync + 'a,
-    W: Sink + Send + 'a,
+    W: Write + Drop + Send + 'a,
 >(
     rt: &'a R,
     words: &'a Words,

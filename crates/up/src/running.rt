@@ -11,11 +11,12 @@ use crate::store_folder::{EndedNotes, StoreFile};
 use crate::store_lines::StoreLines;
 use sqlite_disk::Disk;
 use std::alloc::{AllocError, Global};
-use std::io::{self, BufReader, BufWriter};
+use std::io::{self, BufReader, BufWriter, Write};
 use std::marker::{Brand, Send, Sync};
 use std::net::TcpListener;
 use std::random::RandomSource;
 use std::sync::Wait;
+use std::sync::atomic::AtomicBool;
 use std::thread;
 use std::thread::Threads;
 use std::time::Clock;
@@ -25,12 +26,12 @@ use up_handed::continue_each;
 use up_history::Chronicle;
 use up_hooks::{Outcome, PostHook, PreHooks, Teller, new_recorders, new_tellers};
 use up_server::{
-    Connections, Ending, EventLines, Hooks, Notices, Patience, RandomIds, ServerFault, Shown,
-    Visits, Watch, keep_serving, replay,
+    AfterLines, Connections, Ending, EventLines, Hooks, Notices, Patience, RandomIds, ServerFault,
+    Shown, Visits, Watch, keep_serving, replay,
 };
 use up_store::{EndedUploads, Folder, Histories, Keeping, LogFile, Shortening, StoreNotices};
 use up_tie::Site;
-use up_wire::{Output, Sink};
+use up_wire::Output;
 use up_words::{Settings, Words};
 
 /// The descriptor of standard input.
@@ -49,7 +50,13 @@ fn watch_of(words: &Words) -> Option<Watch> {
 fn ending_of(alloc: Global, words: &Words) -> Result<Option<Ending>, AllocError> {
     match &words.serve {
         Some(serving) if serving.until_eof => {
-            let ending = Ending::new(alloc, STDIN, serving.grace, serving.open)?;
+            let ending = Ending::new(
+                alloc,
+                STDIN,
+                serving.grace,
+                serving.patience,
+                serving.open,
+            )?;
             Ok(Some(ending))
         }
         _ => Ok(None),
@@ -64,6 +71,8 @@ struct Beside<'a, R> {
     notices: NoticeLines<'a, R>,
     watch: Option<Watch>,
     ending: Option<Ending>,
+    /// Whether a line of events could not be written, if there are lines.
+    have_failed: Option<&'a AtomicBool>,
 }
 
 /// Where connections arrive, and the closures that are asked about their uploads.
@@ -108,7 +117,7 @@ fn is_counted(words: &Words) -> bool {
 pub fn run_with<
     'a,
     R: Input + Print + Eprint + AllocGlobal + Clock + RandomSource + Threads + Wait + Sync + 'a,
-    W: Sink + Send + 'a,
+    W: Write + Drop + Send + 'a,
 >(
     rt: &'a R,
     words: &'a Words,
@@ -136,6 +145,7 @@ pub fn run_with<
         notices: NoticeLines::new(rt),
         watch: watch_of(words),
         ending,
+        have_failed: lines.map(|lines| lines.have_failed()),
     };
     let Some(listener) = listener.take() else {
         return run_input(rt, &beside, hooks, answer);
@@ -148,13 +158,20 @@ pub fn run_with<
     }
 }
 
+/// Where a report is written.
+type ReportSink<'a, R> = Output<BufWriter<AfterLines<'a, io::Printer<'a, R>>>>;
+
 /// Where the report is written, and where the ids of new uploads come from.
-fn sink_and_ids<R: Print + AllocGlobal + RandomSource>(
-    rt: &R,
-    shard: Option<u8>,
-) -> Result<(Output<BufWriter<io::Printer<'_, R>>>, RandomIds), Fault> {
-    let sink = Output::new(BufWriter::new(rt.alloc(), io::writer(rt))?);
-    let ids = RandomIds::new(rt, shard)?;
+fn sink_and_ids<'a, R: Print + AllocGlobal + RandomSource>(
+    rt: &'a R,
+    beside: &Beside<'a, R>,
+) -> Result<(ReportSink<'a, R>, RandomIds), Fault> {
+    let writer = AfterLines {
+        writer: io::writer(rt),
+        have_failed: beside.have_failed,
+    };
+    let sink = Output::new(BufWriter::new(rt.alloc(), writer)?);
+    let ids = RandomIds::new(rt, beside.words.shard())?;
     Ok((sink, ids))
 }
 
@@ -174,7 +191,7 @@ fn run_on<
     requires one_for_each { length post_hooks.items ≡ beside.now.settings.lanes }
     requires new { All (λ h. H.is_sound h × (H.handed h ≡ [])) post_hooks.items }
 {
-    let (mut sink, ids) = sink_and_ids(rt, beside.words.shard())?;
+    let (mut sink, ids) = sink_and_ids(rt, beside)?;
     let Arrivals { listener, hooks } = arrivals;
     let hooks = Hooks {
         pre: hooks,

@@ -129,18 +129,36 @@ fn acquire<B: Naming, I, T: Wait>(
     unreachable!()
 }
 
-/// For a run with an ending: waits until every connection has ended. If the run ends first, nothing more is read from
-/// any of them.
+/// For a run with an ending: waits until every connection has ended. If the run ends first, only what has arrived is
+/// read from any of them, and those that are still open when the patience is over are closed.
 fn see_out<B: Naming, I, T: Wait>(rt: &T, context: &ConnectionContext<'_, B, I>) {
     let Some(ending) = context.ending else {
         return;
     };
     for _ in rt.forever() {
         if context.limit.is_empty(rt) {
-            break;
+            return;
         }
         if !ending.goes_on(rt, context.board) {
-            ending.shut(rt);
+            break;
+        }
+        ending.wait(NOTHING);
+    }
+    ending.shut(rt);
+    if ending.has_limit() {
+        await_last(rt, context, ending);
+        ending.cut(rt);
+    }
+}
+
+/// Waits until every connection has ended, or the patience is over.
+fn await_last<B: Naming, I, T: Wait>(
+    rt: &T,
+    context: &ConnectionContext<'_, B, I>,
+    ending: &Ending,
+) {
+    for _ in rt.forever() {
+        if context.limit.is_empty(rt) || ending.is_late() {
             break;
         }
         ending.wait(NOTHING);

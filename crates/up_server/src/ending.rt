@@ -1,6 +1,6 @@
 //! Ending a run in order after an input has ended.
 use crate::patience::milliseconds;
-use libc::net::{POLLIN, SHUT_RD};
+use libc::net::{POLLIN, SHUT_RD, SHUT_RDWR};
 use libc::types::pollfd;
 use std::alloc::{AllocError, Global};
 use std::sync::atomic::{AtomicBool, AtomicU64, Ordering};
@@ -21,19 +21,24 @@ pub(crate) const NOTHING: i32 = -1;
 
 /// Ends a run in order after an input has ended. Then the board is closed: it refuses changes and goes on answering
 /// reads, and the lanes hand over what is left. After that, or when the grace period is over, no connection is accepted
-/// any more, and nothing more is read from those that are open, so that each of them ends after what has arrived. An
-/// ending has no seat of the board, so it can't change anything there.
+/// any more. Of those that are open, what has arrived by then of one request is still read, and then each of them ends.
+/// If its client doesn't take the answer, it is closed when the patience is over too. An ending has no seat of the
+/// board, so it can't change anything there.
 #[derive(Drop)]
 pub struct Ending {
     /// The descriptor of the input.
     input: i32,
     /// How many milliseconds the lanes have to hand over what is left.
     grace: u64,
+    /// How many milliseconds after the end of the input every connection is closed. `None` sets no limit.
+    most: Option<u64>,
     /// When the input ended, in milliseconds of the system's clock. 0 before that.
     since: AtomicU64,
-    /// Whether nothing more is read from any connection.
+    /// Whether only what has arrived is read from any connection.
     is_over: AtomicBool,
-    /// The sockets of the connections that are being read.
+    /// Whether every connection is closed.
+    is_cut: AtomicBool,
+    /// The sockets of the connections that are being served.
     sockets: Mutex<Vec<i32>>,
 }
 
@@ -47,29 +52,46 @@ fn awaited(fd: i32) -> pollfd {
 }
 
 impl Ending {
-    /// Waits for the end of the input with the descriptor `input`. The lanes have `grace` seconds after it. There is
-    /// room for `open` connections at a time. The error is that memory ran out.
-    pub fn new(alloc: Global, input: i32, grace: u64, open: u64) -> Result<Ending, AllocError> {
+    /// Waits for the end of the input with the descriptor `input`. The lanes have `grace` seconds after it, and the
+    /// clients `patience` seconds more, if that is a number. There is room for `open` connections at a time. The error
+    /// is that memory ran out.
+    pub fn new(
+        alloc: Global,
+        input: i32,
+        grace: u64,
+        patience: Option<u64>,
+        open: u64,
+    ) -> Result<Ending, AllocError> {
+        let most = patience.map(|patience| patience.saturating_add(grace).saturating_mul(1000));
         Ok(Ending {
             input,
             grace: grace.saturating_mul(1000),
+            most,
             since: AtomicU64::new(0),
             is_over: AtomicBool::new(false),
+            is_cut: AtomicBool::new(false),
             sockets: Mutex::new(Vec::with_capacity(alloc, open as usize)?),
         })
     }
 
-    /// Whether nothing more is read from any connection.
+    /// Whether only what has arrived is read from any connection.
     pub(crate) fn is_over(&self) -> bool {
         self.is_over.load(Ordering::SeqCst)
     }
 
-    /// The connection on this socket is going to be read.
+    /// The connection on this socket is going to be served.
     pub(crate) fn begin<R: Wait>(&self, rt: &R, socket: i32) {
-        let _there_is_room = self.sockets.lock(rt).push(socket);
+        let mut sockets = self.sockets.lock(rt);
+        let _there_is_room = sockets.push(socket);
+        if self.is_over() {
+            let _ = libc::net::shutdown(socket, SHUT_RD);
+        }
+        if self.is_cut.load(Ordering::SeqCst) {
+            let _ = libc::net::shutdown(socket, SHUT_RDWR);
+        }
     }
 
-    /// The connection on this socket is no longer read, and the socket may be closed.
+    /// The connection on this socket is no longer served, and the socket may be closed.
     pub(crate) fn end<R: Wait>(&self, rt: &R, socket: i32) {
         let mut sockets = self.sockets.lock(rt);
         if let Some(place) = sockets.iter().position(|it| *it == socket) {
@@ -77,12 +99,35 @@ impl Ending {
         }
     }
 
-    /// Reads nothing more from any connection, and wakes the threads that wait for bytes.
+    /// Reads from every connection only what has arrived, and wakes the threads that wait for bytes.
     pub(crate) fn shut<R: Wait>(&self, rt: &R) {
         let sockets = self.sockets.lock(rt);
         self.is_over.store(true, Ordering::SeqCst);
         for socket in &*sockets {
             let _ = libc::net::shutdown(*socket, SHUT_RD);
+        }
+    }
+
+    /// Closes every connection, and wakes the threads that wait for its client.
+    pub(crate) fn cut<R: Wait>(&self, rt: &R) {
+        let sockets = self.sockets.lock(rt);
+        self.is_cut.store(true, Ordering::SeqCst);
+        for socket in &*sockets {
+            let _ = libc::net::shutdown(*socket, SHUT_RDWR);
+        }
+    }
+
+    /// Whether connections are closed at some time, although their clients don't take the answers.
+    pub(crate) fn has_limit(&self) -> bool {
+        self.most.is_some()
+    }
+
+    /// Whether that time has come.
+    pub(crate) fn is_late(&self) -> bool {
+        let since = self.since.load(Ordering::SeqCst);
+        match self.most {
+            Some(most) => since > 0 && milliseconds().saturating_sub(since) >= most,
+            None => false,
         }
     }
 

@@ -36,7 +36,7 @@ mod watch;
 pub use accept::{Visits, serve_connections};
 pub use connection_limit::ConnectionLimit;
 pub use ending::Ending;
-pub use event_lines::EventLines;
+pub use event_lines::{AfterLines, EventLines};
 pub use hooks::Hooks;
 pub use listening::{Connections, keep_serving, serve, serve_with};
 pub use notices::{Entrance, Notices, Silent, Want};

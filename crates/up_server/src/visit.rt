@@ -105,6 +105,19 @@ fn close(stream: &TcpStream) -> io::Result<()> {
     Ok(())
 }
 
+/// Whether the client may still be receiving its last answer: the conversation was closed, or nothing more of it was
+/// read since the run is over.
+fn ends_in_order(ending: Option<&Ending>, ended: &io::Result<Ended>) -> bool {
+    match ended {
+        Ok(Ended::Closed) => true,
+        Ok(Ended::ReadFailed | Ended::Cut) => match ending {
+            Some(ending) => ending.is_over(),
+            None => false,
+        },
+        _ => false,
+    }
+}
+
 /// Serves a connection from a seat, which it takes and puts back, and closes the connection. If no seat is free, or if
 /// the connection can't be set up, it is closed without an answer, and nothing changes for others.
 pub fn serve_connection<B: Naming, I: Ids, S: Service, T: Wait>(
@@ -126,7 +139,7 @@ pub fn serve_connection<B: Naming, I: Ids, S: Service, T: Wait>(
             ending.end(rt, stream.as_raw_fd());
         }
         context.seats.put_back(rt, seat);
-        if matches!(ended, Ok(Ended::Closed)) {
+        if ends_in_order(context.ending, &ended) {
             let _ = close(&stream);
         }
     }

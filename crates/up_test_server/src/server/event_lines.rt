@@ -4,10 +4,10 @@ use crate::same::expect_same;
 use std::alloc::Global;
 use std::process::Abort;
 use std::sync::Wait;
+use std::test::Fail;
 use up_events::{Event, Hook, Id};
 use up_hooks::Outcome;
 use up_server::EventLines;
-use up_wire::Output;
 
 fn event(number: u64, hook: Hook, offset: u64, length: Option<u64>) -> Event {
     Event {
@@ -30,7 +30,7 @@ const ONE_LINE: [Outcome; 3] = [Outcome::Done, Outcome::Failed(1), Outcome::Fail
 /// Tells the three events, and returns the outcomes.
 fn tell_three(
     rt: &(impl Eprint + Wait),
-    lines: &EventLines<Output<FullWriter<'_>>>,
+    lines: &EventLines<FullWriter<'_>>,
 ) -> [Outcome; 3] {
     [
         lines.tell(rt, &event(1, Hook::Create, 0, None)),
@@ -39,26 +39,29 @@ fn tell_three(
     ]
 }
 
-/// Writes the events with a writer that takes no more bytes than these, and checks the outcomes and what was written.
+/// Writes the events with a writer that fails after these bytes, and then takes more. Checks the outcomes and what was
+/// written.
 fn hold_room(
     rt: &(impl Eprint + Wait + Abort),
     alloc: Global,
     written: &[u8],
     outcomes: [Outcome; 3],
-) {
+) -> Result<(), Fail> {
     let mut taken = Vec::new(alloc);
-    let lines = EventLines::new(Output::new(FullWriter {
+    let writer = FullWriter {
         taken: &mut taken,
         room: written.len(),
-    }));
+    };
+    let lines = EventLines::new(alloc, writer)?;
     let told = tell_three(rt, &lines);
     drop(lines);
     expect_same(rt, &(told, taken.as_slice()), &(outcomes, written));
+    Ok(())
 }
 
 #[test]
-fn writes_each_event_until_a_line_is_not_written(rt: HostRuntime) {
+fn writes_each_event_until_a_line_is_not_written(rt: HostRuntime) -> Result<(), Fail> {
     let lines = LINES.as_bytes();
-    hold_room(&rt, rt.alloc(), lines, [Outcome::Done; 3]);
-    hold_room(&rt, rt.alloc(), &lines[..60], ONE_LINE);
+    hold_room(&rt, rt.alloc(), lines, [Outcome::Done; 3])?;
+    hold_room(&rt, rt.alloc(), &lines[..60], ONE_LINE)
 }
