@@ -417,19 +417,22 @@ def large(server):
 
 
 def arrived():
-    """A request that has arrived whole when a run ends is answered, although the server hasn't read it yet."""
+    """A request that has arrived whole when a run ends is answered, although the server hasn't read it yet. Its answer
+    comes whole, also if more requests have arrived, which aren't answered."""
     with Plain() as server:
         path = large(server)
         with Connection(server, room=4096) as client:
             client.send(head("GET", path, {}))
             same(client.reply_head().status, 200, "the status of a GET")
-            client.send(head("OPTIONS", "/", {}))
+            client.send(head("OPTIONS", "/", {}) + head("OPTIONS", "/", {"X-Long": "x" * 3000}) * 20)
             time.sleep(0.2)
             server.end()
             time.sleep(0.5)
             same(len(client.take(LARGE)), LARGE, "how many bytes of the upload came")
             same(client.reply().status, 204, "the status of the request that had arrived")
-            same(client.is_closed(), True, "whether the connection has ended behind it")
+            while client.more():
+                pass
+            below(client.read.count(b"HTTP/1.1 204"), 20, "how many more are answered")
         ended(server)
 
 

@@ -93,7 +93,7 @@ static WORDS: [Word<'static>; 18] = [
         name: "least-rate",
         kind: Kind::Number(1, MAX_UPLOAD_BYTES),
         default: None,
-        help: "End a connection whose request comes at fewer than N bytes a second for more than 10 seconds",
+        help: "End a connection whose request or answer moves at fewer than N bytes a second for more than 10 seconds",
     },
     Word {
         name: "status",

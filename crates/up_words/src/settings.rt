@@ -69,7 +69,7 @@ pub struct Serving {
     pub open: u64,
     /// For how many seconds a connection may be silent, from 1 to 86,400. `None` if there is no limit.
     pub patience: Option<u64>,
-    /// The minimum rate of a request in bytes per second, from 1 to 2^30. `None` if there is no limit.
+    /// The minimum rate of a request and of an answer in bytes per second, from 1 to 2^30. `None` if there is no limit.
     pub least_rate: Option<u64>,
     /// The number of seconds between two lines about the state of the server, from 1 to 86,400. `None` if there are no
     /// such lines.
