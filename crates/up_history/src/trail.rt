@@ -73,6 +73,18 @@ impl<E, J: Chronicle> Trail<E, J> {
         receipt.number() == self.len()
     }
 
+    /// Whether it follows all entries of a front, and no others.
+    pub fn is_along(&self, front: &Front<E, J>) -> bool
+        ensures { IsTrue result ↔ (self.now ≡ front.now) }
+    {
+        if self.len() != front.len() {
+            return false;
+        }
+        // For the prover: a law, which does nothing when it runs.
+        agree(&self.front, self.count, front);
+        true
+    }
+
     /// Follows the entry of a receipt, which is the next.
     pub fn follow(&mut self, receipt: &Receipt<E, J>)
         requires next { receipt.now.number ≡ length self.old }

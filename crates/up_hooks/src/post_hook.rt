@@ -42,6 +42,12 @@ pub trait PostHook: Send {
             → may_answer self.new event outcome → may_answer self.old event outcome }
         ensures room { OnOk result (has_room self.new ≡ true) };
 
+    /// Whether the last call of `ready` failed because events are held back for now, and not for want of memory. Nobody
+    /// is told that the lane waits then.
+    fn holds_back(&self) -> bool {
+        false
+    }
+
     /// Hands over an event. `ready` must have made room for it. Takes no memory.
     fn hand(&mut self, event: &Event) -> Outcome
         requires sound { is_sound self.old }
