@@ -1,5 +1,5 @@
 -- A post-hook that continues where earlier runs ended, as contracts describe it.
-use Rattle.std.specs.Prelude.{◌≡◌, ◌+◌, ℕ, max, List, length, drop}
+use Rattle.std.specs.Prelude.{◌≡◌, ◌+◌, ℕ, Bool, max, nat_lt, List, length, drop}
 use Rattle.sqlite_disk.specs.declared.Disk.{Ghosts}
 use Rattle.up_events.specs.declared.event.Event.{Event}
 use Rattle.up_handed.specs.declared.continued.Continued.{Continued}
@@ -29,6 +29,10 @@ module _ {H D : Type 0} {g : Ghosts D} where
   -- the count
   abbrev pub handed_of : Continued H D g → Handed D g
   handed_of continued = continued.handed
+
+  -- whether the next event is one that earlier runs handed over
+  abbrev pub skips_next : Continued H D g → Bool
+  skips_next continued = nat_lt continued.passed continued.before
 
   -- the inner post-hook can be called, and was handed all events except those that earlier runs handed over
   pub record GoesOn (h : post_hook.Ghosts H) (continued : Continued H D g) : Type 0 where

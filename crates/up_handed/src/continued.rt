@@ -1,5 +1,5 @@
 //! A post-hook that continues where earlier runs ended.
-ghost use Rattle.std.specs.Prelude.{◌≡◌, ◌⊎◌, ◌+◌, ◌<◌, ◌≤◌, ◌^◌, ◌&&◌, []};
+ghost use Rattle.std.specs.Prelude.{◌≡◌, ◌⊎◌, ◌+◌, ◌<◌, ◌≤◌, ◌^◌, ◌&&◌, ◌||◌, []};
 ghost use Rattle.std.specs.Prelude.{List, length, min, max, not, true, false, OnOk, OnErr, IsTrue};
 ghost use Rattle.up_events.specs.declared.event.Event.{Event as Told};
 ghost use Rattle.up_handed.specs.Counts.{count_of, device_of};
@@ -15,7 +15,8 @@ use up_hooks::{Outcome, PostHook};
 /// A post-hook for a run after earlier runs have handed over the first events of the lane. The lane hands it all of its
 /// events, from the first one on. It skips those that earlier runs handed over, hands each further event to the inner
 /// post-hook, and then adds one to the count. So the count includes all events or all but the last, and after a crash
-/// at most the last one is handed over again. While an event is not counted yet, there is no room for another.
+/// at most the last one is handed over again. While an event is not counted yet, there is no room for another. There is
+/// room for an event that it skips whether or not the inner post-hook has room.
 ///
 /// A shorter log may leave out events that earlier runs handed over. The count includes these events too.
 #[derive(Drop)]
@@ -42,13 +43,13 @@ pub struct Continued<H, D: Disk> {
 }
 
 impl<H: PostHook, D: Disk + Send> PostHook for Continued<H, D> {
-    ghost use Rattle.up_handed.specs.Continues.{GoesOn, IsAllCounted, IsStopped, handed_events};
+    ghost use Rattle.up_handed.specs.Continues.{GoesOn, IsAllCounted, IsStopped, handed_events, skips_next};
 
     ghost is_sound = { GoesOn H.PostHook };
 
     ghost handed = { λ c. c.told.items };
 
-    ghost has_room = { λ c. not c.is_owed && H.has_room c.hook };
+    ghost has_room = { λ c. not c.is_owed && (skips_next c || H.has_room c.hook) };
 
     ghost may_answer = { λ c event outcome.
         ((c.passed < c.before) × (outcome ≡ Done)) ⊎ H.may_answer c.hook event outcome };
@@ -74,7 +75,15 @@ impl<H: PostHook, D: Disk + Send> PostHook for Continued<H, D> {
             }
             self.is_owed = false;
         }
+        let is_next_skipped = self.passed < self.before;
+        if is_next_skipped {
+            return Ok(());
+        }
         self.hook.ready()
+    }
+
+    fn holds_back(&self) -> bool {
+        self.hook.holds_back()
     }
 
     fn hand(&mut self, event: &Event) -> Outcome {

@@ -14,9 +14,9 @@ use up_hooks::PostHook;
 /// A count whose number is on the disk, as it is after the count was opened.
 #[derive(Drop)]
 pub struct Opened<D: Disk> {
-    handed: Handed<D>,
+    pub(crate) handed: Handed<D>,
     /// The number of counted events that a shorter log leaves out.
-    left_out: u64,
+    pub(crate) left_out: u64,
     ghost on_disk: { IsOnDisk D.Disk (device_of handed) (count_of handed) },
     ghost fits: { left_out ≤ count_of handed },
 }

@@ -4,6 +4,7 @@
 
 mod continued;
 mod continuing;
+mod counted;
 mod device;
 mod fault;
 mod file;
@@ -11,12 +12,15 @@ mod handed;
 mod handed_to;
 mod noting;
 mod restarting;
+mod withheld;
 
 pub use continued::Continued;
 pub use continuing::{Opened, continue_each};
+pub use counted::{Counted, counted_each};
 pub use fault::HandedFault;
 pub use file::open_handed;
 pub use handed::{Handed, Refused};
 pub use handed_to::HandedTo;
 pub use noting::{EndedUpload, Endings, Noting};
 pub use restarting::restart;
+pub use withheld::{Permission, Withheld, withhold_each};

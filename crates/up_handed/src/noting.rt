@@ -50,6 +50,10 @@ impl<H: PostHook, E: Endings> PostHook for Noting<H, E> {
         Ok(())
     }
 
+    fn holds_back(&self) -> bool {
+        self.hook.holds_back()
+    }
+
     fn hand(&mut self, event: &Event) -> Outcome {
         if event.hook == Hook::Terminate {
             self.last = Some(EndedUpload {
