@@ -22,7 +22,7 @@ use std::thread::Threads;
 use std::time::Clock;
 use up_dispatch::{AtOnce, Service};
 use up_events::Event;
-use up_handed::continue_each;
+use up_handed::{continue_each, counted_each, withhold_each};
 use up_history::Chronicle;
 use up_hooks::{Outcome, PostHook, PreHooks, Teller, new_recorders, new_tellers};
 use up_server::{
@@ -284,6 +284,15 @@ fn run_kept<
     )
 }
 
+/// How a run ended whose store could not be read, which was reported: only if memory ran out, too, that is to be
+/// reported.
+fn after_unread(served: Result<(), Fault>) -> Result<(), Fault> {
+    match served {
+        Err(Fault::Server(ServerFault::Memory)) => served,
+        _ => Err(Fault::AlreadyReported),
+    }
+}
+
 /// Serves what the listener accepts, over the files of a store, once its histories have names. `log` is the path of the
 /// first log of the changes.
 fn run_named<
@@ -328,16 +337,18 @@ fn run_named<
         histories,
         &lines,
         shortening,
+        counted_each(rt.alloc(), counts.as_slice())?,
     )?;
+    let withheld = withhold_each(rt.alloc(), tellers, keeping.permit())?;
     let notes = EndedNotes::new(rt, keeping.ended());
-    let served = match continue_each(rt.alloc(), tellers, counts, notes) {
+    let served = match continue_each(rt.alloc(), withheld, counts, notes) {
         Ok(post_hooks) => run_kept(rt, beside, arrivals, post_hooks, &keeping),
         Err(_) => Err(Fault::Server(ServerFault::Memory)),
     };
-    match served {
-        Ok(()) if lines.is_unread() => Err(Fault::AlreadyReported),
-        served => served,
+    if lines.is_unread() {
+        return after_unread(served);
     }
+    served
 }
 
 /// Serves what the listener accepts, over the files of a store. The post-hooks return what `answer` does.

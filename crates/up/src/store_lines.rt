@@ -2,10 +2,46 @@
 use crate::room::{give_up_room, keep_room};
 use crate::store_folder::StoreFile;
 use sqlite_std_file::Wary;
+use std::alloc::AllocError;
+use std::os::unix::fs::MetadataExt;
 use std::sync::atomic::{AtomicBool, Ordering};
+use std::sync::{Mutex, Wait};
+use std::{fmt, fs, io};
 use up_log::{LogFault, open_device};
-use up_replay::Unrestored;
-use up_store::{LogFile, StoreNotices};
+use up_replay::Unreplayed;
+use up_store::{LogFile, StoreNotices, Unrestored};
+
+/// The file at a path, as the system knows it.
+#[derive(Clone, Copy, PartialEq, Eq)]
+struct Known {
+    generation: u64,
+    device: u64,
+    number: u64,
+}
+
+/// Why a store can't be read, with the name of the file in front if the reason is about one.
+#[derive(Drop)]
+struct Reason {
+    generation: u64,
+    why: Unrestored,
+}
+
+impl fmt::Display for Reason {
+    fn fmt<W: fmt::Write>(&self, f: &mut fmt::Formatter<W>) -> fmt::Result {
+        let name = match self.why {
+            Unrestored::Changes(LogFault::Memory)
+            | Unrestored::Voids(LogFault::Memory)
+            | Unrestored::Entry(Unreplayed::Memory)
+            | Unrestored::Lane { .. } => return write!(f, "{}", self.why),
+            Unrestored::Voids(_) => "void",
+            Unrestored::Changes(_) | Unrestored::Entry(_) | Unrestored::Fewer { .. } => "log",
+        };
+        match self.generation {
+            0 => write!(f, "{name}: {}", self.why),
+            generation => write!(f, "{name}.{generation}: {}", self.why),
+        }
+    }
+}
 
 /// Prints lines on standard error about a store, opens the file of its changes, and keeps room for removals.
 #[derive(Drop)]
@@ -17,6 +53,8 @@ pub struct StoreLines<'a> {
     spare: String,
     /// Whether the log could not be carried out again, so that nothing is served.
     is_unread: AtomicBool,
+    /// The file of the log, once it was looked for.
+    known: Mutex<Option<Known>>,
 }
 
 impl<'a> StoreLines<'a> {
@@ -28,6 +66,28 @@ impl<'a> StoreLines<'a> {
             log,
             spare,
             is_unread: AtomicBool::new(false),
+            known: Mutex::new(None),
+        }
+    }
+
+    /// The path of the log of this generation.
+    fn path_of(&self, generation: u64) -> Result<String, AllocError> {
+        let log = self.log.as_str();
+        if generation == 0 {
+            return String::from_str(self.rt.alloc(), log);
+        }
+        format!(in self.rt.alloc(); "{log}.{generation}")
+    }
+
+    /// Whether this is the file that was found when a log of this generation was first looked for.
+    fn is_known<R: Wait>(&self, rt: &R, found: Known) -> bool {
+        let mut known = self.known.lock(rt);
+        match *known {
+            Some(first) if first.generation == found.generation => first == found,
+            _ => {
+                *known = Some(found);
+                true
+            }
         }
     }
 
@@ -42,9 +102,10 @@ impl StoreNotices for &StoreLines<'_> {
         let _ = eprintln!(self.rt; "up_server: the store was read: {entries} changes");
     }
 
-    fn is_not_restored(&self, why: Unrestored) {
+    fn is_not_restored(&self, generation: u64, why: Unrestored) {
         self.is_unread.store(true, Ordering::SeqCst);
-        let _ = eprintln!(self.rt; "up_server: cannot read the store: {why}");
+        let reason = Reason { generation, why };
+        let _ = eprintln!(self.rt; "up_server: cannot read the store: {reason}");
     }
 
     fn fails(&self, fault: LogFault) {
@@ -59,6 +120,12 @@ impl StoreNotices for &StoreLines<'_> {
     fn stops(&self, fault: LogFault) {
         let _ = eprintln!(self.rt;
             "up_server: no change is made until the server is started again: {fault}"
+        );
+    }
+
+    fn is_gone(&self) {
+        let _ = eprintln!(self.rt;
+            "up_server: no change is made until the server is started again: the folder of the store is gone"
         );
     }
 
@@ -82,11 +149,27 @@ impl LogFile<StoreFile> for &StoreLines<'_> {
         failed: Option<StoreFile>,
     ) -> Result<StoreFile, LogFault> {
         drop(failed);
-        let log = self.log.as_str();
-        if generation == 0 {
-            return open_device(self.rt, log, Wary);
-        }
-        let path = format!(in self.rt.alloc(); "{log}.{generation}")?;
+        let path = self.path_of(generation)?;
         open_device(self.rt, path.as_str(), Wary)
+    }
+
+    fn is_there<R: Wait>(&self, rt: &R, generation: u64) -> bool {
+        let Ok(path) = self.path_of(generation) else {
+            return true;
+        };
+        match fs::metadata(self.rt, path.as_str()) {
+            Ok(found) => self.is_known(
+                rt,
+                Known {
+                    generation,
+                    device: found.dev(),
+                    number: found.ino(),
+                },
+            ),
+            Err(error) => !matches!(
+                error.kind(),
+                io::ErrorKind::NotFound | io::ErrorKind::NotADirectory
+            ),
+        }
     }
 }

@@ -5,7 +5,7 @@ ghost use Rattle.up_log.specs.declared.entry.Entry.{Entry as Logged};
 
 use std::marker::Model;
 use up_events::Trace;
-use up_history::{Chronicle, Receipt, Trail};
+use up_history::{Chronicle, Front, Receipt, Trail};
 use up_log::Entry;
 
 /// How far a book follows a log, whose entries are those of a history. It stores only a count; contracts describe it as
@@ -47,6 +47,13 @@ impl<J: Chronicle> Followed<J> {
         ensures { IsTrue result ↔ (receipt.now.number ≡ length self.now.entries) }
     {
         self.trail.is_next(receipt)
+    }
+
+    /// Whether the book follows all entries of a front, and no others.
+    pub fn is_along(&self, front: &Front<Entry, J>) -> bool
+        ensures { IsTrue result ↔ (self.now.entries ≡ front.now) }
+    {
+        self.trail.is_along(front)
     }
 
     /// Begins to follow the entry of a receipt, which is the next one. `end` then says whether it was carried out.

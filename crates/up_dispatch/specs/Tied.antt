@@ -1,5 +1,6 @@
 -- The value under the board's lock: a board, and how far its book follows a log.
 use Rattle.std.specs.Prelude.{◌≡◌, ℕ, Bool, true, false, List, Result, length}
+use Rattle.up_events.specs.Records.{lane_log}
 use Rattle.up_commits.specs.Follows.{Following, IsBookAfter, IsBookOf, new_book}
 use Rattle.up_log.specs.declared.entry.Entry.{Entry}
 use Rattle.up_machine.specs.State.{State}
@@ -32,6 +33,11 @@ IsNewBook lanes max_size book = (keeps : Bool) × (book ≡ new_book keeps lanes
 -- unless the board was closed, its book was the one that these entries define
 abbrev pub IsDecidedAfter : ℕ → ℕ → List Entry → State → Type 0
 IsDecidedAfter lanes max_size before book = book.closed ≡ false → IsBookAfter lanes max_size before book
+
+-- in the book that results from those of these entries that were carried out, the log of the lane has this many events
+abbrev pub HasLogged : ℕ → ℕ → List Entry → ℕ → ℕ → Type 0
+HasLogged lanes max_size entries lane count =
+    (book : State) × IsBookAfter lanes max_size entries book × (count ≡ length (lane_log book.journal lane))
 
 -- the commit of an entry to a lawful board, which has decided on these entries before, in their order
 abbrev pub CommitsAfter : (ℕ → QueueId) → ℕ → ℕ → List Entry → ℕ → Entry → ℕ → Result Done Refusal → Type 0

@@ -6,7 +6,7 @@ ghost use Rattle.up_dispatch.specs.Free.{MayCommit};
 ghost use Rattle.up_dispatch.specs.Lists.{EachAt};
 ghost use Rattle.up_dispatch.specs.Parts.{IsNamed, capacities_of};
 ghost use Rattle.up_dispatch.specs.Keepers.{SeatPlans, SeatCommits};
-ghost use Rattle.up_dispatch.specs.Tied.{CommitsAfter, IsNewBook};
+ghost use Rattle.up_dispatch.specs.Tied.{CommitsAfter, HasLogged, IsNewBook};
 
 use crate::counts::Counts;
 use crate::inside::Inside;
@@ -19,7 +19,7 @@ use std::marker::Send;
 use std::sync::{Condvar, Mutex, Wait};
 use up_events::{Id, MAX_LANES, MAX_UPLOAD_BYTES, NoMemory};
 use up_headers::Request;
-use up_history::Receipt;
+use up_history::{Front, Receipt};
 use up_lanes::Refill;
 use up_log::Entry;
 use up_machine::{Asked, Book, Done, Plan, Refusal};
@@ -249,6 +249,17 @@ impl<B: Naming> Board<B> {
             *waiting = locked.inside.waiting(rt, lane as u64);
         }
         counts
+    }
+
+    /// How many events the log of a lane has, once the board has followed exactly the entries of this front of its
+    /// history. 0 if there is no such lane. `None` if the board has not followed exactly these entries.
+    pub fn logged<R: Wait>(&self, rt: &R, entries: &Front<Entry, B>, lane: u64) -> Option<u64>
+        ensures { IfSome result (HasLogged B.lanes B.max_size entries.now lane) }
+    {
+        let locked = self.locked.lock(rt);
+        let logged = locked.logged(entries, lane);
+        drop(locked);
+        logged
     }
 
     /// Wakes the lane, if it sleeps.

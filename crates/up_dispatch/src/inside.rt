@@ -139,6 +139,13 @@ impl<B: Naming> Inside<B> {
         cursor.position == all && all == taken
     }
 
+    /// How many events the log of a lane has. 0 if there is no such lane.
+    pub fn logged(&self, lane: u64) -> u64
+        ensures { result ≡ length (lane_log self.now.book.journal lane) }
+    {
+        self.book.journal().log_len(lane)
+    }
+
     /// The counts of the book. The events that wait are counted lane by lane, with `waiting`, and are 0 here.
     pub fn counts(&self) -> Counts
         ensures changes { result.changes ≡ length self.now.book.journal.accepted }

@@ -5,7 +5,7 @@ ghost use Rattle.up_headers.specs.Table.{FitsWithin};
 ghost use Rattle.up_machine.specs.declared.refusal.Refusal.TheVariants.{NoMemory};
 ghost use Rattle.up_replay.specs.Replay.{asked_of};
 ghost use Rattle.up_dispatch.specs.Commits.{IsCommitOf};
-ghost use Rattle.up_dispatch.specs.Tied.{IsDecidedAfter, IsNewBook};
+ghost use Rattle.up_dispatch.specs.Tied.{HasLogged, IsDecidedAfter, IsNewBook};
 
 use crate::inside::Inside;
 use crate::naming::Naming;
@@ -16,7 +16,7 @@ use std::sync::Wait;
 use up_commits::{Followed, books_follow};
 use up_events::{Id, MAX_UPLOAD_BYTES};
 use up_headers::Request;
-use up_history::Receipt;
+use up_history::{Front, Receipt};
 use up_log::Entry;
 use up_machine::{Asked, Done, Refusal, Remains};
 use up_replay::asked_of;
@@ -163,6 +163,17 @@ impl<B: Naming> Locked<B> {
         let _ = entry;
         self.followed.end(false);
         Some(())
+    }
+
+    /// How many events the log of a lane has in the book that the entries of a front define. `None` if the book does not
+    /// follow exactly these entries.
+    pub fn logged(&self, entries: &Front<Entry, B>, lane: u64) -> Option<u64>
+        ensures { IfSome result (HasLogged B.lanes B.max_size entries.now lane) }
+    {
+        if !self.is_tied || !self.followed.is_along(entries) {
+            return None;
+        }
+        Some(self.inside.logged(lane))
     }
 
     /// Puts the rest of the lane's log into its queue, until the queue takes no more. Does nothing if there is no such

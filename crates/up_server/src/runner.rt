@@ -18,6 +18,9 @@ const FIRST_PAUSE: u64 = 100;
 /// The longest wait, in milliseconds.
 const MAX_PAUSE: u64 = 10_000;
 
+/// How many milliseconds a lane waits before it is tried again while its post-hook holds events back.
+const HELD_PAUSE: u64 = 5;
+
 /// How many times a lane is tried after the board was closed, with the first pause between two tries.
 const LAST_TRIES: u32 = 3;
 
@@ -230,6 +233,26 @@ impl<'a, B: Naming + Send + Sync, N: LaneNotices> Runner<'a, B, N> {
         end
     }
 
+    /// Runs a lane until it ends, drained or stopped. While its post-hook holds events back, the lane is tried again
+    /// after a short pause, and nobody is told. Once the board is closed it is tried a last time.
+    fn run_held<H: PostHook + Drop, T: Wait>(&self, rt: &T, lane: Lane<H>) -> LaneEnd<H>
+        ensures sound { H.is_sound result.hook }
+        ensures same { (result.lane ≡ lane.lane) × (result.take_end.queue ≡ lane.queue) }
+    {
+        let mut end = lane.run(rt, self.board);
+        for _ in rt.forever() {
+            if end.how.is_drained() || !end.hook.holds_back() {
+                break;
+            }
+            let is_last = self.closes_within(rt, HELD_PAUSE);
+            end = Lane::resume(end).run(rt, self.board);
+            if is_last {
+                break;
+            }
+        }
+        end
+    }
+
     /// Runs a lane until it ends, drained or stopped. If there is someone to tell, a lane that stops is tried again
     /// after a pause, which doubles each time, and goes on when its post-hook has room for an event. After the board
     /// was closed, it is tried three more times.
@@ -237,13 +260,13 @@ impl<'a, B: Naming + Send + Sync, N: LaneNotices> Runner<'a, B, N> {
         ensures sound { H.is_sound result.hook }
         ensures same { (result.lane ≡ lane.lane) × (result.take_end.queue ≡ lane.queue) }
     {
-        let mut end = lane.run(rt, self.board);
+        let mut end = self.run_held(rt, lane);
         let Some(notices) = self.notices else {
             return end;
         };
         let mut tries = LAST_TRIES;
         for _ in rt.forever() {
-            if tries == 0 || end.how.is_drained() {
+            if tries == 0 || end.how.is_drained() || end.hook.holds_back() {
                 break;
             }
             end = self.run_again(rt, notices, end, &mut tries);

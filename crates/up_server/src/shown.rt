@@ -7,7 +7,7 @@ use crate::report::write_events;
 use sqlite_disk::Disk;
 use std::marker::Send;
 use up_events::Event;
-use up_handed::{Continued, Endings, Noting};
+use up_handed::{Continued, Endings, Noting, Permission, Withheld};
 use up_hooks::{Outcome, PostHook, Recorder, Teller};
 use up_wire::{Sink, WriteFailed};
 
@@ -89,6 +89,22 @@ impl<H: Shown, E: Endings> Shown for Noting<H, E> {
     ghost count = { λ n. H.count (noting_hook n) };
 
     ghost text = { λ n. H.text (noting_hook n) };
+
+    fn count_handed(&self) -> u64 {
+        self.hook().count_handed()
+    }
+
+    fn write_text<W: Sink>(&self, sink: &mut W) -> Result<(), WriteFailed> {
+        self.hook().write_text(sink)
+    }
+}
+
+impl<H: Shown, P: Permission> Shown for Withheld<H, P> {
+    ghost use Rattle.up_handed.specs.Withholds.{withheld_hook};
+
+    ghost count = { λ w. H.count (withheld_hook w) };
+
+    ghost text = { λ w. H.text (withheld_hook w) };
 
     fn count_handed(&self) -> u64 {
         self.hook().count_handed()

@@ -3,6 +3,7 @@ ghost use Rattle.std.specs.Prelude.{◌≡◌, IfOk, length};
 
 use sqlite_disk::Disk;
 use std::mem;
+use std::sync::Wait;
 use up_history::Chronicle;
 use up_log::{Log, LogFault};
 use up_tie::{Batch, LogHistory, OnDisk, Site, Written};
@@ -12,6 +13,9 @@ pub trait LogFile<D> {
     /// Opens the file of this generation again, after a call on it failed. `failed` is the file if it is still open; it
     /// is closed first. The error says why it can't be opened.
     fn open_again(&self, generation: u64, failed: Option<D>) -> Result<D, LogFault>;
+
+    /// Whether the file of this generation is still where it was. If that can't be told, it counts as there.
+    fn is_there<R: Wait>(&self, rt: &R, generation: u64) -> bool;
 }
 
 /// Whether a log is open.
@@ -87,6 +91,11 @@ impl<D: Disk, J: Site> Held<D, J> {
             State::Open(written) => Some(written),
             _ => None,
         }
+    }
+
+    /// Whether the log was read to its end.
+    pub(crate) fn is_read(&self) -> bool {
+        !matches!(self.state, State::Unread)
     }
 
     /// Whether a call on it failed, so that the file has to be opened again.

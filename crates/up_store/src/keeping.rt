@@ -1,17 +1,21 @@
 //! Conversations whose changes are written to a log before they are made.
-ghost use Rattle.std.specs.Prelude.{◌≡◌, [], List};
+ghost use Rattle.std.specs.Prelude.{◌≡◌, [], List, IfOk, IsTrue};
 ghost use Rattle.up_log.specs.Logs.{IsReaderAt};
 ghost use Rattle.up_log.specs.declared.entry.Entry.{Entry as Logged};
 ghost use Rattle.up_hooks.specs.MayAnswer.{ClosuresMayAnswer};
 ghost use Rattle.up_dispatch.specs.Answering.{Serves};
 ghost use Rattle.up_dispatch.specs.Exchanges.{KeepsBorrows, stand_in};
 ghost use Rattle.up_dispatch.specs.Turn.{Converses};
+ghost use Rattle.up_dispatch.specs.Lists.{EachAt};
+ghost use Rattle.up_store.specs.Permits.{HasCounted, counted_in};
 ghost use Rattle.up_store.specs.StoredCommits.{by_stored_seat};
 
 use crate::ended::EndedUploads;
 use crate::folder::Folder;
 use crate::held::LogFile;
 use crate::notices::StoreNotices;
+use crate::permit::Permit;
+use crate::restoring::Least;
 use crate::shortening::Shortening;
 use crate::store::{Histories, Store};
 use crate::stored::Stored;
@@ -21,6 +25,7 @@ use std::marker::{Send, Sync};
 use std::sync::atomic::AtomicU64;
 use std::sync::{Mutex, Wait};
 use up_dispatch::{Board, Ended, Exchange, Ids, Naming, Seat, Service, converse};
+use up_handed::Counted;
 use up_history::Chronicle;
 use up_hooks::PreHooks;
 use up_log::LogReader;
@@ -35,13 +40,14 @@ pub struct Keeping<D: Disk, N, F, J: Site, K: Chronicle> {
     readers: Mutex<Option<(Reading<D, J>, LogReader<D>)>>,
     pub(crate) store: Store<D, N, J, K>,
     pub(crate) shortening: Shortening<D, F>,
+    pub(crate) permit: Permit,
     /// 1 once nobody tends the store any more. Who tends it sleeps on this.
     pub(crate) is_over: AtomicU64,
 }
 
 impl<D: Disk, N, F, J: Site, K: Chronicle> Keeping<D, N, F, J, K> {
-    /// Over the log of the changes and that of the voids, of which nothing is read yet, and with what makes it shorter.
-    /// The error is that memory ran out.
+    /// Over the log of the changes and that of the voids, of which nothing is read yet, with what makes it shorter, and
+    /// with what earlier runs counted of the events of each lane. The error is that memory ran out.
     pub fn new(
         alloc: Global,
         changes: LogReader<D>,
@@ -49,6 +55,7 @@ impl<D: Disk, N, F, J: Site, K: Chronicle> Keeping<D, N, F, J, K> {
         histories: Histories,
         notices: N,
         shortening: Shortening<D, F>,
+        counted: Vec<Counted>,
     ) -> Result<Keeping<D, N, F, J, K>, AllocError>
     where
         D: Drop,
@@ -58,6 +65,7 @@ impl<D: Disk, N, F, J: Site, K: Chronicle> Keeping<D, N, F, J, K> {
         requires drawn { histories.drawn ≡ K.history }
         requires reader { J.premise
             → (batches : List (List Logged)) × IsReaderAt D.Disk changes J.setup [] batches }
+        ensures { IfOk result (λ keeping. counted_in keeping.permit ≡ counted.items) }
     {
         let (store, history) = Store::unread(alloc, notices, histories)?;
         let reading = Reading::new(changes, history);
@@ -65,6 +73,7 @@ impl<D: Disk, N, F, J: Site, K: Chronicle> Keeping<D, N, F, J, K> {
             store,
             readers: Mutex::new(Some((reading, voids))),
             shortening,
+            permit: Permit::new(counted),
             is_over: AtomicU64::new(0),
         })
     }
@@ -72,6 +81,14 @@ impl<D: Disk, N, F, J: Site, K: Chronicle> Keeping<D, N, F, J, K> {
     /// The uploads that have ended, which whoever hands events over adds to.
     pub fn ended(&self) -> &EndedUploads {
         &self.shortening.ended
+    }
+
+    /// The permission to hand over events that earlier runs did not hand over. It is given once the logs were read, if
+    /// they have all events that earlier runs counted.
+    pub fn permit(&self) -> &Permit
+        ensures { result.now ≡ self.now.permit }
+    {
+        &self.permit
     }
 }
 
@@ -121,32 +138,41 @@ impl<
 
     ghost commits = { StoredCommits };
 
-    /// Carries out the changes of the log again, and opens the store. If that fails the notices are told why.
+    /// Carries out the changes of the log again, and opens the store. If that fails, or if the logs do not have all
+    /// events that earlier runs counted, the notices are told why.
     fn begin<B: Naming, T: Wait>(
         &self,
         rt: &T,
         alloc: Global,
         board: &Board<B>,
         seat: Seat<B>,
-    ) -> (Seat<B>, bool) {
+    ) -> (Seat<B>, bool)
+        ensures counted { IsTrue result.1 → (entries : List Logged)
+            × EachAt (HasCounted B.lanes B.max_size entries) (counted_in self.now.permit) }
+    {
         let mut seat = seat;
         let Some(readers) = self.readers.lock(rt).take() else {
             return (seat, false);
         };
-        let least = self.shortening.entries(rt);
+        let least = Least {
+            entries: self.shortening.entries(rt),
+            events: self.permit.counted(),
+        };
+        let generation = self.shortening.generation(rt);
         match self
             .store
-            .restore(rt, alloc, board, &mut seat, readers, least)
+            .restore(rt, alloc, board, &mut seat, readers, &least)
         {
             Ok(logs) => {
                 let entries = logs.count;
+                self.permit.give::<B, D, J>(&logs);
+                self.store.set_generation(generation);
                 self.store.open(rt, logs);
-                self.store.set_generation(self.shortening.generation(rt));
                 self.store.notices.is_restored(entries);
                 (seat, true)
             }
             Err(why) => {
-                self.store.notices.is_not_restored(why);
+                self.store.notices.is_not_restored(generation, why);
                 (seat, false)
             }
         }

@@ -1,14 +1,14 @@
 //! Who is told whether changes can be written to the log.
+use crate::unrestored::Unrestored;
 use up_log::LogFault;
-use up_replay::Unrestored;
 
 /// Who is told when changes can't be written and when they can again, and who keeps room on the disk for removals.
 pub trait StoreNotices {
     /// This many entries of the log were carried out again, and conversations begin now.
     fn is_restored(&self, entries: u64);
 
-    /// The changes of the log could not be carried out again, so nothing is served.
-    fn is_not_restored(&self, why: Unrestored);
+    /// The changes of the log of this generation could not be carried out again, so nothing is served.
+    fn is_not_restored(&self, generation: u64, why: Unrestored);
 
     /// A change could not be written, after the one before it could.
     fn fails(&self, fault: LogFault);
@@ -19,6 +19,9 @@ pub trait StoreNotices {
     /// No change is made any more until the server is started again. Either a change was written and not made, and this
     /// could not be written down; or it is not known which of two logs the next start finds.
     fn stops(&self, fault: LogFault);
+
+    /// The file of the log is gone, so no change is made any more until the server is started again.
+    fn is_gone(&self);
 
     /// A shorter log replaced the log. The sizes of both are in bytes.
     fn is_shorter(&self, before: u64, now: u64);

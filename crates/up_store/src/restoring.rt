@@ -1,23 +1,27 @@
 //! Carrying out the entries of a log again, on a board.
-ghost use Rattle.std.specs.Prelude.{◌≡◌, ◌≢◌, ◌++◌, OnOk, List, Result, Err, Some, true, false};
+ghost use Rattle.std.specs.Prelude.{◌≡◌, ◌≢◌, ◌≤◌, ◌++◌, OnOk, IfOk, List, Result, Err, Some, true, false, length};
+ghost use Rattle.up_dispatch.specs.Lists.{EachAt};
 ghost use Rattle.up_dispatch.specs.Tied.{CommitsAfter};
 ghost use Rattle.up_log.specs.declared.entry.Entry.{Entry as Logged};
 ghost use Rattle.up_machine.specs.declared.plan.Done.{Done as Carried};
 ghost use Rattle.up_machine.specs.declared.refusal.Refusal.{Refusal as Refused};
 ghost use Rattle.up_machine.specs.declared.refusal.Refusal.TheVariants.{NoMemory};
+ghost use Rattle.up_store.specs.Permits.{HasCounted};
 
 use crate::store::Store;
+use crate::unrestored::Unrestored;
 use crate::voids::Voids;
 use sqlite_disk::Disk;
 use std::alloc::Global;
 use std::collections::BTreeSet;
 use std::sync::Wait;
 use up_dispatch::{Board, Naming, Seat};
+use up_handed::Counted;
 use up_history::{Chronicle, Front, Receipt};
-use up_log::{Entry, LogFault, LogReader};
+use up_log::{Entry, LogReader};
 use up_machine::Refusal;
 use up_message::Sequence;
-use up_replay::{Unreplayed, Unrestored, fits};
+use up_replay::{Unreplayed, fits};
 use up_tie::{Reading, Site, Written};
 
 /// The open logs of a store.
@@ -27,6 +31,15 @@ pub struct Logs<D: Disk, J: Site> {
     pub voids: Voids<D>,
     /// How many entries the log of the changes has.
     pub count: u64,
+}
+
+/// What the logs of a store have at least, if its files belong together.
+#[derive(Clone, Copy)]
+pub struct Least<'a> {
+    /// How many entries the log of the changes has.
+    pub entries: u64,
+    /// How many events of each lane earlier runs counted.
+    pub events: &'a [Counted],
 }
 
 /// Carries out the entry of a receipt again, or passes over it if it is void. If it is refused, it was refused before,
@@ -96,11 +109,12 @@ fn restore_on<B: Naming, D: Disk, J: Site, R: Wait>(
 where
     D: Drop,
     requires same { J.history ≡ B.history }
+    ensures count { IfOk result (λ logs. logs.count ≡ length logs.changes.entries) }
 {
-    let (voids, places) = Voids::read(alloc, voids)?;
+    let (voids, places) = Voids::read(alloc, voids).map_err(Unrestored::Voids)?;
     let mut reading = changes;
     for _ in 0..u64::MAX {
-        let (next, batch) = reading.next_batch(alloc)?;
+        let (next, batch) = reading.next_batch(alloc).map_err(Unrestored::Changes)?;
         reading = next;
         let Some(entries) = batch else {
             break;
@@ -108,7 +122,7 @@ where
         let front = reading.front().known_as();
         take_in_all(rt, alloc, board, seat, entries, &places, &front)?;
     }
-    let changes = reading.finish()?;
+    let changes = reading.finish().map_err(Unrestored::Changes)?;
     let count = changes.len();
     Ok(Logs {
         changes,
@@ -117,11 +131,51 @@ where
     })
 }
 
+/// Checks that the log of a lane has at least as many events as earlier runs counted, on a board that has followed
+/// exactly these entries. The error says how many it has.
+fn check_lane<B: Naming, R: Wait>(
+    rt: &R,
+    board: &Board<B>,
+    entries: &Front<Entry, B>,
+    lane: u64,
+    counted: &Counted,
+) -> Result<(), Unrestored>
+    ensures { OnOk result (HasCounted B.lanes B.max_size entries.now lane counted.now) }
+{
+    let Some(logged) = board.logged(rt, entries, lane) else {
+        return Err(Unrestored::Entry(Unreplayed::Memory));
+    };
+    let logged = counted.left_out.saturating_add(logged);
+    if logged < counted.count {
+        return Err(Unrestored::Lane {
+            lane,
+            counted: counted.count,
+            logged,
+        });
+    }
+    Ok(())
+}
+
+/// Checks this for each lane.
+fn check_lanes<B: Naming, R: Wait>(
+    rt: &R,
+    board: &Board<B>,
+    entries: &Front<Entry, B>,
+    counted: &[Counted],
+) -> Result<(), Unrestored>
+    ensures { OnOk result (EachAt (HasCounted B.lanes B.max_size entries.now) counted.now) }
+{
+    for lane in 0..counted.len() {
+        check_lane(rt, board, entries, lane as u64, &counted[lane])?;
+    }
+    Ok(())
+}
+
 impl<D: Disk, N, J: Site, K: Chronicle> Store<D, N, J, K> {
     /// Reads the log of the changes and that of the voids to their ends, and carries out the changes again in their
     /// order, from this seat of a new board. Its book is then the one that the changes define. At most one batch is in
-    /// memory at a time. The error says why a log can't be read, or why an entry can't be carried out. `Damaged` if the
-    /// log has fewer entries than `least`.
+    /// memory at a time. The error says why a log can't be read, or why an entry can't be carried out; or it is `Fewer`
+    /// or `Lane` if the logs have less than `least`.
     pub fn restore<B: Naming, R: Wait>(
         &self,
         rt: &R,
@@ -129,17 +183,24 @@ impl<D: Disk, N, J: Site, K: Chronicle> Store<D, N, J, K> {
         board: &Board<B>,
         seat: &mut Seat<B>,
         readers: (Reading<D, J>, LogReader<D>),
-        least: u64,
+        least: &Least<'_>,
     ) -> Result<Logs<D, J>, Unrestored>
     where
         D: Drop,
         requires same { J.history ≡ B.history }
+        ensures least { IfOk result (λ logs. least.now.entries ≤ length logs.changes.entries) }
+        ensures counted { IfOk result (λ logs.
+            EachAt (HasCounted B.lanes B.max_size logs.changes.entries) least.now.events.now) }
     {
         let (changes, voids) = readers;
         let logs = restore_on(rt, alloc, board, seat, changes, voids)?;
-        if logs.count < least {
-            return Err(Unrestored::Log(LogFault::Damaged));
+        if logs.count < least.entries {
+            return Err(Unrestored::Fewer {
+                found: logs.count,
+                least: least.entries,
+            });
         }
+        check_lanes(rt, board, &logs.changes.front().known_as(), least.events)?;
         Ok(logs)
     }
 }

@@ -57,6 +57,8 @@ pub struct Store<D: Disk, N, J: Site, K: Chronicle> {
     generation: AtomicU64,
     /// Whether the last batch could not be written.
     pub(crate) is_failing: AtomicBool,
+    /// Whether the file of the log is gone.
+    pub(crate) is_gone: AtomicBool,
     pub(crate) notices: N,
 }
 
@@ -91,6 +93,7 @@ impl<D: Disk, N, J: Site, K: Chronicle> Store<D, N, J, K> {
             stillness: Condvar::new(),
             generation: AtomicU64::new(0),
             is_failing: AtomicBool::new(false),
+            is_gone: AtomicBool::new(false),
             notices,
         };
         Ok((store, history))

@@ -16,6 +16,24 @@ use up_tie::Site;
 const PAUSE: u64 = 1;
 
 impl<D: Disk + Drop, N: StoreNotices + LogFile<D>, J: Site, K: Chronicle> Store<D, N, J, K> {
+    /// Whether the file of the log is gone, once the log was read. From then on no change is made, which is reported
+    /// once.
+    pub fn is_gone<R: Wait>(&self, rt: &R) -> bool {
+        if self.is_gone.load(Ordering::SeqCst) {
+            return true;
+        }
+        let is_read = self.log.lock(rt).is_read();
+        if !is_read || self.notices.is_there(rt, self.generation()) {
+            return false;
+        }
+        self.is_gone.store(true, Ordering::SeqCst);
+        let mut line = self.line.lock(rt);
+        line.stop();
+        self.go_on(line.first_two());
+        self.notices.is_gone();
+        true
+    }
+
     /// Opens the log again if a call on it failed, and reports that it works again.
     pub fn tend<R: Wait>(&self, rt: &R) {
         let mut held = self.log.lock(rt);
@@ -36,12 +54,15 @@ impl<D: Disk + Drop, N: StoreNotices + LogFile<D>, F: Folder<D>, J: Site, K: Chr
     K,
 > {
     /// Tends the store every second, until `stop_tending` is called: opens its log again if a call on it failed, and
-    /// makes it shorter if that is due.
+    /// makes it shorter if that is due. If the file of the log is gone, no change is made from then on.
     pub fn tend<R: Wait>(&self, rt: &R, alloc: Global) {
         for _ in rt.forever() {
             self.is_over.park_timeout(rt, 0, Duration::from_secs(PAUSE));
             if self.is_over.load(Ordering::SeqCst) != 0 {
                 break;
+            }
+            if self.store.is_gone(rt) {
+                continue;
             }
             self.store.tend(rt);
             self.shortening.shorten(rt, alloc, &self.store);

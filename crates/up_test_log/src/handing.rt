@@ -10,9 +10,10 @@ use sqlite_disk::{Disk, Fuse, Memory};
 use sqlite_std_file::Unknown;
 use std::alloc::Global;
 use std::fs;
+use std::sync::atomic::{AtomicBool, Ordering};
 use std::test::Fail;
 use up_events::{Event, Hook, Id};
-use up_handed::{Continued, Handed, HandedFault, open_handed, restart};
+use up_handed::{Continued, Handed, HandedFault, Permission, Withheld, open_handed, restart};
 use up_hooks::{Outcome, PostHook, Recorder};
 
 /// The count in this file.
@@ -227,5 +228,48 @@ fn a_count_outlives_its_run(rt: HostRuntime) -> Result<(), Fail> {
     }
     expect_same(&rt, &fs::read(&rt, path)?.len(), &3);
     fs::remove_dir_all(&rt, "up_log_tests_handed")?;
+    Ok(())
+}
+
+/// Whether events may be handed over.
+struct Flag<'a>(&'a AtomicBool);
+
+impl Permission for Flag<'_> {
+    ghost given = { λ _. Unit {0} };
+
+    fn is_given(&self) -> bool {
+        self.0.load(Ordering::SeqCst)
+    }
+}
+
+/// What a post-hook that may not hand over events yet is handed of five events, of which earlier runs handed over
+/// three, and whether it says that it holds events back. Then the same once it may.
+fn held<F: Fn(&Event) -> Outcome + Send + Copy>(
+    alloc: Global,
+    answer: F,
+) -> Result<[((u64, usize), bool, u64); 2], HandedFault>
+    requires callable { F.IsAlwaysCallable answer }
+    requires codes { AnswersWithCodes F.Fn answer }
+{
+    let is_given = AtomicBool::new(false);
+    let handed = opened(left(alloc, answer, 3)?)?;
+    let recorder = Recorder::new(alloc, answer);
+    let mut run = Continued::new(Withheld::new(recorder, Flag(&is_given)), handed);
+    hand_over(&mut run, 5);
+    let before = (told(run.hook().hook()), run.holds_back(), run.count());
+    is_given.store(true, Ordering::SeqCst);
+    for number in [4, 5] {
+        if has_room(&mut run) {
+            run.hand(&event_of(number));
+        }
+    }
+    let after = (told(run.hook().hook()), run.holds_back(), run.count());
+    Ok([before, after])
+}
+
+#[test]
+fn events_are_held_back_until_they_may_be_handed_over(rt: HostRuntime) -> Result<(), Fail> {
+    let found = held(rt.alloc(), |_: &Event| Outcome::Done)?;
+    expect_same(&rt, &found, &[((0, 0), true, 3), ((4, 2), false, 5)]);
     Ok(())
 }

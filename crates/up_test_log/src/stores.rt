@@ -1,7 +1,9 @@
 //! Stores with disks in memory.
 mod closing;
+mod counts;
 mod disks;
 mod failing;
+mod gone;
 mod refusing;
 mod running;
 mod shorter;

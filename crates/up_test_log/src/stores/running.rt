@@ -22,8 +22,8 @@ use up_history::Chronicle;
 use up_hooks::PreHooks;
 use up_log::{LogFault, LogReader};
 use up_machine::{Asked, Done, Refusal};
-use up_replay::{Unrestored, asked_of, fits};
-use up_store::{Histories, Store, Stored};
+use up_replay::{asked_of, fits};
+use up_store::{Histories, Least, Store, Stored, Unrestored};
 use up_test_server::append;
 use up_tie::{Reading, Site};
 use up_wire::{Output, write_response};
@@ -184,6 +184,12 @@ where
     Ok((store, (Reading::new(changes, front), voids)))
 }
 
+/// A log may have any number of entries and events.
+pub const NOTHING: Least<'static> = Least {
+    entries: 0,
+    events: &[],
+};
+
 /// A store on these disks, whose changes are made again on a board.
 pub fn store_on<'a, B: Naming, D: Disk, J: Site, K: Chronicle, R: Wait>(
     rt: &R,
@@ -201,8 +207,9 @@ where
     requires nothing { J.premise → ⊥ }
     requires same { J.history ≡ B.history }
 {
-    let (store, readers) = unread_on(alloc, disks, tally, histories)?;
-    let logs = store.restore(rt, alloc, board, seat, readers, 0)?;
+    let (store, readers) =
+        unread_on(alloc, disks, tally, histories).map_err(Unrestored::Changes)?;
+    let logs = store.restore(rt, alloc, board, seat, readers, &NOTHING)?;
     store.open(rt, logs);
     Ok(store)
 }

@@ -1,10 +1,10 @@
 //! What a store reports, and disks whose files can be opened again.
 use crate::full_once::FullOnce;
 use sqlite_disk::{Disk, Fuse, Memory};
-use std::sync::atomic::{AtomicU64, Ordering};
+use std::sync::Wait;
+use std::sync::atomic::{AtomicBool, AtomicU64, Ordering};
 use up_log::LogFault;
-use up_replay::Unrestored;
-use up_store::{LogFile, StoreNotices};
+use up_store::{LogFile, StoreNotices, Unrestored};
 
 /// How often the store reported that changes cannot be written, that they can be again, and that none is made any more;
 /// and that a log was made shorter, and that it could not be.
@@ -15,6 +15,9 @@ pub struct Tally {
     stops: AtomicU64,
     shorter: AtomicU64,
     not_shorter: AtomicU64,
+    gone: AtomicU64,
+    /// Whether the file of the log is away.
+    is_away: AtomicBool,
 }
 
 impl Tally {
@@ -25,7 +28,19 @@ impl Tally {
             stops: AtomicU64::new(0),
             shorter: AtomicU64::new(0),
             not_shorter: AtomicU64::new(0),
+            gone: AtomicU64::new(0),
+            is_away: AtomicBool::new(false),
         }
+    }
+
+    /// Takes the file of the log away.
+    pub fn take_away(&self) {
+        self.is_away.store(true, Ordering::SeqCst);
+    }
+
+    /// How often the store reported that its file is gone.
+    pub fn gone(&self) -> u64 {
+        self.gone.load(Ordering::SeqCst)
     }
 
     /// How often a log was made shorter, and how often it could not be.
@@ -56,10 +71,14 @@ impl StoreNotices for &Tally {
 
     fn is_restored(&self, _entries: u64) {}
 
-    fn is_not_restored(&self, _why: Unrestored) {}
+    fn is_not_restored(&self, _generation: u64, _why: Unrestored) {}
 
     fn stops(&self, _fault: LogFault) {
         self.stops.fetch_add(1, Ordering::SeqCst);
+    }
+
+    fn is_gone(&self) {
+        self.gone.fetch_add(1, Ordering::SeqCst);
     }
 
     fn is_shorter(&self, _before: u64, _now: u64) {
@@ -105,5 +124,9 @@ impl<D: Again> LogFile<D> for &Tally {
             Some(disk) => Ok(disk.again()),
             None => Err(LogFault::Busy),
         }
+    }
+
+    fn is_there<R: Wait>(&self, _rt: &R, _generation: u64) -> bool {
+        !self.is_away.load(Ordering::SeqCst)
     }
 }

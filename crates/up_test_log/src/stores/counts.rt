@@ -1,0 +1,208 @@
+//! Stores whose log has fewer events than earlier runs counted.
+ghost use Rattle.std.specs.Prelude.{◌≡◌, length};
+ghost use Rattle.up_dispatch.specs.Parts.{IsNamed};
+
+use super::disks::{file_of, reader_of};
+use super::running::board_of;
+use super::tally::Tally;
+use crate::logs::{Row, What, disk_of};
+use crate::same::expect_same;
+use sqlite_disk::Memory;
+use std::alloc::Global;
+use std::marker::Brand;
+use std::sync::Wait;
+use std::test::Fail;
+use up_compact::Heads;
+use up_dispatch::{BoardParts, Naming, Service};
+use up_handed::{Counted, Permission};
+use up_history::Chronicle;
+use up_log::{LogFault, LogReader};
+use up_store::{
+    Current, EndedUploads, Folder, Histories, Keeping, Least, Shortening, Store, Unrestored,
+};
+use up_tie::{Reading, Site};
+
+/// Three entries in two batches. Of the two lanes the first has one event, and the second has three.
+const FIRST: [Row; 2] = [(What::Make, 1, 4), (What::Put, 1, 4)];
+
+const SECOND: [Row; 1] = [(What::Make, 2, 4)];
+
+/// No shorter log is made.
+#[derive(Drop)]
+struct NoFolder;
+
+impl Folder<Memory> for NoFolder {
+    fn make(&self, _generation: u64) -> Result<(LogReader<Memory>, LogReader<Memory>), LogFault> {
+        Err(LogFault::Busy)
+    }
+
+    fn remove(&self, _generation: u64) {}
+}
+
+/// What earlier runs counted of a lane, with the events that a shorter log leaves out.
+fn counted(count: u64, left_out: u64) -> Counted {
+    Counted { count, left_out }
+}
+
+/// The files of the changes and of the voids.
+fn files(alloc: Global) -> Result<(Memory, Memory), LogFault> {
+    Ok((file_of(alloc, &[&FIRST, &SECOND])?, Memory::new(alloc)))
+}
+
+/// How many entries are carried out again from these files, or why they are not.
+fn restored_by<B: Naming, J: Site, K: Chronicle, R: Wait>(
+    rt: &R,
+    alloc: Global,
+    parts: BoardParts,
+    files: (Memory, Memory),
+    least: &Least<'_>,
+    histories: Histories,
+) -> Result<Result<u64, Unrestored>, Fail>
+    requires named { IsNamed B.name B.parts B.queue B.lanes parts }
+    requires lanes { length parts.queues ≡ 2 }
+    requires sized { B.max_size ≡ 1000 }
+    requires written { histories.written ≡ J.history }
+    requires drawn { histories.drawn ≡ K.history }
+    requires nothing { J.premise → ⊥ }
+    requires same { J.history ≡ B.history }
+{
+    let (board, mut seat) = board_of::<B, R>(rt, alloc, parts)?;
+    let tally = Tally::new();
+    let readers = (reader_of(alloc, files.0)?, reader_of(alloc, files.1)?);
+    let (store, history): (Store<Memory, &Tally, J, K>, _) =
+        Store::unread(alloc, &tally, histories)?;
+    let readers = (Reading::new(readers.0, history), readers.1);
+    match store.restore(rt, alloc, &board, &mut seat, readers, least) {
+        Ok(logs) => Ok(Ok(logs.count)),
+        Err(why) => Ok(Err(why)),
+    }
+}
+
+/// The same, on a new board of two lanes.
+fn restored<R: Wait>(
+    rt: &R,
+    alloc: Global,
+    files: (Memory, Memory),
+    least: &Least<'_>,
+) -> Result<Result<u64, Unrestored>, Fail> {
+    let parts = BoardParts::new(alloc, 2, 4)?;
+    restored_by::<Brand, Brand, Brand, R>(rt, alloc, parts, files, least, Histories::new())
+}
+
+#[test]
+fn a_log_has_what_was_counted(rt: HostRuntime) -> Result<(), Fail> {
+    let alloc = rt.alloc();
+    // What a head counts, what was counted of each lane, and why the log is refused.
+    for (entries, counts, want) in [
+        (0, [(0, 0), (0, 0)], ""),
+        (3, [(1, 0), (3, 0)], ""),
+        (3, [(0, 0), (10, 7)], ""),
+        (3, [(0, 0), (u64::MAX, u64::MAX)], ""),
+        (
+            4,
+            [(0, 0), (0, 0)],
+            "the log has 3 entries, and heads counts 4",
+        ),
+        (
+            0,
+            [(2, 0), (3, 0)],
+            "handed.0 counts 2 events, and the log has 1 of lane 0",
+        ),
+        (
+            0,
+            [(1, 0), (30, 0)],
+            "handed.1 counts 30 events, and the log has 3 of lane 1",
+        ),
+        (
+            0,
+            [(1, 0), (11, 7)],
+            "handed.1 counts 11 events, and the log has 10 of lane 1",
+        ),
+    ] {
+        let events = [
+            counted(counts[0].0, counts[0].1),
+            counted(counts[1].0, counts[1].1),
+        ];
+        let least = Least {
+            entries,
+            events: &events,
+        };
+        let found = match restored(&rt, alloc, files(alloc)?, &least)? {
+            Ok(_) => String::new(alloc),
+            Err(why) => format!(in alloc; "{why}")?,
+        };
+        expect_same(&rt, &(entries, counts, found.as_str()), &(entries, counts, want));
+    }
+    Ok(())
+}
+
+#[test]
+fn the_reason_says_which_log_is_damaged(rt: HostRuntime) -> Result<(), Fail> {
+    let alloc = rt.alloc();
+    let least = Least {
+        entries: 0,
+        events: &[],
+    };
+    let (changes, voids) = files(alloc)?;
+    // The gate of the first batch is open, and no batch of this length follows.
+    let mut bytes = Vec::from_slice(alloc, changes.bytes())?;
+    bytes.truncate(60);
+    let found = restored(&rt, alloc, (disk_of(alloc, &bytes)?, voids), &least)?;
+    assert!(&rt; matches!(found, Err(Unrestored::Changes(_))));
+    let (changes, _) = files(alloc)?;
+    let found = restored(&rt, alloc, (changes, disk_of(alloc, &bytes)?), &least)?;
+    assert!(&rt; matches!(found, Err(Unrestored::Voids(_))));
+    Ok(())
+}
+
+/// Whether conversations may begin over a store of which so many events were counted, and whether events may then be
+/// handed over. They may not before.
+fn begun_by<B: Naming, J: Site, K: Chronicle, R: Wait>(
+    rt: &R,
+    alloc: Global,
+    parts: BoardParts,
+    counts: Vec<Counted>,
+    histories: Histories,
+) -> Result<(bool, bool, bool), Fail>
+    requires named { IsNamed B.name B.parts B.queue B.lanes parts }
+    requires lanes { length parts.queues ≡ 2 }
+    requires sized { B.max_size ≡ 1000 }
+    requires written { histories.written ≡ J.history }
+    requires drawn { histories.drawn ≡ K.history }
+    requires nothing { J.premise → ⊥ }
+    requires same { J.history ≡ B.history }
+{
+    let (board, seat) = board_of::<B, R>(rt, alloc, parts)?;
+    let tally = Tally::new();
+    let (changes, voids) = files(alloc)?;
+    let (heads, head) = Heads::read(alloc, reader_of(alloc, Memory::new(alloc))?)?;
+    let current = Current { heads, head };
+    let keeping: Keeping<Memory, &Tally, NoFolder, J, K> = Keeping::new(
+        alloc,
+        reader_of(alloc, changes)?,
+        reader_of(alloc, voids)?,
+        histories,
+        &tally,
+        Shortening::new(current, EndedUploads::new(alloc), NoFolder, 2, 0),
+        counts,
+    )?;
+    let before = keeping.permit().is_given();
+    let (_seat, is_ready) = keeping.begin(rt, alloc, &board, seat);
+    Ok((before, is_ready, keeping.permit().is_given()))
+}
+
+#[test]
+fn events_are_handed_over_if_the_log_has_what_was_counted(rt: HostRuntime) -> Result<(), Fail> {
+    let alloc = rt.alloc();
+    for (count, fits) in [(2, true), (3, true), (4, false)] {
+        let mut counts = Vec::new(alloc);
+        counts.push(counted(1, 0))?;
+        counts.push(counted(count, 0))?;
+        let parts = BoardParts::new(alloc, 2, 4)?;
+        let histories = Histories::new();
+        let found =
+            begun_by::<Brand, Brand, Brand, _>(&rt, alloc, parts, counts, histories)?;
+        expect_same(&rt, &(count, found), &(count, (false, fits, fits)));
+    }
+    Ok(())
+}
