@@ -50,13 +50,7 @@ fn watch_of(words: &Words) -> Option<Watch> {
 fn ending_of(alloc: Global, words: &Words) -> Result<Option<Ending>, AllocError> {
     match &words.serve {
         Some(serving) if serving.until_eof => {
-            let ending = Ending::new(
-                alloc,
-                STDIN,
-                serving.grace,
-                serving.patience,
-                serving.open,
-            )?;
+            let ending = Ending::new(alloc, STDIN, serving.grace, serving.patience, serving.open)?;
             Ok(Some(ending))
         }
         _ => Ok(None),

@@ -28,10 +28,7 @@ static LINES: &str = "000000000000000000000000000000ff 1 post-create 0/- done\n\
 const ONE_LINE: [Outcome; 3] = [Outcome::Done, Outcome::Failed(1), Outcome::Failed(1)];
 
 /// Tells the three events, and returns the outcomes.
-fn tell_three(
-    rt: &(impl Eprint + Wait),
-    lines: &EventLines<FullWriter<'_>>,
-) -> [Outcome; 3] {
+fn tell_three(rt: &(impl Eprint + Wait), lines: &EventLines<FullWriter<'_>>) -> [Outcome; 3] {
     [
         lines.tell(rt, &event(1, Hook::Create, 0, None)),
         lines.tell(rt, &event(2, Hook::Receive, 11, Some(11))),
