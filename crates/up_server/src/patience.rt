@@ -131,7 +131,8 @@ impl Rate {
 
     /// This many bytes have moved.
     fn note(&self, count: usize) {
-        self.moved.set(self.moved.get().saturating_add(count as u64));
+        self.moved
+            .set(self.moved.get().saturating_add(count as u64));
     }
 
     /// It has ended.
@@ -144,7 +145,11 @@ impl Rate {
     fn is_below(&self, least: u64) -> bool {
         match self.since.get() {
             Some(since) => {
-                is_too_slow(self.moved.get(), milliseconds().saturating_sub(since), least)
+                is_too_slow(
+                    self.moved.get(),
+                    milliseconds().saturating_sub(since),
+                    least,
+                )
             }
             None => false,
         }
