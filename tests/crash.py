@@ -57,9 +57,12 @@ BODY = 100_000
 # How often a server is killed once its log may be made shorter.
 KILLS = 5
 
-# The files of which a sync fails once, and how many of the first syncs of a thread do. A thread makes fewer syncs of
-# some files than of others.
-SYNCED = {"heads": 4, "log": 10, "log.1": 10, "void.1": 6, "handed": 10}
+# The files of which a sync fails once, whether only after a switch to a shorter log, and how many of the first syncs of a
+# thread do. A thread makes fewer syncs of some files than of others.
+SYNCED = [
+    ("heads", False, 4), ("log", False, 10), ("log.1", False, 6), ("void.1", False, 6), ("handed", False, 10),
+    ("log.1", True, 10),
+]
 
 # The seconds for which a shorter log is held up when it is opened, and how many large uploads are made meanwhile.
 HELD_UP, MEANWHILE = 1, 20
@@ -749,7 +752,7 @@ def until_shorter(store):
     end = time.monotonic() + 3
     while store.logs() != ["log.1"] and time.monotonic() < end:
         time.sleep(0.05)
-    time.sleep(random.uniform(0.3, 0.8))
+    time.sleep(random.uniform(0.5, 1.2))
 
 
 def work_while_failing(store, clients, server, name):
@@ -783,12 +786,16 @@ def work_while_failing(store, clients, server, name):
     return goes_on[0]
 
 
-def fail_sync(name, number):
-    """Has a sync of a file fail, and checks what is there afterwards. Returns whether it failed, and whether the server
-    made changes at the end."""
+def fail_sync(name, is_after, number):
+    """Has a sync of a file fail, only after the log was made shorter if `is_after` is set, and checks what is there after
+    a restart. Returns whether it failed, and whether the server made changes at the end."""
     name = f"handed.{random.randrange(LANES)}" if name == "handed" else name
     with heaped(program).copied() as (store, clients, told), tempfile.NamedTemporaryFile() as changes:
         with store.plain() as server:
+            if is_after:
+                with Lone(server, clients[0]) as client:
+                    remove_heap(client)
+                soon(lambda: store.logs() == ["log.1"], "the log is made shorter")
             with failing_once(server, store, name, number, changes.name):
                 goes_on = work_while_failing(store, clients, server, name)
             lines = server.process.stderr.read().decode().splitlines()
@@ -805,14 +812,14 @@ def by_failed_sync():
     """Whichever sync of a file fails, before and after a switch to a shorter log, what was acknowledged is there after
     a restart. Until then the server makes changes again, or says that it makes none."""
     tries, results = [], []
-    for name, most in SYNCED.items():
-        tries += [(name, number) for number in random.sample(range(1, most + 1), min(rounds, most))]
+    for name, is_after, most in SYNCED:
+        tries += [(name, is_after, number) for number in random.sample(range(1, most + 1), min(rounds, most))]
     heaped(program)
 
     def try_some(start):
-        for name, number in tries[start::AT_ONCE]:
+        for name, is_after, number in tries[start::AT_ONCE]:
             try:
-                results.append(fail_sync(name, number))
+                results.append(fail_sync(name, is_after, number))
             except AssertionError as fault:
                 raise AssertionError(f"sync {number} of {name}: {fault}") from fault
 
