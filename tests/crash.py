@@ -521,7 +521,8 @@ def older_log():
     gates, counts = gates_of(log), counts_of(states[-1])
     lines = set()
     for number, gate in enumerate(gates[:-1]):
-        for left in (log[:gate], log[: gate + 1], log[:gate] + b"\0" + log[gate + 1 :]):
+        # A cut, an older copy, and a gate that a changed byte closes.
+        for left in (log[:gate], log[:gate] + b"\0", log[:gate] + b"\0" + log[gate + 1 :]):
             with small(program).copied() as (store, *_):
                 put(store, "log", left)
                 there = counts_of(states[number])
