@@ -515,22 +515,42 @@ def cut_shorter_log():
     return repr(line)
 
 
+def fewer_of(counts, logged):
+    """The line that says which is the first lane whose log has fewer events than its count."""
+    lane = next(lane for lane in range(LANES) if counts[lane] > logged[lane])
+    fewer = f"handed.{lane} counts {counts[lane]} events, and the log has {logged[lane]} of lane {lane}"
+    return f"up_server: cannot read the store: {fewer}"
+
+
 def older_log():
     """A log with fewer events of a lane than its count isn't served, no event is handed over, and all is left."""
     log, states = small(program).store.files()["log"], small(program).states
-    gates, counts = gates_of(log), counts_of(states[-1])
     lines = set()
-    for number, gate in enumerate(gates[:-1]):
+    for number, gate in enumerate(gates_of(log)[:-1]):
+        wanted = fewer_of(counts_of(states[-1]), counts_of(states[number]))
         # A cut, an older copy, and a gate that a changed byte closes.
         for left in (log[:gate], log[:gate] + b"\0", log[:gate] + b"\0" + log[gate + 1 :]):
             with small(program).copied() as (store, *_):
                 put(store, "log", left)
-                there = counts_of(states[number])
-                lane = next(lane for lane in range(LANES) if counts[lane] > there[lane])
-                wanted = f"handed.{lane} counts {counts[lane]} events, and the log has {there[lane]} of lane {lane}"
-                same(store.unread(), f"up_server: cannot read the store: {wanted}", "why nothing is served")
-                lines.add(wanted)
+                same(store.unread(), wanted, "why nothing is served")
+        lines.add(wanted)
     return f"{len(lines)} lines, such as {max(lines)!r}"
+
+
+def older_shorter_log():
+    """An older copy of a shorter log isn't served either. The events that it leaves out count as those that it has."""
+    with switched(program).copied() as (store, clients, told):
+        log = store.files()["log.1"]
+        before = told.counts()
+        with store.plain() as server:
+            with Lone(server, clients[0]) as client:
+                list(small_changes(client))
+            server.end()
+            told.add(ended(server), is_killed=False)
+        put(store, "log.1", log)
+        line = store.unread()
+        same(line, fewer_of(told.counts(), before), "why nothing is served")
+    return repr(line)
 
 
 def damaged_log():
@@ -902,7 +922,8 @@ program, rounds = os.path.abspath(given.program or build()), given.rounds
 
 CASES = [
     by_kill, by_end, cut_log, torn_log, shorter_log, second_server, other_lanes, other_size, no_log, no_folder,
-    files_made, no_store, full_file, full_of_many, lost_files, cut_shorter_log, older_log, damaged_log, lost_folder,
+    files_made, no_store, full_file, full_of_many, lost_files, cut_shorter_log, older_log,
+    older_shorter_log, damaged_log, lost_folder,
 ]
 passed_over = []
 if may_mount():
