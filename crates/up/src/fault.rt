@@ -9,9 +9,9 @@ use up_server::ServerFault;
 use up_words::WordsFault;
 
 /// Why a file or the folder of a store can't be opened.
-#[derive(Clone, Copy, Debug, Error)]
+#[derive(Debug, Drop, Error)]
 pub enum Unopened {
-    /// The folder can't be made.
+    /// The folder can't be made or listed.
     #[error("{0}")]
     Folder(io::Error),
     /// A log can't be opened.
@@ -23,6 +23,9 @@ pub enum Unopened {
     /// The log leaves out more events of the lane than its count has.
     #[error("the count is less than the log leaves out")]
     Fewer,
+    /// The file of this name was made after it.
+    #[error("the file is missing or empty, but {beside:?} is there")]
+    Missing { beside: String },
 }
 
 /// Why the program failed.

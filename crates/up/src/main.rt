@@ -11,6 +11,7 @@ mod running;
 mod store_files;
 mod store_folder;
 mod store_lines;
+mod store_missing;
 mod streams;
 
 use crate::fault::Fault;

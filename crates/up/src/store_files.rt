@@ -2,13 +2,13 @@
 ghost use Rattle.std.specs.Prelude.{◌≡◌, IfOk, vec_len};
 
 use crate::fault::{Fault, Unopened};
-use crate::room::keep_room;
 use crate::store_folder::{StoreFile, StoreFolder};
+use crate::store_missing::refuse_without;
 use sqlite_std_file::Wary;
 use up_compact::Heads;
 use up_handed::{Opened, open_handed};
 use up_log::{LogReader, Setup};
-use up_store::{Current, Folder};
+use up_store::Current;
 use up_words::{Settings, Words};
 
 /// The files of a store. They are open, so that no other server opens them.
@@ -46,8 +46,9 @@ fn open_log(
     }
 }
 
-/// Opens the log that says which logs are the current ones.
+/// Opens the log that says which logs are the current ones. A start makes it before all other files.
 fn open_current(folder: &StoreFolder<'_>) -> Result<Current<StoreFile>, Fault> {
+    refuse_without(folder, folder.path_of("heads")?)?;
     let reader = open_log(folder, "heads", 0)?;
     match Heads::read(folder.rt.alloc(), reader) {
         Ok((heads, head)) => Ok(Current { heads, head }),
@@ -55,17 +56,6 @@ fn open_current(folder: &StoreFolder<'_>) -> Result<Current<StoreFile>, Fault> {
             path: folder.path_of("heads")?,
             reason: Unopened::Log(fault),
         }),
-    }
-}
-
-/// Removes what a switch to a shorter log has left: the logs of the generation before this one, or those of the next
-/// one, which were not ready.
-fn tidy_up(folder: &StoreFolder<'_>, generation: u64) {
-    if let Some(next) = generation.checked_add(1) {
-        folder.remove(next);
-    }
-    if generation > 0 {
-        folder.remove(generation - 1);
     }
 }
 
@@ -111,11 +101,11 @@ struct Logs {
     voids: LogReader<StoreFile>,
 }
 
-/// Opens the logs in this folder, and removes those that a switch to shorter ones has left.
+/// Opens the logs in this folder. A log that a switch to a shorter one has left may be there too.
 fn open_logs(folder: &StoreFolder<'_>) -> Result<Logs, Fault> {
     let current = open_current(folder)?;
     let generation = current.head.generation;
-    tidy_up(folder, generation);
+    refuse_without(folder, folder.path_in("log", generation)?)?;
     let changes = open_log(folder, "log", generation)?;
     let voids = open_log(folder, "void", generation)?;
     Ok(Logs {
@@ -137,7 +127,6 @@ fn open_store<'a>(folder: StoreFolder<'a>, settings: Settings) -> Result<StoreFi
     let logs = open_logs(&folder)?;
     let left_out = logs.current.head.left_out.as_slice();
     let counts = open_counts(&folder, settings.lanes, left_out)?;
-    keep_room(folder.rt, spare.as_str());
     let Logs {
         current,
         changes,

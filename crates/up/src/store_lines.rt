@@ -1,4 +1,6 @@
 //! What is printed about a store.
+ghost use Rattle.std.specs.Prelude.{⊤};
+
 use crate::room::{give_up_room, keep_room};
 use crate::store_folder::StoreFile;
 use sqlite_std_file::Wary;
@@ -99,6 +101,7 @@ impl<'a> StoreLines<'a> {
 
 impl StoreNotices for &StoreLines<'_> {
     fn is_restored(&self, entries: u64) {
+        keep_room(self.rt, self.spare.as_str());
         let _ = eprintln!(self.rt; "up_server: the store was read: {entries} changes");
     }
 
@@ -143,6 +146,9 @@ impl StoreNotices for &StoreLines<'_> {
 }
 
 impl LogFile<StoreFile> for &StoreLines<'_> {
+    // No contract says which path a file was opened at.
+    ghost is_file = { λ _ _. ⊤ };
+
     fn open_again(
         &self,
         generation: u64,

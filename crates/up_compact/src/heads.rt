@@ -64,6 +64,14 @@ impl<D: Disk> Heads<D> {
         self.log.append(&mut Vec::new(alloc), &batch)
     }
 
+    /// Whether a call failed in such a way that the heads accept no more until their file is opened again. It is not
+    /// known then what a crash leaves of the last one.
+    pub fn is_broken(&self) -> bool
+        ensures { result ≡ self.now.log.is_broken }
+    {
+        self.log.is_broken()
+    }
+
     /// The file. The heads are then used up.
     pub fn into_device(self) -> D
         ensures { result ≡ self.log.device }

@@ -1,5 +1,5 @@
 //! An encoded entry.
-ghost use Rattle.std.specs.Prelude.{◌≡◌, ◌-◌, ◌^◌, ◌++◌, min, length, IfOk};
+ghost use Rattle.std.specs.Prelude.{◌≡◌, ◌-◌, ◌^◌, ◌++◌, [], min, length, IfOk};
 ghost use Rattle.up_log.specs.Spelling.{entry};
 
 use crate::entry::Entry;
@@ -36,7 +36,25 @@ impl Spelled {
     pub fn new(alloc: Global, logged: &Entry) -> Result<Spelled, AllocError>
         ensures { IfOk result (λ spelled. spelled ≡ logged.now) }
     {
-        let mut front = Vec::with_capacity(alloc, room_of(logged))?;
+        Spelled::encoded(Vec::with_capacity(alloc, room_of(logged))?, logged)
+    }
+
+    /// Encodes an entry in the memory of this one, and needs no other if it takes no more. `AllocError` if it takes more
+    /// and memory runs out.
+    pub fn again(self, logged: &Entry) -> Result<Spelled, AllocError>
+        ensures { IfOk result (λ spelled. spelled ≡ logged.now) }
+    {
+        let mut front = self.front;
+        front.clear();
+        Spelled::encoded(front, logged)
+    }
+
+    /// Encodes an entry in this memory.
+    fn encoded(front: Vec<u8>, logged: &Entry) -> Result<Spelled, AllocError>
+        requires { front.items ≡ [] }
+        ensures { IfOk result (λ spelled. spelled ≡ logged.now) }
+    {
+        let mut front = front;
         let back = put_entry(&mut front, logged)?;
         let mut of = Trace::new();
         of.push(logged);

@@ -1,4 +1,5 @@
 -- The definitions that the contracts cite.
+pub mod Failures
 pub mod Lines
 pub mod Permits
 pub mod StoredCommits

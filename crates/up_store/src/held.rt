@@ -1,5 +1,6 @@
 //! The log of the changes, and whether it is open.
-ghost use Rattle.std.specs.Prelude.{◌≡◌, IfOk, length};
+ghost use Rattle.std.specs.Prelude.{◌≡◌, IfOk, OnOk, IsTrue, length};
+ghost use Rattle.up_store.specs.Failures.{is_failed};
 
 use sqlite_disk::Disk;
 use std::mem;
@@ -10,9 +11,15 @@ use up_tie::{Batch, LogHistory, OnDisk, Site, Written};
 
 /// Who opens the file of the changes.
 pub trait LogFile<D> {
+    ghost use Rattle.std.specs.Prelude.{◌≡◌, ℕ, IfOk};
+
+    /// Whether this is the file of this generation.
+    ghost is_file: { ℕ → D → Type 0 };
+
     /// Opens the file of this generation again, after a call on it failed. `failed` is the file if it is still open; it
     /// is closed first. The error says why it can't be opened.
-    fn open_again(&self, generation: u64, failed: Option<D>) -> Result<D, LogFault>;
+    fn open_again(&self, generation: u64, failed: Option<D>) -> Result<D, LogFault>
+        ensures { IfOk result (λ device. is_file generation device) };
 
     /// Whether the file of this generation is still where it was. If that can't be told, it counts as there.
     fn is_there<R: Wait>(&self, rt: &R, generation: u64) -> bool;
@@ -34,6 +41,8 @@ enum State<D: Disk, J: Site> {
 #[derive(Drop)]
 pub(crate) struct Held<D: Disk, J: Site> {
     state: State<D, J>,
+    /// How many times a shorter log replaced the log, which says what its file is.
+    generation: u64,
 }
 
 impl<D: Disk, J: Site> Held<D, J> {
@@ -41,22 +50,27 @@ impl<D: Disk, J: Site> Held<D, J> {
     pub(crate) fn unread() -> Held<D, J> {
         Held {
             state: State::Unread,
+            generation: 0,
         }
     }
 
-    /// Uses this log from now on.
-    pub(crate) fn open(&mut self, written: Written<D, J>)
+    /// Uses this log, which is of this generation, from now on.
+    pub(crate) fn open(&mut self, written: Written<D, J>, generation: u64)
     where
         D: Drop,
+        ensures { self.new.generation ≡ generation }
     {
+        self.generation = generation;
         self.state = State::Open(written);
     }
 
-    /// Uses this log from now on, in place of the log that was used so far.
-    pub(crate) fn switch(&mut self, log: Log<D>)
+    /// Uses this log, which is of this generation, from now on, in place of the log that was used so far.
+    pub(crate) fn switch(&mut self, log: Log<D>, generation: u64)
     where
         D: Drop,
+        ensures { self.new.generation ≡ generation }
     {
+        self.generation = generation;
         let history = match mem::replace(&mut self.state, State::Unread) {
             State::Unread => return,
             State::Open(written) => written.into_parts().1,
@@ -93,13 +107,18 @@ impl<D: Disk, J: Site> Held<D, J> {
         }
     }
 
-    /// Whether the log was read to its end.
-    pub(crate) fn is_read(&self) -> bool {
-        !matches!(self.state, State::Unread)
+    /// The generation of the log, once it was read to its end.
+    pub(crate) fn generation(&self) -> Option<u64> {
+        match &self.state {
+            State::Unread => None,
+            _ => Some(self.generation),
+        }
     }
 
     /// Whether a call on it failed, so that the file has to be opened again.
-    pub(crate) fn is_failed(&self) -> bool {
+    pub(crate) fn is_failed(&self) -> bool
+        ensures { result ≡ is_failed self.now.state }
+    {
         match &self.state {
             State::Unread => false,
             State::Open(written) => written.is_broken(),
@@ -107,14 +126,14 @@ impl<D: Disk, J: Site> Held<D, J> {
         }
     }
 
-    /// Opens the file again if a call on it failed. The error says why it can't be opened.
-    pub(crate) fn open_again<F: LogFile<D>>(
-        &mut self,
-        file: &F,
-        generation: u64,
-    ) -> Result<(), LogFault>
+    /// Opens the file again if a call on it failed: that of the generation with which the log was opened or switched.
+    /// The error says why it can't be opened.
+    pub(crate) fn open_again<F: LogFile<D>>(&mut self, file: &F) -> Result<(), LogFault>
     where
         D: Drop,
+        ensures opened { OnOk result (IsTrue (is_failed self.old.state)
+            → (device : D) × F.is_file self.old.generation device) }
+        ensures same { self.new.generation ≡ self.old.generation }
     {
         let (history, place, failed) = match mem::replace(&mut self.state, State::Unread) {
             State::Open(written) if written.is_broken() => {
@@ -128,7 +147,7 @@ impl<D: Disk, J: Site> Held<D, J> {
                 return Ok(());
             }
         };
-        let device = match file.open_again(generation, failed) {
+        let device = match file.open_again(self.generation, failed) {
             Ok(device) => device,
             Err(fault) => {
                 self.state = State::Closed(history, place);
@@ -146,15 +165,17 @@ impl<D: Disk, J: Site> Held<D, J> {
         &mut self,
         room: &mut Vec<u8>,
         file: &F,
-        generation: u64,
         batch: &Batch<K>,
     ) -> Result<OnDisk<J, K>, LogFault>
     where
         D: Drop,
-        ensures { IfOk result (λ on_disk. (on_disk.number ≡ batch.now.first)
+        ensures written { IfOk result (λ on_disk. (on_disk.number ≡ batch.now.first)
             × (on_disk.count ≡ length batch.now.entries)) }
+        ensures opened { OnOk result (IsTrue (is_failed self.old.state)
+            → (device : D) × F.is_file self.old.generation device) }
+        ensures same { self.new.generation ≡ self.old.generation }
     {
-        self.open_again(file, generation)?;
+        self.open_again(file)?;
         match &mut self.state {
             State::Open(written) => written.append(room, batch),
             _ => Err(LogFault::NotRead),

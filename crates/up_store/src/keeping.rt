@@ -138,8 +138,9 @@ impl<
 
     ghost commits = { StoredCommits };
 
-    /// Carries out the changes of the log again, and opens the store. If that fails, or if the logs do not have all
-    /// events that earlier runs counted, the notices are told why.
+    /// Carries out the changes of the log again, removes the logs that a switch to this one has left, and opens the
+    /// store. If the log can't be read to its end, or doesn't have all events that earlier runs counted, nothing is
+    /// removed, and the notices are told why.
     fn begin<B: Naming, T: Wait>(
         &self,
         rt: &T,
@@ -154,11 +155,13 @@ impl<
         let Some(readers) = self.readers.lock(rt).take() else {
             return (seat, false);
         };
+        let Some((generation, entries)) = self.shortening.numbers(rt) else {
+            return (seat, false);
+        };
         let least = Least {
-            entries: self.shortening.entries(rt),
+            entries,
             events: self.permit.counted(),
         };
-        let generation = self.shortening.generation(rt);
         match self
             .store
             .restore(rt, alloc, board, &mut seat, readers, &least)
@@ -166,8 +169,8 @@ impl<
             Ok(logs) => {
                 let entries = logs.count;
                 self.permit.give::<B, D, J>(&logs);
-                self.store.set_generation(generation);
-                self.store.open(rt, logs);
+                self.shortening.tidy_up(rt, entries);
+                self.store.open(rt, logs, generation);
                 self.store.notices.is_restored(entries);
                 (seat, true)
             }

@@ -1,4 +1,12 @@
 //! Making the log of a store shorter while changes are written to it.
+ghost use Rattle.std.specs.Prelude.{◌≡◌, ◌≢◌, ◌++◌, ◌∷◌, [], List, Result, Err, OnOk, OnErr, IsTrue};
+ghost use Rattle.up_compact.specs.Heads.{batch_of};
+ghost use Rattle.up_log.specs.Logs.{IsSettled};
+ghost use Rattle.up_log.specs.declared.entry.Entry.{Entry as Logged};
+ghost use Rattle.up_log.specs.declared.setup.Setup.{Setup as Numbers};
+ghost use Rattle.up_store.specs.declared.shorter.Kept.TheVariants.{Fault, Unknown};
+ghost use Rattle.up_store.specs.declared.shortening.Turn.TheVariants.{Free, Over};
+
 use crate::ended::EndedUploads;
 use crate::folder::Folder;
 use crate::notices::StoreNotices;
@@ -6,6 +14,7 @@ use crate::shorter::{Kept, Shorter, left_out_events};
 use crate::store::Store;
 use sqlite_disk::Disk;
 use std::alloc::Global;
+use std::mem;
 use std::sync::atomic::{AtomicU64, Ordering};
 use std::sync::{Mutex, Wait};
 use up_compact::{Head, Heads};
@@ -27,11 +36,21 @@ pub struct Current<D: Disk> {
     pub head: Head,
 }
 
+/// The heads, and whether a shorter log may be written.
+#[derive(Drop)]
+enum Turn<D: Disk> {
+    /// It may.
+    Free(Current<D>),
+    /// One is being written.
+    Taken,
+    /// It is not known which log the heads on the disk name. Until the next start no log is made or removed any more.
+    Over(Current<D>),
+}
+
 /// What makes the log of a store shorter.
 #[derive(Drop)]
 pub struct Shortening<D: Disk, F> {
-    /// `None` while a shorter log is being written.
-    current: Mutex<Option<Current<D>>>,
+    turn: Mutex<Turn<D>>,
     pub(crate) ended: EndedUploads,
     folder: F,
     lanes: u64,
@@ -52,7 +71,7 @@ impl<D: Disk, F> Shortening<D, F> {
         least: u64,
     ) -> Shortening<D, F> {
         Shortening {
-            current: Mutex::new(Some(current)),
+            turn: Mutex::new(Turn::Free(current)),
             ended,
             folder,
             lanes,
@@ -67,22 +86,33 @@ impl<D: Disk, F> Shortening<D, F> {
         D: Drop,
         F: Drop,
     {
-        self.current.into_inner()
-    }
-
-    /// How many entries the log has at least, according to the last head.
-    pub(crate) fn entries<R: Wait>(&self, rt: &R) -> u64 {
-        match self.current.lock(rt).as_ref() {
-            Some(current) => current.head.entries,
-            None => 0,
+        match self.turn.into_inner() {
+            Turn::Free(current) | Turn::Over(current) => Some(current),
+            Turn::Taken => None,
         }
     }
 
-    /// How many times the log was made shorter, according to the last head.
-    pub(crate) fn generation<R: Wait>(&self, rt: &R) -> u64 {
-        match self.current.lock(rt).as_ref() {
-            Some(current) => current.head.generation,
-            None => 0,
+    /// How many times the log was made shorter, and how many entries it has at least, according to the last head.
+    /// `None` unless a shorter log may be written.
+    pub(crate) fn numbers<R: Wait>(&self, rt: &R) -> Option<(u64, u64)> {
+        match &*self.turn.lock(rt) {
+            Turn::Free(current) => Some((current.head.generation, current.head.entries)),
+            _ => None,
+        }
+    }
+
+    /// Takes the heads to write a shorter log. `None` if one is being written, or if none may be written.
+    fn take<R: Wait>(&self, rt: &R) -> Option<Current<D>>
+    where
+        D: Drop,
+    {
+        let mut turn = self.turn.lock(rt);
+        match mem::replace(&mut *turn, Turn::Taken) {
+            Turn::Free(current) => Some(current),
+            other => {
+                *turn = other;
+                None
+            }
         }
     }
 
@@ -110,11 +140,13 @@ impl<D: Disk + Drop, F: Folder<D>> Shortening<D, F> {
         if !self.is_due(rt, store) {
             return;
         }
-        let Some(mut current) = self.current.lock(rt).take() else {
+        let Some(mut current) = self.take(rt) else {
             return;
         };
         let size = store.size(rt) as u64;
-        match self.replace(rt, alloc, store, &mut current) {
+        let replaced = self.replace(rt, alloc, store, &mut current);
+        *self.turn.lock(rt) = turn_after(current, &replaced);
+        match replaced {
             Ok(()) => {
                 self.next.store(self.least, Ordering::SeqCst);
                 store.notices.is_shorter(size, store.size(rt) as u64);
@@ -125,7 +157,26 @@ impl<D: Disk + Drop, F: Folder<D>> Shortening<D, F> {
                 self.tell(store, kept);
             }
         }
-        *self.current.lock(rt) = Some(current);
+    }
+
+    /// Removes what a switch to a shorter log has left: the logs of the generation before the current one, or those of
+    /// the next one, which were not ready. It is called once the current log was read to its end. If it has fewer
+    /// entries than its head says, nothing is removed.
+    pub(crate) fn tidy_up<R: Wait>(&self, rt: &R, entries: u64) {
+        let turn = self.turn.lock(rt);
+        let Turn::Free(current) = &*turn else {
+            return;
+        };
+        if entries < current.head.entries {
+            return;
+        }
+        let generation = current.head.generation;
+        if let Some(next) = generation.checked_add(1) {
+            self.folder.remove(next);
+        }
+        if generation > 0 {
+            self.folder.remove(generation - 1);
+        }
     }
 
     /// Reports why the log was not replaced.
@@ -211,32 +262,52 @@ impl<D: Disk + Drop, F: Folder<D>> Shortening<D, F> {
         head.entries = shorter.progress.stayed;
         current.change(alloc, head)?;
         self.ended.forget(rt, &shorter.left_out.uploads);
-        store.set_generation(current.head.generation);
         let Shorter {
             changes,
             voids,
             progress,
             ..
         } = shorter;
-        store.switch(rt, changes, voids, progress.stayed);
+        let generation = current.head.generation;
+        store.switch(rt, changes, voids, progress.stayed, generation);
         Ok(())
+    }
+}
+
+/// Whether another shorter log may be written after a try.
+fn turn_after<D: Disk>(current: Current<D>, replaced: &Result<(), Kept>) -> Turn<D>
+    ensures over { (fault : _) → replaced.now ≡ Err (Unknown fault) → result ≡ Over current }
+    ensures free { ((fault : _) → replaced.now ≢ Err (Unknown fault)) → result ≡ Free current }
+{
+    match replaced {
+        Err(Kept::Unknown(_)) => Turn::Over(current),
+        _ => Turn::Free(current),
     }
 }
 
 impl<D: Disk> Current<D> {
     /// Makes this the head that counts. If that fails, the head before it counts, unless the error is `Unknown`.
-    fn change(&mut self, alloc: Global, head: Head) -> Result<(), Kept> {
+    fn change(&mut self, alloc: Global, head: Head) -> Result<(), Kept>
+        ensures changed { OnOk result (self.new.head ≡ head) }
+        ensures durable { (setup : Numbers) (batches : List (List Logged))
+            → IsSettled D.Disk self.old.heads.log setup batches
+            → OnOk result (IsSettled D.Disk self.new.heads.log setup
+            (batches ++ batch_of head ∷ [])) }
+        ensures same { OnErr result (self.new.head ≡ self.old.head) }
+        ensures fault { (setup : Numbers) (batches : List (List Logged)) (fault : _)
+            → IsSettled D.Disk self.old.heads.log setup batches
+            → result ≡ Err (Fault fault)
+            → IsSettled D.Disk self.new.heads.log setup batches }
+        ensures unknown { (fault : _) → result ≡ Err (Unknown fault)
+            → IsTrue self.new.heads.log.is_broken }
+    {
         match self.heads.add(alloc, &head) {
             Ok(()) => {
                 self.head = head;
                 Ok(())
             }
-            Err(LogFault::Memory) => Err(Kept::Fault(LogFault::Memory)),
-            // If the log takes the head before once more, that is its last one.
-            Err(fault) => match self.heads.add(alloc, &self.head) {
-                Ok(()) => Err(Kept::Fault(fault)),
-                Err(_) => Err(Kept::Unknown(fault)),
-            },
+            Err(fault) if self.heads.is_broken() => Err(Kept::Unknown(fault)),
+            Err(fault) => Err(Kept::Fault(fault)),
         }
     }
 }

@@ -9,7 +9,7 @@ use crate::restoring::Logs;
 use crate::voids::Voids;
 use sqlite_disk::Disk;
 use std::alloc::{AllocError, Global};
-use std::sync::atomic::{AtomicBool, AtomicU64, Ordering};
+use std::sync::atomic::{AtomicBool, Ordering};
 use std::sync::{Condvar, Mutex, Wait};
 use up_history::{Chronicle, Opened, Receipt};
 use up_log::{Entry, Log, LogFault, Spelled};
@@ -53,8 +53,6 @@ pub struct Store<D: Disk, N, J: Site, K: Chronicle> {
     bells: Vec<Condvar>,
     /// Wakes the thread that waits until nothing is being written and every change has had its turn.
     pub(crate) stillness: Condvar,
-    /// How many times a shorter log replaced the log.
-    generation: AtomicU64,
     /// Whether the last batch could not be written.
     pub(crate) is_failing: AtomicBool,
     /// Whether the file of the log is gone.
@@ -91,7 +89,6 @@ impl<D: Disk, N, J: Site, K: Chronicle> Store<D, N, J, K> {
             voids: Mutex::new(None),
             bells,
             stillness: Condvar::new(),
-            generation: AtomicU64::new(0),
             is_failing: AtomicBool::new(false),
             is_gone: AtomicBool::new(false),
             notices,
@@ -99,36 +96,33 @@ impl<D: Disk, N, J: Site, K: Chronicle> Store<D, N, J, K> {
         Ok((store, history))
     }
 
-    /// Opens the store with logs that were read to their ends, and to which nobody else writes.
-    pub fn open<R: Wait>(&self, rt: &R, logs: Logs<D, J>)
+    /// Opens the store with logs of this generation, which were read to their ends, and to which nobody else writes.
+    pub fn open<R: Wait>(&self, rt: &R, logs: Logs<D, J>, generation: u64)
     where
         D: Drop,
     {
         let Logs { changes, voids, .. } = logs;
         self.line.lock(rt).begin_after(changes.front());
         *self.voids.lock(rt) = Some(voids);
-        self.log.lock(rt).open(changes);
+        self.log.lock(rt).open(changes, generation);
     }
 
-    /// Goes on with these shorter logs, of which that of the changes has `count` entries. It is called while the line
-    /// is held up.
-    pub(crate) fn switch<R: Wait>(&self, rt: &R, changes: Log<D>, voids: Voids<D>, count: u64)
+    /// Goes on with these shorter logs, which are of this generation. That of the changes has `count` entries. It is
+    /// called while the line is held up.
+    pub(crate) fn switch<R: Wait>(
+        &self,
+        rt: &R,
+        changes: Log<D>,
+        voids: Voids<D>,
+        count: u64,
+        generation: u64,
+    )
     where
         D: Drop,
     {
         self.line.lock(rt).go_over(count);
         *self.voids.lock(rt) = Some(voids);
-        self.log.lock(rt).switch(changes);
-    }
-
-    /// How many times a shorter log replaced the log.
-    pub(crate) fn generation(&self) -> u64 {
-        self.generation.load(Ordering::SeqCst)
-    }
-
-    /// The log is now of this generation.
-    pub(crate) fn set_generation(&self, generation: u64) {
-        self.generation.store(generation, Ordering::SeqCst);
+        self.log.lock(rt).switch(changes, generation);
     }
 
     /// The logs, with everything that was written to them. `None` if the store was never opened, or if the log of the
@@ -213,11 +207,7 @@ impl<D: Disk + Drop, N: StoreNotices + LogFile<D>, J: Site, K: Chronicle> Store<
         batch: &Batch<K>,
     ) -> Result<OnDisk<J, K>, LogFault> {
         let mut room = self.room.lock(rt);
-        let generation = self.generation();
-        let written = self
-            .log
-            .lock(rt)
-            .append(&mut room, &self.notices, generation, batch);
+        let written = self.log.lock(rt).append(&mut room, &self.notices, batch);
         if room.capacity() > MAX_ROOM {
             *room = Vec::new(alloc);
         }
@@ -272,12 +262,12 @@ impl<D: Disk + Drop, N: StoreNotices + LogFile<D>, J: Site, K: Chronicle> Store<
         None
     }
 
-    /// Writes down that the change whose turn it is was not made. If that can't be written, no other change can be
-    /// made, because it might be decided differently when the log is read again.
-    pub(crate) fn note_void<R: Wait>(&self, rt: &R, alloc: Global) {
+    /// Writes down that the change whose turn it is was not made. Takes no memory. If that can't be written, no other
+    /// change can be made, because it might be decided differently when the log is read again.
+    pub(crate) fn note_void<R: Wait>(&self, rt: &R) {
         let place = self.place(rt);
         let written = match self.voids.lock(rt).as_mut() {
-            Some(voids) => voids.add(alloc, place),
+            Some(voids) => voids.add(place),
             None => Err(LogFault::NotRead),
         };
         if let Err(fault) = written {

@@ -158,7 +158,7 @@ impl<B: Naming, D: Disk + Drop, N: StoreNotices + LogFile<D>, J: Site, K: Chroni
             .commit_at(self.rt, alloc, self.seat, &receipt, entry);
         let answer = answer_of(decided);
         if matches!(answer, Err(Refusal::NoMemory | Refusal::Closed)) {
-            self.store.note_void(self.rt, alloc);
+            self.store.note_void(self.rt);
         }
         self.store.end_turn(self.rt);
         answer

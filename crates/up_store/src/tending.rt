@@ -22,8 +22,10 @@ impl<D: Disk + Drop, N: StoreNotices + LogFile<D>, J: Site, K: Chronicle> Store<
         if self.is_gone.load(Ordering::SeqCst) {
             return true;
         }
-        let is_read = self.log.lock(rt).is_read();
-        if !is_read || self.notices.is_there(rt, self.generation()) {
+        let Some(generation) = self.log.lock(rt).generation() else {
+            return false;
+        };
+        if self.notices.is_there(rt, generation) {
             return false;
         }
         self.is_gone.store(true, Ordering::SeqCst);
@@ -37,7 +39,7 @@ impl<D: Disk + Drop, N: StoreNotices + LogFile<D>, J: Site, K: Chronicle> Store<
     /// Opens the log again if a call on it failed, and reports that it works again.
     pub fn tend<R: Wait>(&self, rt: &R) {
         let mut held = self.log.lock(rt);
-        if !held.is_failed() || held.open_again(&self.notices, self.generation()).is_err() {
+        if !held.is_failed() || held.open_again(&self.notices).is_err() {
             return;
         }
         if self.is_failing.swap(false, Ordering::SeqCst) {

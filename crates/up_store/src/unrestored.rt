@@ -17,10 +17,17 @@ pub enum Unrestored {
     Entry(Unreplayed),
     /// The log of the changes has fewer entries than the head that counts says.
     #[error("the log has {found} entries, and heads counts {least}")]
-    Fewer { found: u64, least: u64 },
+    Fewer {
+        found: u64,
+        least: u64,
+    },
     /// Earlier runs handed over more events of a lane than there are in the log, with those that it leaves out.
     #[error("handed.{lane} counts {counted} events, and the log has {logged} of lane {lane}")]
-    Lane { lane: u64, counted: u64, logged: u64 },
+    Lane {
+        lane: u64,
+        counted: u64,
+        logged: u64,
+    },
 }
 
 impl From<Unreplayed> for Unrestored {

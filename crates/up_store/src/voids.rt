@@ -8,11 +8,18 @@ use up_log::{Consent, Entry, Log, LogFault, LogReader, Spelled};
 
 /// The places of the entries of a log that are on the disk and were not carried out, because memory ran out or the
 /// board was closed. They have a log of their own, where each is an entry that asks for nothing and has the place as
-/// its id.
+/// its id. The memory to add one is kept ready, since it is added when memory has run out.
 #[derive(Drop)]
 pub struct Voids<D: Disk> {
     log: Log<D>,
+    /// A batch of one entry, which the next one takes the place of.
+    batch: Vec<Spelled>,
+    /// The memory in which `Log::append` puts a batch together.
+    room: Vec<u8>,
 }
+
+/// How many bytes of `room` a batch of one void takes, rounded up.
+const ROOM: usize = 64;
 
 /// The entry for this place.
 fn void_of(place: u64) -> Entry {
@@ -34,12 +41,15 @@ fn take_places(places: &mut BTreeSet<u64>, entries: &[Entry]) -> Result<(), Allo
 }
 
 impl<D: Disk> Voids<D> {
-    /// Reads the log of the voids to its end, and returns their places too. The error says why it can't be read, or
-    /// that memory ran out.
+    /// Reads the log of the voids to its end, and returns their places too. Takes the memory with which a place is added
+    /// later. The error says why the log can't be read, or that memory ran out.
     pub fn read(alloc: Global, reader: LogReader<D>) -> Result<(Voids<D>, BTreeSet<u64>), LogFault>
     where
         D: Drop,
     {
+        let mut batch = Vec::with_capacity(alloc, 1)?;
+        batch.push(Spelled::new(alloc, &void_of(0))?)?;
+        let room = Vec::with_capacity(alloc, ROOM)?;
         let mut reader = reader;
         let mut places = BTreeSet::new(alloc);
         for _ in 0..u64::MAX {
@@ -49,7 +59,7 @@ impl<D: Disk> Voids<D> {
             take_places(&mut places, entries.as_slice())?;
         }
         match reader.finish() {
-            Ok(log) => Ok((Voids { log }, places)),
+            Ok(log) => Ok((Voids { log, batch, room }, places)),
             Err(refused) => Err(refused.fault),
         }
     }
@@ -73,10 +83,13 @@ impl<D: Disk> Voids<D> {
         self.log.into_device()
     }
 
-    /// Adds a place, and returns once it is on the disk. The error is that of the write, or that memory ran out.
-    pub fn add(&mut self, alloc: Global, place: u64) -> Result<(), LogFault> {
-        let mut batch = Vec::new(alloc);
-        batch.push(Spelled::new(alloc, &void_of(place))?)?;
-        self.log.append(&mut Vec::new(alloc), &batch)
+    /// Adds a place, and returns once it is on the disk. Takes no memory: the batch takes as much as the one before. The
+    /// error is that of the write.
+    pub fn add(&mut self, place: u64) -> Result<(), LogFault> {
+        let Some(before) = self.batch.pop() else {
+            return Err(LogFault::Memory);
+        };
+        self.batch.push(before.again(&void_of(place))?)?;
+        self.log.append(&mut self.room, &self.batch)
     }
 }

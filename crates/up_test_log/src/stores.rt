@@ -4,6 +4,8 @@ mod counts;
 mod disks;
 mod failing;
 mod gone;
+mod leaving;
+mod meanwhile;
 mod refusing;
 mod running;
 mod shorter;

@@ -69,8 +69,9 @@ fn restored_by<B: Naming, J: Site, K: Chronicle, R: Wait>(
     let (board, mut seat) = board_of::<B, R>(rt, alloc, parts)?;
     let tally = Tally::new();
     let readers = (reader_of(alloc, files.0)?, reader_of(alloc, files.1)?);
-    let (store, history): (Store<Memory, &Tally, J, K>, _) =
-        Store::unread(alloc, &tally, histories)?;
+    let (store, history): (Store<Memory, &Tally, J, K>, _) = Store::unread(
+        alloc, &tally, histories,
+    )?;
     let readers = (Reading::new(readers.0, history), readers.1);
     match store.restore(rt, alloc, &board, &mut seat, readers, least) {
         Ok(logs) => Ok(Ok(logs.count)),
@@ -131,7 +132,11 @@ fn a_log_has_what_was_counted(rt: HostRuntime) -> Result<(), Fail> {
             Ok(_) => String::new(alloc),
             Err(why) => format!(in alloc; "{why}")?,
         };
-        expect_same(&rt, &(entries, counts, found.as_str()), &(entries, counts, want));
+        expect_same(
+            &rt,
+            &(entries, counts, found.as_str()),
+            &(entries, counts, want),
+        );
     }
     Ok(())
 }
@@ -200,8 +205,7 @@ fn events_are_handed_over_if_the_log_has_what_was_counted(rt: HostRuntime) -> Re
         counts.push(counted(count, 0))?;
         let parts = BoardParts::new(alloc, 2, 4)?;
         let histories = Histories::new();
-        let found =
-            begun_by::<Brand, Brand, Brand, _>(&rt, alloc, parts, counts, histories)?;
+        let found = begun_by::<Brand, Brand, Brand, _>(&rt, alloc, parts, counts, histories)?;
         expect_same(&rt, &(count, found), &(count, (false, fits, fits)));
     }
     Ok(())

@@ -1,11 +1,11 @@
 //! Stores on disks that fail, for good or for one call.
 use super::running::{CommitResult, Job, Ran, Seen, plainly, restored, run_on};
-use super::tally::Tally;
+use super::tally::{Again, Tally};
 use super::together::{jobs_of, shared_file, told_plainly};
 use crate::full_once::FullOnce;
 use crate::logs::{Row, What};
 use crate::same::expect_same;
-use sqlite_disk::{Crash, Disk, Fuse, Memory};
+use sqlite_disk::{Crash, Fuse, Memory};
 use std::alloc::{AllocError, Global};
 use std::marker::Send;
 use std::process::Abort;
@@ -58,7 +58,11 @@ fn standing<R: Wait>(rt: &R, alloc: Global, count: usize) -> Result<Seen, Fail> 
 }
 
 /// The state of a board that is restored from logs.
-fn seen_again<D: Disk + Drop, R: Wait>(rt: &R, alloc: Global, disks: (D, D)) -> Result<Seen, Fail> {
+fn seen_again<D: Again + Drop, R: Wait>(
+    rt: &R,
+    alloc: Global,
+    disks: (D, D),
+) -> Result<Seen, Fail> {
     Ok(restored(rt, alloc, disks)?.0)
 }
 

@@ -65,6 +65,10 @@ fn no_change_is_made_without_the_file(rt: HostRuntime) -> Result<(), Fail> {
     for told in made.iter() {
         assert!(&rt; told.is_ok());
     }
-    expect_same(&rt, &refused.as_slice(), &[Err(Refusal::NoMemory)].as_slice());
+    expect_same(
+        &rt,
+        &refused.as_slice(),
+        &[Err(Refusal::NoMemory)].as_slice(),
+    );
     Ok(())
 }

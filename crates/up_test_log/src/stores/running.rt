@@ -190,7 +190,7 @@ pub const NOTHING: Least<'static> = Least {
     events: &[],
 };
 
-/// A store on these disks, whose changes are made again on a board.
+/// A store on these disks, which are of the first generation. Its changes are made again on a board.
 pub fn store_on<'a, B: Naming, D: Disk, J: Site, K: Chronicle, R: Wait>(
     rt: &R,
     alloc: Global,
@@ -207,15 +207,35 @@ where
     requires nothing { J.premise → ⊥ }
     requires same { J.history ≡ B.history }
 {
-    let (store, readers) =
-        unread_on(alloc, disks, tally, histories).map_err(Unrestored::Changes)?;
+    store_of(rt, alloc, board, seat, (disks, 0), tally, histories)
+}
+
+/// A store on these disks, with their generation. Its changes are made again on a board.
+pub fn store_of<'a, B: Naming, D: Disk, J: Site, K: Chronicle, R: Wait>(
+    rt: &R,
+    alloc: Global,
+    board: &Board<B>,
+    seat: &mut Seat<B>,
+    disks: ((D, D), u64),
+    tally: &'a Tally,
+    histories: Histories,
+) -> Result<Store<D, &'a Tally, J, K>, Unrestored>
+where
+    D: Drop,
+    requires written { histories.written ≡ J.history }
+    requires drawn { histories.drawn ≡ K.history }
+    requires nothing { J.premise → ⊥ }
+    requires same { J.history ≡ B.history }
+{
+    let (disks, generation) = disks;
+    let (store, readers) = unread_on(alloc, disks, tally, histories).map_err(Unrestored::Changes)?;
     let logs = store.restore(rt, alloc, board, seat, readers, &NOTHING)?;
-    store.open(rt, logs);
+    store.open(rt, logs, generation);
     Ok(store)
 }
 
 /// The state of a board with these parts that is restored from the logs on these disks, and the logs.
-fn made_again<B: Naming, J: Site, K: Chronicle, D: Disk, R: Wait>(
+fn made_again<B: Naming, J: Site, K: Chronicle, D: Again, R: Wait>(
     rt: &R,
     alloc: Global,
     parts: BoardParts,
@@ -334,7 +354,7 @@ pub fn plainly<R: Wait>(rt: &R, alloc: Global, job: &Job) -> Result<(Outcome, Se
 }
 
 /// The state of a board that is restored from the logs on these disks, and the logs.
-pub fn restored<D: Disk, R: Wait>(
+pub fn restored<D: Again, R: Wait>(
     rt: &R,
     alloc: Global,
     disks: (D, D),

@@ -1,4 +1,6 @@
 //! What a store reports, and disks whose files can be opened again.
+ghost use Rattle.std.specs.Prelude.{⊤};
+
 use crate::full_once::FullOnce;
 use sqlite_disk::{Disk, Fuse, Memory};
 use std::sync::Wait;
@@ -7,7 +9,7 @@ use up_log::LogFault;
 use up_store::{LogFile, StoreNotices, Unrestored};
 
 /// How often the store reported that changes cannot be written, that they can be again, and that none is made any more;
-/// and that a log was made shorter, and that it could not be.
+/// and that a log was made shorter, and that it could not be. And which files it asked for.
 #[derive(Drop)]
 pub struct Tally {
     fails: AtomicU64,
@@ -18,6 +20,9 @@ pub struct Tally {
     gone: AtomicU64,
     /// Whether the file of the log is away.
     is_away: AtomicBool,
+    /// The least and the greatest generation whose file was to be opened again.
+    least: AtomicU64,
+    greatest: AtomicU64,
 }
 
 impl Tally {
@@ -30,6 +35,8 @@ impl Tally {
             not_shorter: AtomicU64::new(0),
             gone: AtomicU64::new(0),
             is_away: AtomicBool::new(false),
+            least: AtomicU64::new(u64::MAX),
+            greatest: AtomicU64::new(0),
         }
     }
 
@@ -41,6 +48,16 @@ impl Tally {
     /// How often the store reported that its file is gone.
     pub fn gone(&self) -> u64 {
         self.gone.load(Ordering::SeqCst)
+    }
+
+    /// The least and the greatest generation whose file was to be opened again. `None` if no file was.
+    pub fn generations(&self) -> Option<(u64, u64)> {
+        let least = self.least.load(Ordering::SeqCst);
+        let greatest = self.greatest.load(Ordering::SeqCst);
+        if least > greatest {
+            return None;
+        }
+        Some((least, greatest))
     }
 
     /// How often a log was made shorter, and how often it could not be.
@@ -119,7 +136,11 @@ impl<D: Disk> Again for FullOnce<D> {
 }
 
 impl<D: Again> LogFile<D> for &Tally {
-    fn open_again(&self, _generation: u64, failed: Option<D>) -> Result<D, LogFault> {
+    ghost is_file = { λ _ _. ⊤ };
+
+    fn open_again(&self, generation: u64, failed: Option<D>) -> Result<D, LogFault> {
+        self.least.fetch_min(generation, Ordering::SeqCst);
+        self.greatest.fetch_max(generation, Ordering::SeqCst);
         match failed {
             Some(disk) => Ok(disk.again()),
             None => Err(LogFault::Busy),

@@ -1,16 +1,20 @@
 //! Entries that are on the disk and were not carried out.
 use super::disks::file_of;
 use super::running::{Job, Seen, plainly, restored};
-use crate::logs::{Row, What, read};
+use crate::logs::{Row, SETUP, What, read};
 use crate::same::expect_same;
 use sqlite_disk::Memory;
+use sqlite_std_file::{FileFrom, Unknown};
 use std::alloc::Global;
+use std::collections::BTreeSet;
+use std::fs;
 use std::process::Abort;
 use std::sync::Wait;
 use std::test::Fail;
 use up_events::Id;
 use up_headers::Request;
-use up_log::{Consent, Entry, LogFault, Spelled};
+use up_log::{Consent, Entry, LogFault, Spelled, open_file};
+use up_store::Voids;
 
 /// The file of a log that says that each of these places is void.
 fn void_file(alloc: Global, places: &[u128]) -> Result<Memory, LogFault> {
@@ -49,7 +53,7 @@ fn hold<R: Wait + Abort>(
     assert!(rt; seen == standing(rt, alloc, rows)?, "{places:?}");
     expect_same(rt, &logs.count, &4);
     let mut voids = logs.voids;
-    voids.add(alloc, more.0)?;
+    voids.add(more.0)?;
     let disks = (logs.changes.into_device(), voids.into_device());
     let (seen, _) = restored(rt, alloc, disks)?;
     assert!(rt;
@@ -86,5 +90,35 @@ fn void_entries_are_passed_over(rt: HostRuntime) -> Result<(), Fail> {
     hold(&rt, alloc, &[3], &[make, three], (0, &[]))?;
     hold(&rt, alloc, &[2, 1], &[make, other], (1, &[make, other]))?;
     hold(&rt, alloc, &[4, 0], &[other], (3, &[]))?;
+    Ok(())
+}
+
+/// The voids in a file, and their places.
+fn voids_in(
+    rt: &HostRuntime,
+    path: &str,
+) -> Result<(Voids<FileFrom<Unknown>>, BTreeSet<u64>), LogFault> {
+    Voids::read(rt.alloc(), open_file(rt, path, Unknown, SETUP)?)
+}
+
+// A void is added when memory has run out. So whichever request for memory is refused (`rt try --fail-alloc N`), the
+// assertion in the loop holds.
+#[test]
+fn voids_of_a_file_come_back(rt: HostRuntime) -> Result<(), Fail> {
+    let path = "up_store_tests_voids/void";
+    let _ = fs::remove_dir_all(&rt, "up_store_tests_voids");
+    fs::create_dir(&rt, "up_store_tests_voids")?;
+    let (mut voids, places) = voids_in(&rt, path)?;
+    assert!(rt; places.is_empty());
+    for place in [7u64, 0, u64::MAX, 7] {
+        assert!(rt; voids.add(place).is_ok());
+    }
+    drop(voids);
+    let (_, places) = voids_in(&rt, path)?;
+    expect_same(&rt, &places.len(), &3);
+    for place in [0u64, 7, u64::MAX] {
+        assert!(rt; places.contains(&place));
+    }
+    fs::remove_dir_all(&rt, "up_store_tests_voids")?;
     Ok(())
 }

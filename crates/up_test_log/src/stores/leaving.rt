@@ -1,0 +1,129 @@
+//! Logs that a switch to a shorter one has left, when a server starts again.
+ghost use Rattle.std.specs.Prelude.{◌≡◌, length};
+ghost use Rattle.up_dispatch.specs.Parts.{IsNamed};
+
+use super::disks::{file_of, reader_of};
+use super::running::board_of;
+use super::tally::Tally;
+use crate::logs::{PAIR, disk_of};
+use crate::same::expect_same;
+use sqlite_disk::Memory;
+use std::alloc::Global;
+use std::marker::{Brand, Send};
+use std::sync::Wait;
+use std::sync::atomic::{AtomicU64, Ordering};
+use std::test::Fail;
+use up_compact::{Head, Heads};
+use up_dispatch::{BoardParts, Naming, Service};
+use up_history::Chronicle;
+use up_log::{LogFault, LogReader};
+use up_message::Sequence;
+use up_store::{Current, EndedUploads, Folder, Histories, Keeping, Shortening};
+use up_tie::Site;
+
+/// The generation of the log with which the server starts.
+const GENERATION: u64 = 3;
+
+/// How many logs were removed, and the sum of their generations.
+#[derive(Drop)]
+struct Removed {
+    count: AtomicU64,
+    sum: AtomicU64,
+}
+
+impl Folder<Memory> for &Removed {
+    fn make(&self, _generation: u64) -> Result<(LogReader<Memory>, LogReader<Memory>), LogFault> {
+        Err(LogFault::NotRead)
+    }
+
+    fn remove(&self, generation: u64) {
+        self.count.fetch_add(1, Ordering::SeqCst);
+        self.sum.fetch_add(generation, Ordering::SeqCst);
+    }
+}
+
+/// Heads of which the last says that its log has this many entries.
+fn current(alloc: Global, entries: u64) -> Result<Current<Memory>, LogFault> {
+    let (heads, _) = Heads::read(alloc, reader_of(alloc, Memory::new(alloc))?)?;
+    let head = Head {
+        generation: GENERATION,
+        entries,
+        left_out: Sequence::new(alloc),
+    };
+    Ok(Current { heads, head })
+}
+
+/// Starts a server on this log, whose head says that it has this many entries. Returns whether the log was read, how
+/// many logs were removed, and the sum of their generations.
+fn start_by<B: Naming, J: Site + Send, K: Chronicle + Send, R: Wait>(
+    rt: &R,
+    alloc: Global,
+    parts: BoardParts,
+    log: Memory,
+    entries: u64,
+    histories: Histories,
+) -> Result<(bool, u64, u64), Fail>
+    requires named { IsNamed B.name B.parts B.queue B.lanes parts }
+    requires lanes { length parts.queues ≡ 2 }
+    requires sized { B.max_size ≡ 1000 }
+    requires written { histories.written ≡ J.history }
+    requires drawn { histories.drawn ≡ K.history }
+    requires nothing { J.premise → ⊥ }
+    requires same { J.history ≡ B.history }
+{
+    let (board, seat) = board_of::<B, R>(rt, alloc, parts)?;
+    let removed = Removed {
+        count: AtomicU64::new(0),
+        sum: AtomicU64::new(0),
+    };
+    let ended = EndedUploads::new(alloc);
+    let shortening = Shortening::new(current(alloc, entries)?, ended, &removed, 2, 0);
+    let tally = Tally::new();
+    let keeping: Keeping<Memory, &Tally, &Removed, J, K> = Keeping::new(
+        alloc,
+        reader_of(alloc, log)?,
+        reader_of(alloc, Memory::new(alloc))?,
+        histories,
+        &tally,
+        shortening,
+    )?;
+    let (_seat, is_read) = keeping.begin(rt, alloc, &board, seat);
+    Ok((
+        is_read,
+        removed.count.load(Ordering::SeqCst),
+        removed.sum.load(Ordering::SeqCst),
+    ))
+}
+
+fn start<R: Wait>(
+    rt: &R,
+    alloc: Global,
+    log: Memory,
+    entries: u64,
+) -> Result<(bool, u64, u64), Fail> {
+    let parts = BoardParts::new(alloc, 2, 4)?;
+    let histories = Histories::new();
+    start_by::<Brand, Brand, Brand, R>(rt, alloc, parts, log, entries, histories)
+}
+
+/// A log of two entries, of which this byte is changed to 9.
+fn changed_log(alloc: Global, place: usize) -> Result<Memory, LogFault> {
+    let mut bytes = Vec::from_slice(alloc, file_of(alloc, &[&PAIR])?.bytes())?;
+    if place < bytes.len() {
+        bytes[place] = 9;
+    }
+    Ok(disk_of(alloc, &bytes)?)
+}
+
+#[test]
+fn other_logs_stay_until_the_log_was_read(rt: HostRuntime) -> Result<(), Fail> {
+    let alloc = rt.alloc();
+    let whole = file_of(alloc, &[&PAIR])?;
+    expect_same(&rt, &start(&rt, alloc, whole, 2)?, &(true, 2, 4 + 2));
+    let fewer = file_of(alloc, &[&PAIR])?;
+    expect_same(&rt, &start(&rt, alloc, fewer, 3)?, &(false, 0, 0));
+    // What the closures answered to the first entry is after a heading of 33 bytes, a gate, two numbers and an id.
+    let damaged = changed_log(alloc, 33 + 1 + 8 + 8 + 16)?;
+    expect_same(&rt, &start(&rt, alloc, damaged, 2)?, &(false, 0, 0));
+    Ok(())
+}

@@ -1,0 +1,276 @@
+//! Stores whose log is made shorter while changes are made, on disks of which a call fails.
+ghost use Rattle.std.specs.Prelude.{◌≡◌, length};
+ghost use Rattle.up_dispatch.specs.Parts.{IsNamed};
+
+use super::disks::reader_of;
+use super::running::{board_of, change, store_of};
+use super::tally::Tally;
+use crate::full_once::FullOnce;
+use crate::logs::{Row, What};
+use crate::same::expect_same;
+use sqlite_disk::Memory;
+use std::alloc::Global;
+use std::marker::Brand;
+use std::sync::Wait;
+use std::sync::atomic::{AtomicU64, Ordering};
+use std::test::Fail;
+use up_compact::{Head, Heads};
+use up_dispatch::{Board, BoardParts, Naming};
+use up_events::Id;
+use up_handed::EndedUpload;
+use up_history::Chronicle;
+use up_log::{LogFault, LogReader};
+use up_message::Sequence;
+use up_replay::Unrestored;
+use up_store::{Current, EndedUploads, Folder, Histories, Shortening, Store, Stored};
+use up_tie::Site;
+
+/// A disk of which two calls can fail.
+type File = FullOnce<FullOnce<Memory>>;
+
+/// The generation of the log with which the store begins.
+const FIRST: u64 = 3;
+
+/// What is made before the log is made shorter, and removed.
+const BEFORE: [Row; 3] = [
+    (What::Make, 1, 700),
+    (What::Put, 1, 700),
+    (What::Remove, 1, 0),
+];
+
+/// What is made while the first shorter log is made. The log is then more than a quarter longer, so that another try is
+/// due at once.
+const MEANWHILE: [Row; 2] = [(What::Make, 2, 200), (What::Put, 2, 200)];
+
+/// What is made after that.
+const AFTER: [Row; 3] = [(What::Make, 5, 4), (What::Make, 6, 4), (What::Make, 7, 4)];
+
+/// Which calls fail, counted from 1: of the log, of the shorter log, and two of the heads. 0 is none.
+#[derive(Clone, Copy)]
+struct Calls {
+    log: u64,
+    shorter: u64,
+    heads: (u64, u64),
+}
+
+const NONE: Calls = Calls {
+    log: 0,
+    shorter: 0,
+    heads: (0, 0),
+};
+
+fn disk(alloc: Global, calls: (u64, u64)) -> File {
+    FullOnce::new(FullOnce::new(Memory::new(alloc), calls.1), calls.0)
+}
+
+/// Makes logs on disks in memory. While it makes the first ones, changes are made through the store.
+#[derive(Drop)]
+struct Meanwhile<'a, B: Naming, J: Site, K: Chronicle, R> {
+    rt: &'a R,
+    alloc: Global,
+    board: &'a Board<B>,
+    store: &'a Store<File, &'a Tally, J, K>,
+    /// Which call of a shorter log fails.
+    calls: u64,
+    /// How often logs were made or removed.
+    count: &'a AtomicU64,
+    ghost same: { J.history ≡ B.history },
+}
+
+impl<B: Naming, J: Site, K: Chronicle, R: Wait> Folder<File> for Meanwhile<'_, B, J, K, R> {
+    fn make(&self, _generation: u64) -> Result<(LogReader<File>, LogReader<File>), LogFault> {
+        let Some(mut seat) = self.board.seat(self.rt) else {
+            return Err(LogFault::NotRead);
+        };
+        let mut keeper = Stored::new(self.rt, self.board, self.store, &mut seat);
+        if self.count.fetch_add(1, Ordering::SeqCst) == 0
+            && change(self.alloc, &mut keeper, &MEANWHILE).is_err()
+        {
+            return Err(LogFault::Memory);
+        }
+        let changes = reader_of(self.alloc, disk(self.alloc, (self.calls, 0)))?;
+        let voids = reader_of(self.alloc, disk(self.alloc, (0, 0)))?;
+        Ok((changes, voids))
+    }
+
+    fn remove(&self, _generation: u64) {
+        self.count.fetch_add(1, Ordering::SeqCst);
+    }
+}
+
+/// The heads of a store whose log is of the first generation here.
+fn current(alloc: Global, calls: (u64, u64)) -> Result<Current<File>, LogFault> {
+    let (mut heads, _) = Heads::read(alloc, reader_of(alloc, disk(alloc, calls))?)?;
+    let head = Head {
+        generation: FIRST,
+        entries: 0,
+        left_out: Sequence::new(alloc),
+    };
+    heads.add(alloc, &head)?;
+    Ok(Current { heads, head })
+}
+
+/// How often logs were made or removed by the end of each of two tries to make a log shorter.
+type Counts = (u64, u64);
+
+/// Makes changes in a store, tries to make its log shorter, makes more changes, and tries it again. `None` if the heads
+/// or the log can't be opened.
+fn run_by<B: Naming, J: Site, K: Chronicle, R: Wait>(
+    rt: &R,
+    alloc: Global,
+    parts: BoardParts,
+    calls: Calls,
+    tally: &Tally,
+    histories: Histories,
+) -> Result<Option<Counts>, Fail>
+    requires named { IsNamed B.name B.parts B.queue B.lanes parts }
+    requires lanes { length parts.queues ≡ 2 }
+    requires sized { B.max_size ≡ 1000 }
+    requires written { histories.written ≡ J.history }
+    requires drawn { histories.drawn ≡ K.history }
+    requires nothing { J.premise → ⊥ }
+    requires same { J.history ≡ B.history }
+{
+    let Ok(current) = current(alloc, calls.heads) else {
+        return Ok(None);
+    };
+    let (board, mut seat) = board_of::<B, R>(rt, alloc, parts)?;
+    let disks = (disk(alloc, (calls.log, 0)), disk(alloc, (0, 0)));
+    let opened: Result<Store<File, &Tally, J, K>, Unrestored> = store_of(
+        rt,
+        alloc,
+        &board,
+        &mut seat,
+        (disks, FIRST),
+        tally,
+        histories,
+    );
+    let Ok(store) = opened else {
+        return Ok(None);
+    };
+    let mut keeper = Stored::new(rt, &board, &store, &mut seat);
+    change(alloc, &mut keeper, &BEFORE)?;
+    let count = AtomicU64::new(0);
+    let folder = Meanwhile {
+        rt,
+        alloc,
+        board: &board,
+        store: &store,
+        calls: calls.shorter,
+        count: &count,
+    };
+    let shortening = Shortening::new(current, ended(rt, alloc), folder, 2, 0);
+    shortening.shorten(rt, alloc, &store);
+    let first = count.load(Ordering::SeqCst);
+    change(alloc, &mut keeper, &AFTER)?;
+    shortening.shorten(rt, alloc, &store);
+    Ok(Some((first, count.load(Ordering::SeqCst))))
+}
+
+/// The upload 1, which has ended.
+fn ended<R: Wait>(rt: &R, alloc: Global) -> EndedUploads {
+    let ended = EndedUploads::new(alloc);
+    ended.note(
+        rt,
+        EndedUpload {
+            id: Id::new(1),
+            events: 2,
+            bytes: 1000,
+        },
+    );
+    ended
+}
+
+fn run<R: Wait>(
+    rt: &R,
+    alloc: Global,
+    calls: Calls,
+    tally: &Tally,
+) -> Result<Option<Counts>, Fail> {
+    let parts = BoardParts::new(alloc, 2, 4)?;
+    let histories = Histories::new();
+    run_by::<Brand, Brand, Brand, R>(rt, alloc, parts, calls, tally, histories)
+}
+
+/// The generations whose files are asked for when calls of one log fail, one call in each run.
+fn asked<R: Wait>(rt: &R, alloc: Global, is_shorter: bool) -> Result<Vec<(u64, u64)>, Fail> {
+    let mut asked = Vec::new(alloc);
+    for call in 1..60 {
+        let tally = Tally::new();
+        let calls = if is_shorter {
+            Calls {
+                shorter: call,
+                ..NONE
+            }
+        } else {
+            Calls { log: call, ..NONE }
+        };
+        run(rt, alloc, calls, &tally)?;
+        if let Some(generations) = tally.generations() {
+            asked.push(generations)?;
+        }
+    }
+    Ok(asked)
+}
+
+#[test]
+fn the_file_of_the_same_generation_is_opened_again(rt: HostRuntime) -> Result<(), Fail> {
+    for (is_shorter, want) in [(false, FIRST), (true, FIRST + 1)] {
+        let asked = asked(&rt, rt.alloc(), is_shorter)?;
+        assert!(rt; asked.len() > 0);
+        for generations in asked.iter() {
+            expect_same(&rt, generations, &(want, want));
+        }
+    }
+    Ok(())
+}
+
+/// How often no change is made any more, how often a log was made shorter, and could not be, and how often logs were
+/// made or removed.
+type Ending = (u64, [u64; 2], Counts);
+
+/// What happens if these calls of the heads fail. `None` if the heads can't be opened.
+fn ending<R: Wait>(rt: &R, alloc: Global, heads: (u64, u64)) -> Result<Option<Ending>, Fail> {
+    let tally = Tally::new();
+    let Some(counts) = run(rt, alloc, Calls { heads, ..NONE }, &tally)? else {
+        return Ok(None);
+    };
+    Ok(Some((tally.counts()[2], tally.switches(), counts)))
+}
+
+#[test]
+fn logs_stay_once_the_current_one_is_unknown(rt: HostRuntime) -> Result<(), Fail> {
+    let alloc = rt.alloc();
+    let mut endings = Vec::new(alloc);
+    for call in 1..20 {
+        if let Some(ending) = ending(&rt, alloc, (call, 0))? {
+            endings.push(ending)?;
+        }
+    }
+    // A head takes two writes and two syncs. If the first write fails, there is still the head before. A log was made
+    // and removed, and another try replaces the old log.
+    let kept = (0, [1, 1], (2, 4));
+    // If the others fail, nobody knows. A log was made. It stays, and so does the old one.
+    let unknown = (1, [0, 0], (1, 1));
+    // If none fails, a log was made, and the old one was removed.
+    let shorter = (0, [1, 0], (2, 2));
+    let want = [kept, unknown, unknown, unknown, shorter, shorter];
+    expect_same(&rt, &endings.as_slice(), &want.as_slice());
+    Ok(())
+}
+
+#[test]
+fn changes_go_on_while_the_heads_have_no_room(rt: HostRuntime) -> Result<(), Fail> {
+    let alloc = rt.alloc();
+    let mut endings = Vec::new(alloc);
+    for call in 1..15 {
+        if let Some(ending) = ending(&rt, alloc, (call, call + 1))? {
+            endings.push(ending)?;
+        }
+    }
+    // The first write of a head fails, and so does the next write that is tried, whichever it is: that of the second
+    // try. Each try has made a log and removed it.
+    let full = (0, [0, 2], (2, 4));
+    expect_same(&rt, &endings.as_slice(), &[full].as_slice());
+    Ok(())
+}
