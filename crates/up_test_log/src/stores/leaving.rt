@@ -86,6 +86,7 @@ fn start_by<B: Naming, J: Site + Send, K: Chronicle + Send, R: Wait>(
         histories,
         &tally,
         shortening,
+        Vec::new(alloc),
     )?;
     let (_seat, is_read) = keeping.begin(rt, alloc, &board, seat);
     Ok((

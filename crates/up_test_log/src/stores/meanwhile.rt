@@ -21,8 +21,7 @@ use up_handed::EndedUpload;
 use up_history::Chronicle;
 use up_log::{LogFault, LogReader};
 use up_message::Sequence;
-use up_replay::Unrestored;
-use up_store::{Current, EndedUploads, Folder, Histories, Shortening, Store, Stored};
+use up_store::{Current, EndedUploads, Folder, Histories, Shortening, Store, Stored, Unrestored};
 use up_tie::Site;
 
 /// A disk of which two calls can fail.
