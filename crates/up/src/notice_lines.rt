@@ -21,7 +21,7 @@ impl<'a, R> NoticeLines<'a, R> {
 }
 
 /// The milliseconds of the system's clock that never goes back, or 0 if there is none.
-fn milliseconds<R: Clock>(rt: &R) -> u64 {
+pub fn milliseconds<R: Clock>(rt: &R) -> u64 {
     match rt.monotonic() {
         Ok(time) => u64::try_from(time.as_millis()).unwrap_or(u64::MAX),
         Err(_) => 0,

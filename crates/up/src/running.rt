@@ -321,7 +321,7 @@ fn run_named<
         counts,
         spare,
     } = files;
-    let lines = StoreLines::new(folder.rt, log, spare);
+    let lines = StoreLines::new(rt, folder.rt, log, spare);
     let ended = EndedUploads::new(rt.alloc());
     let shortening = Shortening::new(current, ended, folder, settings.lanes, LEAST_LOG);
     let keeping: Keeping<_, _, _, J, K> = Keeping::new(

@@ -1,6 +1,7 @@
 //! What is printed about a store.
 ghost use Rattle.std.specs.Prelude.{⊤};
 
+use crate::notice_lines::milliseconds;
 use crate::room::{give_up_room, keep_room};
 use crate::store_folder::StoreFile;
 use sqlite_std_file::Wary;
@@ -8,10 +9,13 @@ use std::alloc::AllocError;
 use std::os::unix::fs::MetadataExt;
 use std::sync::atomic::{AtomicBool, Ordering};
 use std::sync::{Mutex, Wait};
+use std::time::Clock;
 use std::{fmt, fs, io};
+use up_history::Chronicle;
 use up_log::{LogFault, open_device};
 use up_replay::Unreplayed;
-use up_store::{LogFile, StoreNotices, Unrestored};
+use up_store::{LogFile, StoreNotices, Storing, Told, Unrestored};
+use up_tie::Batch;
 
 /// The file at a path, as the system knows it.
 #[derive(Clone, Copy, PartialEq, Eq)]
@@ -45,10 +49,13 @@ impl fmt::Display for Reason {
     }
 }
 
-/// Prints lines on standard error about a store, opens the file of its changes, and keeps room for removals.
+/// Prints lines on standard error about a store, opens the file of its changes, and keeps room for removals. No two of
+/// the lines that say whether changes are stored are printed within a second.
 #[derive(Drop)]
-pub struct StoreLines<'a> {
-    rt: &'a HostRuntime,
+pub struct StoreLines<'a, R> {
+    rt: &'a R,
+    /// Whose files the store has.
+    host: &'a HostRuntime,
     /// The path of the first log of the changes. The path of a later one ends with its generation.
     log: String,
     /// The path of the file that keeps room.
@@ -57,18 +64,22 @@ pub struct StoreLines<'a> {
     is_unread: AtomicBool,
     /// The file of the log, once it was looked for.
     known: Mutex<Option<Known>>,
+    /// What was printed about whether changes are stored.
+    told: Mutex<Told>,
 }
 
-impl<'a> StoreLines<'a> {
+impl<'a, R> StoreLines<'a, R> {
     /// No line was printed yet. The changes are in the file at the path `log`, and the file at the path `spare` keeps
     /// room.
-    pub fn new(rt: &'a HostRuntime, log: String, spare: String) -> StoreLines<'a> {
+    pub fn new(rt: &'a R, host: &'a HostRuntime, log: String, spare: String) -> StoreLines<'a, R> {
         StoreLines {
             rt,
+            host,
             log,
             spare,
             is_unread: AtomicBool::new(false),
             known: Mutex::new(None),
+            told: Mutex::new(Told::new()),
         }
     }
 
@@ -76,13 +87,13 @@ impl<'a> StoreLines<'a> {
     fn path_of(&self, generation: u64) -> Result<String, AllocError> {
         let log = self.log.as_str();
         if generation == 0 {
-            return String::from_str(self.rt.alloc(), log);
+            return String::from_str(self.host.alloc(), log);
         }
-        format!(in self.rt.alloc(); "{log}.{generation}")
+        format!(in self.host.alloc(); "{log}.{generation}")
     }
 
     /// Whether this is the file that was found when a log of this generation was first looked for.
-    fn is_known<R: Wait>(&self, rt: &R, found: Known) -> bool {
+    fn is_known<W: Wait>(&self, rt: &W, found: Known) -> bool {
         let mut known = self.known.lock(rt);
         match *known {
             Some(first) if first.generation == found.generation => first == found,
@@ -99,9 +110,25 @@ impl<'a> StoreLines<'a> {
     }
 }
 
-impl StoreNotices for &StoreLines<'_> {
+impl<R: Eprint + Clock + Wait> StoreLines<'_, R> {
+    /// Takes the news whether changes are stored, if there are any, and prints what is due.
+    fn tell(&self, news: Option<Storing>) {
+        let mut told = self.told.lock(self.rt);
+        if let Some(news) = news {
+            told.note(news);
+        }
+        let _ = match told.due(milliseconds(self.rt)) {
+            Some(Storing::Refused(fault)) => {
+                eprintln!(self.rt; "up_server: changes can't be stored, and are refused: {fault}")
+            }
+            Some(Storing::Stored) => eprintln!(self.rt; "up_server: changes are stored again"),
+            None => Ok(()),
+        };
+    }
+}
+
+impl<R: Eprint + Clock + Wait> StoreNotices for &StoreLines<'_, R> {
     fn is_restored(&self, entries: u64) {
-        keep_room(self.rt, self.spare.as_str());
         let _ = eprintln!(self.rt; "up_server: the store was read: {entries} changes");
     }
 
@@ -112,12 +139,11 @@ impl StoreNotices for &StoreLines<'_> {
     }
 
     fn fails(&self, fault: LogFault) {
-        let _ = eprintln!(self.rt; "up_server: changes can't be stored, and are refused: {fault}");
+        self.tell(Some(Storing::Refused(fault)));
     }
 
     fn works(&self) {
-        let _ = eprintln!(self.rt; "up_server: changes are stored again");
-        keep_room(self.rt, self.spare.as_str());
+        self.tell(Some(Storing::Stored));
     }
 
     fn stops(&self, fault: LogFault) {
@@ -140,12 +166,23 @@ impl StoreNotices for &StoreLines<'_> {
         let _ = eprintln!(self.rt; "up_server: the log can't be made shorter yet: {fault}");
     }
 
-    fn makes_room(&self) -> bool {
-        give_up_room(self.rt, self.spare.as_str())
+    fn is_later(&self) {
+        self.tell(None);
+    }
+
+    fn keeps_room(&self, for_others: bool) -> Result<(), LogFault> {
+        match keep_room(self.host, self.spare.as_str(), for_others) {
+            Ok(()) => Ok(()),
+            Err(error) => Err(LogFault::Disk(error)),
+        }
+    }
+
+    fn makes_room<K: Chronicle>(&self, _batch: &Batch<K>) -> bool {
+        give_up_room(self.host, self.spare.as_str())
     }
 }
 
-impl LogFile<StoreFile> for &StoreLines<'_> {
+impl<R> LogFile<StoreFile> for &StoreLines<'_, R> {
     // No contract says which path a file was opened at.
     ghost is_file = { λ _ _. ⊤ };
 
@@ -156,14 +193,14 @@ impl LogFile<StoreFile> for &StoreLines<'_> {
     ) -> Result<StoreFile, LogFault> {
         drop(failed);
         let path = self.path_of(generation)?;
-        open_device(self.rt, path.as_str(), Wary)
+        open_device(self.host, path.as_str(), Wary)
     }
 
-    fn is_there<R: Wait>(&self, rt: &R, generation: u64) -> bool {
+    fn is_there<W: Wait>(&self, rt: &W, generation: u64) -> bool {
         let Ok(path) = self.path_of(generation) else {
             return true;
         };
-        match fs::metadata(self.rt, path.as_str()) {
+        match fs::metadata(self.host, path.as_str()) {
             Ok(found) => self.is_known(
                 rt,
                 Known {

@@ -3,3 +3,4 @@ pub mod Failures
 pub mod Lines
 pub mod Permits
 pub mod StoredCommits
+pub mod Told

@@ -1,12 +1,13 @@
 -- How far a line of changes has come.
-use Rattle.std.specs.Prelude.{◌≡◌, ℕ, zero, suc, ◌+◌, ◌^◌, ◌-◌, ◌<◌, ◌≤◌, Bool, false, List, [], ◌∷◌, ◌++◌, length, min}
+use Rattle.std.specs.Prelude.{◌≡◌, ℕ, zero, suc, ◌+◌, ◌^◌, ◌-◌, ◌<◌, ◌≤◌, Bool, true, false, List, [], ◌∷◌, ◌++◌, length, min, All}
+use Rattle.up_headers.specs.declared.request.Request.TheVariants.{Delete}
 use Rattle.up_log.specs.declared.entry.Entry.{Entry}
 use Rattle.up_tie.specs.Ties.{Span}
 
 -- the changes that were drawn, and those of them that nobody has begun to write; the number of the change whose turn
 -- comes next, how many from there on are on the disk, and how many after these could not be written; whether a batch is
--- being written, whether nobody may begin to write, and whether no change is made any more; and the numbers of entries
--- that had their turn, in the current log and in the history of what was written
+-- being written, whether nobody may begin to write, whether no change is made any more, and whether only removals are
+-- drawn; and the numbers of entries that had their turn, in the current log and in the history of what was written
 pub record Progress : Type 0 where
   pub drawn : List Entry
   pub waiting : List Entry
@@ -16,12 +17,21 @@ pub record Progress : Type 0 where
   pub is_writing : Bool
   pub is_held : Bool
   pub is_over : Bool
+  pub is_for_removals : Bool
   pub place : ℕ
   pub decided : ℕ
 
 -- ys ends with xs
 abbrev pub IsSuffix : List Entry → List Entry → Type 0
 IsSuffix xs ys = (before : List Entry) × (ys ≡ before ++ xs)
+
+-- it removes an upload
+abbrev pub IsRemoval : Entry → Type 0
+IsRemoval entry = (id : ℕ) × (entry.request ≡ Delete id)
+
+-- if only removals are drawn, these are removals
+abbrev pub AreDrawn : Bool → List Entry → Type 0
+AreDrawn is_for_removals entries = is_for_removals ≡ true → All IsRemoval entries
 
 -- all changes before it had their turn, and it is known to be on the disk or lost
 abbrev pub HasTurn : Progress → ℕ → Type 0

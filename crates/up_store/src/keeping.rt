@@ -172,6 +172,7 @@ impl<
                 self.shortening.tidy_up(rt, entries);
                 self.store.open(rt, logs, generation);
                 self.store.notices.is_restored(entries);
+                self.store.keep_room(rt);
                 (seat, true)
             }
             Err(why) => {

@@ -3,18 +3,21 @@
 
 mod ended;
 mod folder;
+mod full;
 mod held;
 mod holding;
 mod keeping;
 mod line;
 mod notices;
 mod permit;
+mod removal;
 mod restoring;
 mod shortening;
 mod shorter;
 mod store;
 mod stored;
 mod tending;
+mod told;
 mod unrestored;
 mod voids;
 
@@ -29,5 +32,6 @@ pub use restoring::{Least, Logs};
 pub use shortening::{Current, Shortening};
 pub use store::{Histories, Store};
 pub use stored::Stored;
+pub use told::{Storing, Told};
 pub use unrestored::Unrestored;
 pub use voids::Voids;

@@ -1,10 +1,11 @@
 //! The order of changes.
 ghost use Rattle.std.specs.Prelude.{◌≡◌, ◌⊎◌, ◌<◌, ◌↔◌, ◌++◌, [], IfOk, IsErr, OnErr, IsTrue, Some, true, false};
-ghost use Rattle.std.specs.Prelude.{length, ◌+◌};
-ghost use Rattle.up_store.specs.Lines.{IsLost, HasTurn, MayWrite, Takes, Places};
+ghost use Rattle.std.specs.Prelude.{length, ◌+◌, OnOk};
+ghost use Rattle.up_store.specs.Lines.{AreDrawn, IsLost, IsRemoval, HasTurn, MayWrite, Takes, Places};
 ghost use Rattle.up_store.specs.Lines.{first_unknown, has_drawn, has_had_turn, has_lost_rest, has_written};
 ghost use Rattle.up_store.specs.declared.line.Next.TheVariants.{Commit, Refuse, Wait, Write};
 
+use crate::removal::is_removal;
 use std::alloc::{AllocError, Global};
 use std::collections::VecDeque;
 use std::marker::Model;
@@ -48,6 +49,8 @@ pub struct Line<J: Chronicle, K: Chronicle> {
     is_held: bool,
     /// Whether no change is made any more.
     is_over: bool,
+    /// Whether only removals are drawn.
+    is_for_removals: bool,
     /// The changes that are on the disk and had no turn yet.
     on_disk: OnDisk<J, K>,
     /// How many changes after these could not be written and had no turn yet.
@@ -58,7 +61,7 @@ pub struct Line<J: Chronicle, K: Chronicle> {
 
 impl<J: Chronicle, K: Chronicle> Model for Line<J, K> {
     ghost use Rattle.std.specs.Prelude.{length};
-    ghost use Rattle.up_store.specs.Lines.{IsSuffix, Progress};
+    ghost use Rattle.up_store.specs.Lines.{AreDrawn, IsSuffix, Progress};
 
     ghost Value = { Progress };
 
@@ -71,11 +74,13 @@ impl<J: Chronicle, K: Chronicle> Model for Line<J, K> {
       is_writing = l.is_writing;
       is_held = l.is_held;
       is_over = l.is_over;
+      is_for_removals = l.is_for_removals;
       place = l.place;
       decided = l.on_disk.place;
     } };
 
-    ghost invariant = { λ l. IsSuffix l.waiting.items l.drawn };
+    ghost invariant = { λ l. IsSuffix l.waiting.items l.drawn
+        × AreDrawn l.is_for_removals l.waiting.items };
 }
 
 /// Moves the first of those that wait to the end of the batch, as long as it has room.
@@ -114,6 +119,7 @@ impl<J: Chronicle, K: Chronicle> Line<J, K> {
             × (l.count ≡ 0) × (l.lost ≡ 0)) }
         ensures open { IfOk result (λ l. (l.is_writing ≡ false) × (l.is_held ≡ false)
             × (l.is_over ≡ false)) }
+        ensures all { IfOk result (λ l. l.is_for_removals ≡ false) }
         ensures place { IfOk result (λ l. (l.place ≡ length written)
             × (l.decided ≡ length written)) }
     {
@@ -126,6 +132,7 @@ impl<J: Chronicle, K: Chronicle> Line<J, K> {
             is_writing: false,
             is_held: false,
             is_over: false,
+            is_for_removals: false,
             lost: 0,
             place: written.len(),
             on_disk: OnDisk::none(written.len(), 0, written, drawn.again()),
@@ -158,15 +165,19 @@ impl<J: Chronicle, K: Chronicle> Line<J, K> {
     }
 
     /// Draws the next number for a change, and returns a receipt for it. `AllocError` if memory or the numbers run out,
-    /// or if no change is made any more. No number was drawn then.
+    /// if no change is made any more, or if only removals are drawn and it is none. No number was drawn then.
     pub fn draw(&mut self, change: Spelled, entry: &Entry) -> Result<Receipt<Entry, K>, AllocError>
         requires same { change ≡ entry.now }
         ensures drawn { IfOk result (λ r. (r.number ≡ length self.old.drawn)
             × (r.entry ≡ Some entry.now) × (self.new ≡ has_drawn self.old entry.now)) }
         ensures over { self.old.is_over ≡ true → IsErr result }
+        ensures removals { self.old.is_for_removals ≡ true → OnOk result (IsRemoval entry.now) }
         ensures none { OnErr result (self.new ≡ self.old) }
     {
         if self.is_over || self.drawn.len() == u64::MAX {
+            return Err(AllocError);
+        }
+        if self.is_for_removals && !is_removal(entry) {
             return Err(AllocError);
         }
         let mut drawn = self.drawn.again();
@@ -191,6 +202,8 @@ impl<J: Chronicle, K: Chronicle> Line<J, K> {
         ensures wait { result ≡ Wait → self.new ≡ self.old }
         ensures write { (batch : _) → result ≡ Write batch
             → Takes self.old self.new batch.entries × MayWrite self.old }
+        ensures removals { (batch : _) → result ≡ Write batch
+            → AreDrawn self.old.is_for_removals batch.entries }
         ensures commit { (receipt : _) → result ≡ Commit receipt → (self.new ≡ self.old)
             × HasTurn self.old change.now.number × (¬ IsLost self.old change.now.number)
             × (self.old.is_over ≡ false) }
@@ -240,6 +253,36 @@ impl<J: Chronicle, K: Chronicle> Line<J, K> {
         self.is_held = false;
     }
 
+    /// Only removals are drawn from now on, until `take_all` is called, and none of the changes that wait is written.
+    /// Nothing changes while a batch is being written. Returns whether none is.
+    pub fn take_removals(&mut self) -> bool
+        ensures when { IsTrue result ↔ (self.old.is_writing ≡ false) }
+        ensures taken { IsTrue result
+            → self.new ≡ record (has_lost_rest self.old) { is_for_removals = true } }
+        ensures busy { result ≡ false → self.new ≡ self.old }
+    {
+        if self.is_writing {
+            return false;
+        }
+        self.lose_rest();
+        self.is_for_removals = true;
+        true
+    }
+
+    /// All changes are drawn again.
+    pub fn take_all(&mut self)
+        ensures { self.new ≡ record self.old { is_for_removals = false } }
+    {
+        self.is_for_removals = false;
+    }
+
+    /// Whether only removals are drawn.
+    pub fn is_for_removals(&self) -> bool
+        ensures { result ≡ self.now.is_for_removals }
+    {
+        self.is_for_removals
+    }
+
     /// Whether nothing is being written, and all changes that are known to be on the disk or lost had their turn.
     pub fn is_still(&self) -> bool
         ensures { IsTrue result ↔ (self.now.is_writing ≡ false)
@@ -274,7 +317,8 @@ impl<J: Chronicle, K: Chronicle> Line<J, K> {
     /// Takes the first of those that wait, and notes that they are being written.
     fn begin_batch(&mut self, alloc: Global) -> Batch<K>
         requires { MayWrite self.old }
-        ensures { Takes self.old self.new result.entries }
+        ensures taken { Takes self.old self.new result.entries }
+        ensures removals { AreDrawn self.old.is_for_removals result.entries }
     {
         let first = self.drawn.len() - self.waiting.len() as u64;
         let mut changes = mem::replace(&mut self.room, Vec::new(alloc));

@@ -116,6 +116,11 @@ impl<D: Disk, F> Shortening<D, F> {
         }
     }
 
+    /// There is room again, so a log that could not be made shorter is tried again once that is due.
+    pub(crate) fn try_again(&self) {
+        self.next.store(self.least, Ordering::SeqCst);
+    }
+
     /// Whether the log of the store is long and works, and more than half of it may be left out.
     fn is_due<N, J: Site, K: Chronicle, R: Wait>(&self, rt: &R, store: &Store<D, N, J, K>) -> bool {
         let less = self.ended.bytes(rt);
@@ -182,7 +187,7 @@ impl<D: Disk + Drop, F: Folder<D>> Shortening<D, F> {
     /// Reports why the log was not replaced.
     fn tell<N: StoreNotices, J: Site, K: Chronicle>(&self, store: &Store<D, N, J, K>, kept: Kept) {
         match kept {
-            Kept::Long => {}
+            Kept::Long | Kept::Full => {}
             Kept::Fault(fault) => store.notices.is_not_shorter(fault),
             Kept::Unknown(fault) => store.notices.stops(fault),
         }

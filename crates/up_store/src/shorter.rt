@@ -19,6 +19,8 @@ use up_tie::Site;
 pub(crate) enum Kept {
     /// The new one would not be short enough.
     Long,
+    /// The disk is full, and the room that is left is for removals.
+    Full,
     /// The new one could not be written.
     Fault(LogFault),
     /// It is not known which of the two the next start finds, so no change may be made until then.
@@ -153,7 +155,7 @@ where
     }
 
     /// Adds the next batch of the store's log, if all of its entries come before the place `end`. Returns whether they
-    /// do. `Long` if the new log has become too long.
+    /// do. `Long` if the new log has become too long, and `Full` if only removals are drawn.
     fn add_next<N, J: Site, K: Chronicle, R: Wait>(
         &mut self,
         rt: &R,
@@ -161,6 +163,9 @@ where
         store: &Store<D, N, J, K>,
         end: u64,
     ) -> Result<bool, Kept> {
+        if store.is_for_removals(rt) {
+            return Err(Kept::Full);
+        }
         let Some((entries, next)) = store.batch_at(rt, alloc, self.progress.place)? else {
             return Ok(false);
         };

@@ -1,6 +1,7 @@
 //! What the seats of a store share.
-ghost use Rattle.std.specs.Prelude.{◌≡◌, [], IfOk, IfSome, Some};
-ghost use Rattle.up_store.specs.declared.line.Next.TheVariants.{Commit};
+ghost use Rattle.std.specs.Prelude.{◌≡◌, [], All, IfOk, IfSome, IsTrue, Some};
+ghost use Rattle.up_store.specs.Lines.{IsRemoval};
+ghost use Rattle.up_store.specs.declared.line.Next.TheVariants.{Commit, Write};
 
 use crate::held::{Held, LogFile};
 use crate::line::{Line, Next};
@@ -53,8 +54,10 @@ pub struct Store<D: Disk, N, J: Site, K: Chronicle> {
     bells: Vec<Condvar>,
     /// Wakes the thread that waits until nothing is being written and every change has had its turn.
     pub(crate) stillness: Condvar,
-    /// Whether the last batch could not be written.
+    /// Whether the last batch could not be written, or only removals are drawn.
     pub(crate) is_failing: AtomicBool,
+    /// Whether the disk failed when the last batch was written.
+    pub(crate) is_full: AtomicBool,
     /// Whether the file of the log is gone.
     pub(crate) is_gone: AtomicBool,
     pub(crate) notices: N,
@@ -90,6 +93,7 @@ impl<D: Disk, N, J: Site, K: Chronicle> Store<D, N, J, K> {
             bells,
             stillness: Condvar::new(),
             is_failing: AtomicBool::new(false),
+            is_full: AtomicBool::new(false),
             is_gone: AtomicBool::new(false),
             notices,
         };
@@ -145,7 +149,7 @@ impl<D: Disk, N, J: Site, K: Chronicle> Store<D, N, J, K> {
     }
 
     /// Draws the next number for a change, and returns a receipt for it. The error is that memory or the numbers ran
-    /// out, or that no change is made any more.
+    /// out, that no change is made any more, or that only removals are drawn and this is none.
     pub(crate) fn draw<R: Wait>(
         &self,
         rt: &R,
@@ -177,17 +181,22 @@ impl<D: Disk, N, J: Site, K: Chronicle> Store<D, N, J, K> {
         self.stillness.notify_all();
     }
 
-    /// Waits until there is something to do for the change with this receipt, and returns what.
-    fn next<R: Wait>(&self, rt: &R, alloc: Global, change: &Receipt<Entry, K>) -> Next<J, K>
-        ensures { (receipt : _) → result ≡ Commit receipt → receipt.entry ≡ change.now.entry }
+    /// Waits until there is something to do for the change with this receipt. Returns what, and whether only removals
+    /// are drawn.
+    fn next<R: Wait>(&self, rt: &R, alloc: Global, change: &Receipt<Entry, K>) -> (Next<J, K>, bool)
+        ensures entry { (receipt : _) → result.0 ≡ Commit receipt
+            → receipt.entry ≡ change.now.entry }
+        ensures removals { (batch : _) → result.0 ≡ Write batch → IsTrue result.1
+            → All IsRemoval batch.entries }
     {
         let number = change.number();
         let line = self.line.lock(rt);
         let Some(bell) = self.bells.get((number % BELLS) as usize) else {
-            return Next::Refuse;
+            return (Next::Refuse, false);
         };
         let mut line = bell.wait_while(rt, line, |line| line.is_waiting(number));
-        line.next(alloc, change)
+        let for_removals = line.is_for_removals();
+        (line.next(alloc, change), for_removals)
     }
 
     /// The change whose turn it was has had it.
@@ -214,8 +223,13 @@ impl<D: Disk + Drop, N: StoreNotices + LogFile<D>, J: Site, K: Chronicle> Store<
         written
     }
 
-    /// Reports it if writing has begun to fail or works again.
-    fn tell(&self, written: &Result<OnDisk<J, K>, LogFault>) {
+    /// Reports it if writing has begun to fail or works again. While only removals are drawn it doesn't work again.
+    fn tell(&self, written: &Result<OnDisk<J, K>, LogFault>, for_removals: bool) {
+        if for_removals && written.is_ok() {
+            return;
+        }
+        let is_full = matches!(written, Err(LogFault::Disk(_)));
+        self.is_full.store(is_full, Ordering::SeqCst);
         let was_failing = self.is_failing.swap(written.is_err(), Ordering::SeqCst);
         match written {
             Ok(_) if was_failing => self.notices.works(),
@@ -224,21 +238,40 @@ impl<D: Disk + Drop, N: StoreNotices + LogFile<D>, J: Site, K: Chronicle> Store<
         }
     }
 
+    /// Appends a batch of removals to the log. If the disk fails, the room that is kept for removals is freed, and the
+    /// batch is tried again.
+    fn append_removals<R: Wait>(
+        &self,
+        rt: &R,
+        alloc: Global,
+        batch: &Batch<K>,
+    ) -> Result<OnDisk<J, K>, LogFault>
+        requires removals { All IsRemoval batch.now.entries }
+    {
+        match self.append(rt, alloc, batch) {
+            Err(LogFault::Disk(_)) if self.notices.makes_room(batch) => {
+                self.append(rt, alloc, batch)
+            }
+            written => written,
+        }
+    }
+
     /// Writes a batch, and notes the result in the line.
-    fn write<R: Wait>(&self, rt: &R, alloc: Global, batch: Batch<K>) {
-        let written = self.append(rt, alloc, &batch);
-        self.tell(&written);
+    fn write<R: Wait>(&self, rt: &R, alloc: Global, batch: Batch<K>, for_removals: bool)
+        requires removals { IsTrue for_removals → All IsRemoval batch.entries }
+    {
+        let written = if for_removals {
+            self.append_removals(rt, alloc, &batch)
+        } else {
+            self.append(rt, alloc, &batch)
+        };
+        self.tell(&written, for_removals);
         let mut line = self.line.lock(rt);
         match &written {
             Ok(on_disk) => line.note_written(batch, on_disk),
             Err(_) => line.note_lost(batch),
         }
         self.go_on(line.first_two());
-    }
-
-    /// Frees the room on the disk that is kept for removals. Returns whether there was some.
-    pub(crate) fn makes_room(&self) -> bool {
-        self.notices.makes_room()
     }
 
     /// Waits for the turn of the change with this receipt, and writes batches meanwhile if nobody else does. Returns a
@@ -252,9 +285,10 @@ impl<D: Disk + Drop, N: StoreNotices + LogFile<D>, J: Site, K: Chronicle> Store<
         ensures { IfSome result (λ r. r.entry ≡ change.now.entry) }
     {
         for _ in rt.forever() {
-            match self.next(rt, alloc, change) {
+            let (next, for_removals) = self.next(rt, alloc, change);
+            match next {
                 Next::Wait => {}
-                Next::Write(batch) => self.write(rt, alloc, batch),
+                Next::Write(batch) => self.write(rt, alloc, batch, for_removals),
                 Next::Commit(receipt) => return Some(receipt),
                 Next::Refuse => break,
             }

@@ -18,6 +18,10 @@ use up_log::{Consent, Entry, Spelled};
 use up_machine::{Asked, Done, Plan, Refusal};
 use up_tie::Site;
 
+/// How many times at most a removal is written: once among other changes, and then among removals alone, unless all
+/// changes are drawn again in between.
+const MAX_TRIES: u32 = 3;
+
 /// A board, through one of its seats, and a log. Each change is on the disk before the board makes it. The board
 /// follows the history of what was written to the log.
 #[derive(Drop)]
@@ -82,33 +86,28 @@ impl<
         }
     }
 
-    /// Writes a change and waits for its turn. Returns a receipt for its entry if it is on the disk and may be made; if
-    /// not, its turn is over. The error is that memory ran out, or that no change is made any more; it has no turn
-    /// then.
+    /// Writes a change and waits for its turn. Returns a receipt for its entry if it is on the disk and may be made. The
+    /// error is that memory ran out, that no change is made any more, or that only removals are; it has no turn then.
     fn write(&self, alloc: Global, entry: &Entry) -> Result<Option<Receipt<Entry, J>>, AllocError>
         ensures { IfOk result (λ r. IfSome r (λ receipt. receipt.entry ≡ Some entry.now)) }
     {
         let change = Spelled::new(alloc, entry)?;
         let drawn = self.store.draw(self.rt, change, entry)?;
-        let receipt = self.store.await_turn(self.rt, alloc, &drawn);
-        if receipt.is_none() {
-            self.store.end_turn(self.rt);
-        }
-        Ok(receipt)
+        Ok(self.store.await_turn(self.rt, alloc, &drawn))
     }
 
-    /// As `write`. If a removal can't be written, frees the room that is kept for removals, and tries once more.
+    /// As `write`, but if there is no receipt its turn is over. If there is no room for a removal, only removals are
+    /// drawn from then on, and it is tried again.
     fn keep(&self, alloc: Global, entry: &Entry) -> Result<Option<Receipt<Entry, J>>, AllocError>
         ensures { IfOk result (λ r. IfSome r (λ receipt. receipt.entry ≡ Some entry.now)) }
     {
-        let receipt = self.write(alloc, entry)?;
-        if receipt.is_none()
-            && matches!(entry.request, Request::Delete(_))
-            && self.store.makes_room()
-        {
-            return self.write(alloc, entry);
+        for _ in 0..MAX_TRIES {
+            let receipt = self.write(alloc, entry)?;
+            if receipt.is_some() || !self.store.end_lost_turn(self.rt, entry) {
+                return Ok(receipt);
+            }
         }
-        Ok(receipt)
+        Ok(None)
     }
 }
 

@@ -42,7 +42,8 @@ impl<D: Disk + Drop, N: StoreNotices + LogFile<D>, J: Site, K: Chronicle> Store<
         if !held.is_failed() || held.open_again(&self.notices).is_err() {
             return;
         }
-        if self.is_failing.swap(false, Ordering::SeqCst) {
+        drop(held);
+        if self.is_mended(rt) {
             self.notices.works();
         }
     }
@@ -55,8 +56,9 @@ impl<D: Disk + Drop, N: StoreNotices + LogFile<D>, F: Folder<D>, J: Site, K: Chr
     J,
     K,
 > {
-    /// Tends the store every second, until `stop_tending` is called: opens its log again if a call on it failed, and
-    /// makes it shorter if that is due. If the file of the log is gone, no change is made from then on.
+    /// Tends the store every second, until `stop_tending` is called: opens its log again if a call on it failed, takes
+    /// all changes again if only removals are taken and there is room again, and makes the log shorter if that is due.
+    /// If the file of the log is gone, no change is made from then on.
     pub fn tend<R: Wait>(&self, rt: &R, alloc: Global) {
         for _ in rt.forever() {
             self.is_over.park_timeout(rt, 0, Duration::from_secs(PAUSE));
@@ -67,6 +69,10 @@ impl<D: Disk + Drop, N: StoreNotices + LogFile<D>, F: Folder<D>, J: Site, K: Chr
                 continue;
             }
             self.store.tend(rt);
+            if self.store.make_up_room(rt) {
+                self.shortening.try_again();
+            }
+            self.store.notices.is_later();
             self.shortening.shorten(rt, alloc, &self.store);
         }
     }

@@ -119,8 +119,8 @@ fn another_file_is_left_as_it_is(rt: HostRuntime) -> Result<(), Fail> {
 }
 
 /// The text of the fault of a call that must fail.
-fn text_of<T: Drop>(alloc: Global, result: Result<T, LogFault>) -> Result<String, Fail> {
-    match result {
+fn text_of<T: Drop>(alloc: Global, called: Result<T, LogFault>) -> Result<String, Fail> {
+    match called {
         Ok(_) => Err("a fault".into()),
         Err(fault) => Ok(format!(in alloc; "{fault}")?),
     }

@@ -22,6 +22,8 @@ mod replays;
 #[cfg(test)]
 mod same;
 #[cfg(test)]
+mod scarce;
+#[cfg(test)]
 mod shortening;
 #[cfg(test)]
 mod stores;

@@ -3,6 +3,7 @@ mod closing;
 mod counts;
 mod disks;
 mod failing;
+mod full;
 mod gone;
 mod leaving;
 mod meanwhile;

@@ -1,7 +1,7 @@
 //! Stores on disks that fail, for good or for one call.
 use super::running::{CommitResult, Job, Ran, Seen, plainly, restored, run_on};
 use super::tally::{Again, Tally};
-use super::together::{jobs_of, shared_file, told_plainly};
+use super::together::{jobs_of, jobs_that_keep, shared_file, told_plainly};
 use crate::full_once::FullOnce;
 use crate::logs::{Row, What};
 use crate::same::expect_same;
@@ -257,8 +257,8 @@ fn a_store_goes_on_once_its_disk_works(rt: HostRuntime) -> Result<(), Fail> {
     Ok(())
 }
 
-/// The reports during a run with three seats of a board with a disk of which one call fails. Checks that a crash leaves
-/// what succeeded, in the same order.
+/// The reports during a run with three seats of a board with a disk of which one call fails. Nothing is removed. Checks
+/// that a crash leaves what succeeded, in the same order.
 fn told_at_once<R: Threads + Wait + Abort + Sync>(
     rt: &R,
     alloc: Global,
@@ -269,7 +269,8 @@ fn told_at_once<R: Threads + Wait + Abort + Sync>(
         FullOnce::new(shared_file(alloc)?, calls),
         FullOnce::new(Memory::new(alloc), 0),
     );
-    let Some(Ran { seen, logs, .. }) = run_on(rt, alloc, disks, &tally, jobs_of(alloc)?)? else {
+    let Some(Ran { seen, logs, .. }) = run_on(rt, alloc, disks, &tally, jobs_that_keep(alloc)?)?
+    else {
         return Err("an open log".into());
     };
     let mut file = logs.changes.into_device().into_inner();

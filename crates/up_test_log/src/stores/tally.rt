@@ -2,14 +2,19 @@
 ghost use Rattle.std.specs.Prelude.{⊤};
 
 use crate::full_once::FullOnce;
+use crate::scarce::Scarce;
 use sqlite_disk::{Disk, Fuse, Memory};
+use std::io;
 use std::sync::Wait;
 use std::sync::atomic::{AtomicBool, AtomicU64, Ordering};
+use up_history::Chronicle;
 use up_log::LogFault;
 use up_store::{LogFile, StoreNotices, Unrestored};
+use up_tie::Batch;
 
 /// How often the store reported that changes cannot be written, that they can be again, and that none is made any more;
-/// and that a log was made shorter, and that it could not be. And which files it asked for.
+/// and that a log was made shorter, and that it could not be. And which files it asked for, and the room of a disk, as a
+/// number of writes.
 #[derive(Drop)]
 pub struct Tally {
     fails: AtomicU64,
@@ -23,6 +28,12 @@ pub struct Tally {
     /// The least and the greatest generation whose file was to be opened again.
     least: AtomicU64,
     greatest: AtomicU64,
+    /// The room that a `Scarce` disk has.
+    room: AtomicU64,
+    /// The room that is kept for removals.
+    spare: AtomicU64,
+    /// Whether room can be kept for removals.
+    keeps: AtomicBool,
 }
 
 impl Tally {
@@ -37,6 +48,9 @@ impl Tally {
             is_away: AtomicBool::new(false),
             least: AtomicU64::new(u64::MAX),
             greatest: AtomicU64::new(0),
+            room: AtomicU64::new(u64::MAX),
+            spare: AtomicU64::new(0),
+            keeps: AtomicBool::new(true),
         }
     }
 
@@ -58,6 +72,24 @@ impl Tally {
             return None;
         }
         Some((least, greatest))
+    }
+
+    /// The room that a disk has.
+    pub fn room(&self) -> &AtomicU64 {
+        &self.room
+    }
+
+    /// The disk has this room left, and what is kept for removals.
+    pub fn fill(&self, room: u64, spare: u64) {
+        self.room.store(room, Ordering::SeqCst);
+        self.spare.store(spare, Ordering::SeqCst);
+        self.keeps.store(false, Ordering::SeqCst);
+    }
+
+    /// The disk has room again.
+    pub fn enlarge(&self) {
+        self.room.store(u64::MAX, Ordering::SeqCst);
+        self.keeps.store(true, Ordering::SeqCst);
     }
 
     /// How often a log was made shorter, and how often it could not be.
@@ -106,8 +138,22 @@ impl StoreNotices for &Tally {
         self.not_shorter.fetch_add(1, Ordering::SeqCst);
     }
 
-    fn makes_room(&self) -> bool {
-        false
+    fn is_later(&self) {}
+
+    fn keeps_room(&self, _for_others: bool) -> Result<(), LogFault> {
+        if self.keeps.load(Ordering::SeqCst) {
+            return Ok(());
+        }
+        Err(LogFault::Disk(io::Error::other("no room to keep")))
+    }
+
+    fn makes_room<K: Chronicle>(&self, _batch: &Batch<K>) -> bool {
+        let spare = self.spare.swap(0, Ordering::SeqCst);
+        if spare == 0 {
+            return false;
+        }
+        self.room.store(spare, Ordering::SeqCst);
+        true
     }
 }
 
@@ -132,6 +178,12 @@ impl<D: Disk> Again for Fuse<D> {
 impl<D: Disk> Again for FullOnce<D> {
     fn again(self) -> FullOnce<D> {
         FullOnce::new(self.into_inner(), 0)
+    }
+}
+
+impl<D: Disk> Again for Scarce<'_, D> {
+    fn again(self) -> Self {
+        self
     }
 }
 

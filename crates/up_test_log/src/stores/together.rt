@@ -51,6 +51,15 @@ pub fn jobs_of(alloc: Global) -> Result<Vec<Job>, AllocError> {
     Ok(jobs)
 }
 
+/// The same jobs without their removals.
+pub fn jobs_that_keep(alloc: Global) -> Result<Vec<Job>, AllocError> {
+    let mut jobs = jobs_of(alloc)?;
+    for job in jobs.iter_mut() {
+        job.rows.retain(|row| !matches!(row.0, What::Remove));
+    }
+    Ok(jobs)
+}
+
 /// The results of the rows of these jobs on a plain board.
 pub fn told_plainly<R: Wait>(rt: &R, alloc: Global) -> Result<Vec<Outcome>, Fail> {
     let mut outcomes = Vec::new(alloc);

@@ -16,6 +16,7 @@ returns-then-self-gt0 g c =
       is_writing = inside.is_writing;
       is_held = inside.is_held;
       is_over = inside.is_over;
+      is_for_removals = inside.is_for_removals;
       place = inside.place;
       decided = span.place;
     } in

@@ -1,0 +1,25 @@
+-- Which changes are drawn while only removals are.
+use Rattle.std.proofs.Common.{◌≡◌, Bool, List, [], ◌∷◌, ◌++◌, sym}
+use Rattle.std.specs.List.{All}
+use Rattle.std.proofs.lemmas.List.Elements.{All-nil, All-cons, All-head, All-tail, All-same}
+use Rattle.up_log.specs.declared.entry.Entry.{Entry}
+use Rattle.up_store.specs.Lines.{AreDrawn, IsRemoval}
+
+all_left : (xs ys : List Entry) → All IsRemoval (xs ++ ys) → All IsRemoval xs
+all_left [] ys all = All-nil IsRemoval
+all_left (x ∷ xs) ys all = All-cons IsRemoval x xs (All-head IsRemoval x (xs ++ ys) all) (all_left xs ys (All-tail IsRemoval x (xs ++ ys) all))
+
+all_right : (xs ys : List Entry) → All IsRemoval (xs ++ ys) → All IsRemoval ys
+all_right [] ys all = all
+all_right (x ∷ xs) ys all = all_right xs ys (All-tail IsRemoval x (xs ++ ys) all)
+
+-- no changes
+pub none_drawn : (is : Bool) (xs : List Entry) → xs ≡ [] → AreDrawn is xs
+none_drawn is xs none on = All-same IsRemoval xs [] none (All-nil IsRemoval)
+
+-- the first of those that wait, and the rest
+pub first_drawn : (is : Bool) (all first rest : List Entry) → all ≡ first ++ rest → AreDrawn is all → AreDrawn is first
+first_drawn is all first rest same drawn on = all_left first rest (All-same IsRemoval (first ++ rest) all (sym same) (drawn on))
+
+pub rest_drawn : (is : Bool) (all first rest : List Entry) → all ≡ first ++ rest → AreDrawn is all → AreDrawn is rest
+rest_drawn is all first rest same drawn on = all_right first rest (All-same IsRemoval (first ++ rest) all (sym same) (drawn on))

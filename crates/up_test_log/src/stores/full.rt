@@ -1,0 +1,306 @@
+//! Stores on a full disk, which has room for removals alone.
+ghost use Rattle.std.specs.Prelude.{◌≡◌, length};
+ghost use Rattle.up_dispatch.specs.Parts.{IsNamed};
+
+use super::disks::{file_of, files_of};
+use super::running::{
+    CommitResult, Job, Ran, board_of, change, plainly, restored, run_on, store_on,
+};
+use super::tally::Tally;
+use crate::logs::{Row, What};
+use crate::same::expect_same;
+use crate::scarce::Scarce;
+use sqlite_disk::Memory;
+use std::alloc::{AllocError, Global};
+use std::marker::{Brand, Sync};
+use std::process::Abort;
+use std::sync::Wait;
+use std::sync::atomic::Ordering;
+use std::test::Fail;
+use std::thread::Threads;
+use up_dispatch::{BoardParts, Naming};
+use up_history::Chronicle;
+use up_machine::Refusal;
+use up_store::{Histories, Store, Stored};
+use up_tie::Site;
+
+/// The uploads that are created first.
+const FIRST: [Row; 4] = [
+    (What::Make, 1, 4),
+    (What::Make, 2, 4),
+    (What::Make, 3, 4),
+    (What::Make, 4, 4),
+];
+
+/// Changes that are no removals.
+const OTHERS: [Row; 2] = [(What::Make, 5, 4), (What::Put, 4, 3)];
+
+/// What a store is asked to do, one after another.
+#[derive(Clone, Copy)]
+enum Step {
+    /// Creates the first uploads.
+    Begin,
+    /// Makes the other changes.
+    Others,
+    /// Removes the upload with this id.
+    Remove(u128),
+    /// The disk is full, and this many writes of removals are kept.
+    Fill(u64),
+    /// The disk has room.
+    Enlarge,
+    /// Keeps room at the start.
+    Start,
+    /// Looks whether there is room again.
+    Look,
+}
+
+/// The rows of a step.
+fn rows_of(alloc: Global, step: Step) -> Result<Vec<Row>, AllocError> {
+    match step {
+        Step::Begin => Vec::from_slice(alloc, &FIRST),
+        Step::Others => Vec::from_slice(alloc, &OTHERS),
+        Step::Remove(id) => Vec::from_slice(alloc, &[(What::Remove, id, 0)]),
+        _ => Ok(Vec::new(alloc)),
+    }
+}
+
+/// How many changes of a step were made, were refused without a decision, and how many writes the disk has room for
+/// after it.
+type Told = (usize, usize, u64);
+
+fn told_of(tally: &Tally, told: &[CommitResult]) -> Told {
+    let mut made: usize = 0;
+    let mut refused: usize = 0;
+    for told in told {
+        match told {
+            Ok(_) => made = made.saturating_add(1),
+            Err(Refusal::NoMemory) => refused = refused.saturating_add(1),
+            Err(_) => {}
+        }
+    }
+    (made, refused, tally.room().load(Ordering::SeqCst))
+}
+
+/// What comes of these steps, and the files of the logs.
+fn step_by_store<B: Naming, J: Site, K: Chronicle, R: Wait>(
+    rt: &R,
+    alloc: Global,
+    parts: BoardParts,
+    tally: &Tally,
+    steps: &[Step],
+    histories: Histories,
+) -> Result<(Vec<Told>, (Memory, Memory)), Fail>
+    requires named { IsNamed B.name B.parts B.queue B.lanes parts }
+    requires lanes { length parts.queues ≡ 2 }
+    requires sized { B.max_size ≡ 1000 }
+    requires written { histories.written ≡ J.history }
+    requires drawn { histories.drawn ≡ K.history }
+    requires nothing { J.premise → ⊥ }
+    requires same { J.history ≡ B.history }
+{
+    let (board, mut seat) = board_of::<B, R>(rt, alloc, parts)?;
+    let disks = (
+        Scarce::new(Memory::new(alloc), tally.room()),
+        Scarce::new(Memory::new(alloc), tally.room()),
+    );
+    let store: Store<Scarce<'_, Memory>, &Tally, J, K> = store_on(
+        rt, alloc, &board, &mut seat, disks, tally, histories,
+    )?;
+    let mut keeper = Stored::new(rt, &board, &store, &mut seat);
+    let mut found = Vec::new(alloc);
+    for step in steps {
+        match step {
+            Step::Fill(spare) => tally.fill(0, *spare),
+            Step::Enlarge => tally.enlarge(),
+            Step::Start => store.keep_room(rt),
+            Step::Look => {
+                store.make_up_room(rt);
+            }
+            _ => {}
+        }
+        let told = change(alloc, &mut keeper, &rows_of(alloc, *step)?)?;
+        found.push(told_of(tally, &told))?;
+    }
+    let logs = files_of(store)?;
+    let changes = logs.changes.into_device().into_inner();
+    Ok((found, (changes, logs.voids.into_device().into_inner())))
+}
+
+/// Checks what comes of these steps, how often it is reported that changes are refused and are stored again, and that
+/// these changes are there after a restart.
+fn hold<R: Wait + Abort>(
+    rt: &R,
+    alloc: Global,
+    steps: &[(Step, Told)],
+    reports: u64,
+    rows: &[Row],
+) -> Result<(), Fail> {
+    let tally = Tally::new();
+    let parts = BoardParts::new(alloc, 2, 4)?;
+    let mut asked = Vec::new(alloc);
+    for (step, _) in steps {
+        asked.push(*step)?;
+    }
+    let (found, disks) = step_by_store::<Brand, Brand, Brand, _>(
+        rt,
+        alloc,
+        parts,
+        &tally,
+        &asked,
+        Histories::new(),
+    )?;
+    for (place, (found, (_, want))) in found.iter().zip(steps).enumerate() {
+        expect_same(rt, &(place, *found), &(place, *want));
+    }
+    expect_same(rt, &found.len(), &steps.len());
+    expect_same(rt, &tally.counts(), &[reports, reports, 0]);
+    let job = Job {
+        rows: Vec::from_slice(alloc, rows)?,
+        byte: 0,
+        times: 0,
+    };
+    let (seen, _) = restored(rt, alloc, disks)?;
+    assert!(rt; seen == plainly(rt, alloc, &job)?.1);
+    Ok(())
+}
+
+/// Room for all writes.
+const ALL: u64 = u64::MAX;
+
+#[test]
+fn on_a_full_disk_removals_alone_get_the_room(rt: HostRuntime) -> Result<(), Fail> {
+    let [one, two, three, four] = FIRST;
+    let [make, put] = OTHERS;
+    // A change takes two writes.
+    let steps = [
+        (Step::Begin, (4, 0, ALL)),
+        (Step::Fill(4), (0, 0, 0)),
+        (Step::Others, (0, 2, 0)),
+        (Step::Remove(1), (1, 0, 2)),
+        (Step::Others, (0, 2, 2)),
+        (Step::Look, (0, 0, 2)),
+        (Step::Others, (0, 2, 2)),
+        (Step::Remove(2), (1, 0, 0)),
+        (Step::Remove(3), (0, 1, 0)),
+        (Step::Enlarge, (0, 0, ALL)),
+        (Step::Others, (0, 2, ALL)),
+        (Step::Look, (0, 0, ALL)),
+        (Step::Others, (2, 0, ALL)),
+        (Step::Remove(3), (1, 0, ALL)),
+    ];
+    let rows = [
+        one,
+        two,
+        three,
+        four,
+        (What::Remove, 1, 0),
+        (What::Remove, 2, 0),
+        make,
+        put,
+        (What::Remove, 3, 0),
+    ];
+    hold(&rt, rt.alloc(), &steps, 1, &rows)
+}
+
+#[test]
+fn without_room_at_the_start_removals_alone_are_made(rt: HostRuntime) -> Result<(), Fail> {
+    let [one, two, three, four] = FIRST;
+    let [make, put] = OTHERS;
+    let steps = [
+        (Step::Begin, (4, 0, ALL)),
+        (Step::Start, (0, 0, ALL)),
+        (Step::Fill(4), (0, 0, 0)),
+        (Step::Start, (0, 0, 0)),
+        (Step::Others, (0, 2, 0)),
+        (Step::Remove(1), (1, 0, 2)),
+        (Step::Others, (0, 2, 2)),
+        (Step::Enlarge, (0, 0, ALL)),
+        (Step::Look, (0, 0, ALL)),
+        (Step::Others, (2, 0, ALL)),
+    ];
+    let rows = [one, two, three, four, (What::Remove, 1, 0), make, put];
+    hold(&rt, rt.alloc(), &steps, 1, &rows)
+}
+
+/// How many uploads are removed from each of two seats, and are created from each of two others.
+const EACH: u64 = 40;
+
+/// The rows of this kind for the uploads from this one on.
+fn rows_from(alloc: Global, what: What, first: u64) -> Result<Vec<Row>, AllocError> {
+    let mut rows = Vec::new(alloc);
+    for number in first..first.saturating_add(EACH) {
+        rows.push((what, u128::from(number), 4))?;
+    }
+    Ok(rows)
+}
+
+/// Removes 80 uploads from two seats, and creates 80 others from two.
+fn jobs_of(alloc: Global) -> Result<Vec<Job>, AllocError> {
+    let mut jobs = Vec::new(alloc);
+    for (what, first) in [
+        (What::Remove, 0),
+        (What::Make, 2 * EACH),
+        (What::Remove, EACH),
+        (What::Make, 3 * EACH),
+    ] {
+        jobs.push(Job {
+            rows: rows_from(alloc, what, first)?,
+            byte: 0,
+            times: 0,
+        })?;
+    }
+    Ok(jobs)
+}
+
+/// Checks that all removals are made while a disk with this much room fills, and that a restart brings what was made.
+fn hold_at_once<R: Threads + Wait + Abort + Sync>(
+    rt: &R,
+    alloc: Global,
+    room: u64,
+) -> Result<(), Fail> {
+    let tally = Tally::new();
+    tally.fill(room, 1000);
+    let first = rows_from(alloc, What::Make, 0)?;
+    let second = rows_from(alloc, What::Make, EACH)?;
+    let disks = (
+        Scarce::new(
+            file_of(alloc, &[first.as_slice(), second.as_slice()])?,
+            tally.room(),
+        ),
+        Scarce::new(file_of(alloc, &[])?, tally.room()),
+    );
+    let Some(
+        Ran {
+            outcomes,
+            seen,
+            logs,
+        },
+    ) = run_on(rt, alloc, disks, &tally, jobs_of(alloc)?)?
+    else {
+        return Err("an open log".into());
+    };
+    let [(one, _), (two, _), (three, _), (four, _)] = outcomes.as_slice() else {
+        return Err("four jobs".into());
+    };
+    for told in one.iter().chain(three.iter()) {
+        assert!(rt; told.is_ok(), "with room for {room} writes");
+    }
+    let (made, refused, _) = told_of(&tally, two);
+    let (more, others, _) = told_of(&tally, four);
+    expect_same(rt, &(made + refused + more + others), &80);
+    assert!(rt; made + more < 10, "with room for {room} writes");
+    expect_same(rt, &tally.counts(), &[1, 0, 0]);
+    let changes = logs.changes.into_device().into_inner();
+    let disks = (changes, logs.voids.into_device().into_inner());
+    let (again, _) = restored(rt, alloc, disks)?;
+    assert!(rt; again == seen, "with room for {room} writes");
+    Ok(())
+}
+
+#[test]
+fn removals_at_once_are_made_on_a_full_disk(rt: HostRuntime) -> Result<(), Fail> {
+    for room in 4..12 {
+        hold_at_once(&rt, rt.alloc(), room)?;
+    }
+    Ok(())
+}
