@@ -232,6 +232,7 @@ fn a_count_outlives_its_run(rt: HostRuntime) -> Result<(), Fail> {
 }
 
 /// Whether events may be handed over.
+#[derive(Drop)]
 struct Flag<'a>(&'a AtomicBool);
 
 impl Permission for Flag<'_> {

@@ -14,6 +14,7 @@ use up_handed::{Continued, EndedUpload, Endings, HandedFault, Noting};
 use up_hooks::{Outcome, PostHook, Recorder};
 
 /// Adds up the events of the uploads that are reported.
+#[derive(Drop)]
 struct Sum<'a> {
     events: &'a AtomicU64,
 }

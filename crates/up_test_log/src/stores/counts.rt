@@ -9,7 +9,7 @@ use crate::logs::{Row, What, disk_of};
 use crate::same::expect_same;
 use sqlite_disk::Memory;
 use std::alloc::Global;
-use std::marker::Brand;
+use std::marker::{Brand, Send};
 use std::sync::Wait;
 use std::test::Fail;
 use up_compact::Heads;
@@ -162,7 +162,7 @@ fn the_reason_says_which_log_is_damaged(rt: HostRuntime) -> Result<(), Fail> {
 
 /// Whether conversations may begin over a store of which so many events were counted, and whether events may then be
 /// handed over. They may not before.
-fn begun_by<B: Naming, J: Site, K: Chronicle, R: Wait>(
+fn begun_by<B: Naming, J: Site + Send, K: Chronicle + Send, R: Wait>(
     rt: &R,
     alloc: Global,
     parts: BoardParts,
