@@ -19,6 +19,9 @@ from stored import Kept, Store, enlarge, may_mount, small_disk
 # The uploads that are removed, the connections that make them, and how many are removed before the server is killed.
 REMOVED, MAKERS, BEFORE = 10_000, 4, 6_000
 
+# The uploads of the case with less to do, of which half are removed.
+FEW = 200
+
 # The clients that upload again and again, the bytes of each of their uploads, and the seconds before they try again.
 UPLOADERS, BODY, PAUSE = 12, bytes(200_000), 0.01
 
@@ -123,13 +126,13 @@ class Lines:
         soon(lambda: self.found and self.found[-1][1] == AGAIN, "changes are stored again")
 
 
-def make_all(server):
+def make_all(server, count):
     """The paths of new uploads to be removed."""
     found = []
 
     def make(_):
         with Connection(server) as connection:
-            found.extend([connection.make(1000) for _ in range(REMOVED // MAKERS)])
+            found.extend([connection.make(1000) for _ in range(count // MAKERS)])
 
     at_once(make, MAKERS)
     return found
@@ -157,7 +160,7 @@ def removals_on_a_full_disk():
     with small_disk() as disk:
         store = Store(program, os.path.join(disk, "store"), lanes=1)
         with store.kept(Patient) as server:
-            paths = make_all(server)
+            paths = make_all(server, REMOVED)
             lines = Lines(server)
             with Uploaders(server) as uploaders:
                 uploaders.until_refused()
@@ -187,7 +190,7 @@ def filled_by_removals():
     with small_disk() as disk:
         store = Store(program, os.path.join(disk, "store"), lanes=1)
         with store.kept(Patient) as server:
-            paths = make_all(server)
+            paths = make_all(server, FEW)
             server.kill()
         os.remove(store.path("spare"))
         with open(os.path.join(disk, "other"), "wb", buffering=0) as other:
@@ -197,14 +200,14 @@ def filled_by_removals():
             lines = Lines(server)
             same(connection.ask("POST", "/files/", upload_length=5).status, 503, "the status of a POST")
             same(connection.append(paths[0], 0, b"abc").status, 503, "the status of a PATCH")
-            remove_all(server, paths[:100])
-            hold_standing(server, paths[:100], paths[100:])
+            remove_all(server, paths[: FEW // 2])
+            hold_standing(server, paths[: FEW // 2], paths[FEW // 2 :])
             os.remove(os.path.join(disk, "other"))
             lines.until_again()
-            same(connection.append(paths[100], 0, b"abc").status, 204, "the status of a PATCH once there is room")
+            same(connection.append(paths[-1], 0, b"abc").status, 204, "the status of a PATCH once there is room")
             count = lines.hold()
         with store.kept(Patient) as server:
-            hold_standing(server, paths[:100], paths[100:])
+            hold_standing(server, paths[: FEW // 2], paths[FEW // 2 :])
     return f"{count} lines"
 
 
