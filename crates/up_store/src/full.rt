@@ -47,15 +47,19 @@ impl<D: Disk, N, J: Site, K: Chronicle> Store<D, N, J, K> {
 }
 
 impl<D: Disk, N: StoreNotices, J: Site, K: Chronicle> Store<D, N, J, K> {
-    /// Keeps room on the disk for removals. If there isn't enough, only removals are drawn until there is. It is called
-    /// when the store is open, before any change is drawn.
-    pub fn keep_room<R: Wait>(&self, rt: &R) {
-        let Err(fault) = self.notices.keeps_room(false) else {
-            return;
-        };
-        self.is_failing.store(true, Ordering::SeqCst);
-        self.line.lock(rt).take_removals();
-        self.notices.fails(fault);
+    /// Keeps room on the disk for removals, and reports that the log was read, with this many entries. If there isn't
+    /// enough room, only removals are drawn until there is, which is reported too. It is called when the store is open,
+    /// before any change is drawn.
+    pub fn begin<R: Wait>(&self, rt: &R, entries: u64) {
+        let kept = self.notices.keeps_room(false);
+        if kept.is_err() {
+            self.is_failing.store(true, Ordering::SeqCst);
+            self.line.lock(rt).take_removals();
+        }
+        self.notices.is_restored(entries);
+        if let Err(fault) = kept {
+            self.notices.fails(fault);
+        }
     }
 
     /// If only removals are drawn, and the disk has room again for what is kept for removals and for other changes, all

@@ -171,8 +171,7 @@ impl<
                 self.permit.give::<B, D, J>(&logs);
                 self.shortening.tidy_up(rt, entries);
                 self.store.open(rt, logs, generation);
-                self.store.notices.is_restored(entries);
-                self.store.keep_room(rt);
+                self.store.begin(rt, entries);
                 (seat, true)
             }
             Err(why) => {

@@ -48,7 +48,7 @@ enum Step {
     Fill(u64),
     /// The disk has room.
     Enlarge,
-    /// Keeps room at the start.
+    /// Begins to serve, after four changes.
     Start,
     /// Looks whether there is room again.
     Look,
@@ -112,7 +112,7 @@ fn step_by_store<B: Naming, J: Site, K: Chronicle, R: Wait>(
         match step {
             Step::Fill(spare) => tally.fill(0, *spare),
             Step::Enlarge => tally.enlarge(),
-            Step::Start => store.keep_room(rt),
+            Step::Start => store.begin(rt, 4),
             Step::Look => {
                 store.make_up_room(rt);
             }
