@@ -4,7 +4,7 @@ disk. It compares what is there after that, and the events of all runs, with wha
 
     tests/crash.py [--program PATH] [--rounds N] [NAME..]
 
-It needs only Python 3 and Linux, and takes MINUTES minutes with twenty rounds, which is the default. Cases are skipped
+It needs only Python 3 and Linux, and takes four minutes with twenty rounds, which is the default. Cases are skipped
 if they need something that is missing or not permitted (a mount, Debian's strace).
 
 In each round sixteen clients create, append, declare lengths, concatenate and remove, and the server is killed at a
@@ -822,7 +822,8 @@ def fail_sync(name, is_after, number):
             lines = server.process.stderr.read().decode().splitlines()
             is_told = any(line.startswith(STOPPED) for line in lines)
             same(is_told, not goes_on, f"whether {lines} say that no change is made")
-            told.add(server.output(), is_killed=server.process.returncode != 0)
+            told.add(server.output(), is_killed=server.process.returncode < 0)
+            # A count that could not be written repeats an event, as a kill does.
             told.was_killed = True
             told.hold(clients, is_whole=False)
         last_runs(store, clients, told)
@@ -858,7 +859,7 @@ def first_start():
     tries = [(call, number, "signal=KILL") for call in CALLS for number in range(1, 1 + CALLS[call])]
     tries += [("fsync,fdatasync", number, "error=EIO") for number in range(1, 1 + CALLS["fdatasync"])]
     tries = random.sample(tries, min(FIRST * rounds, len(tries)))
-    ended = []
+    early = []
 
     def try_some(start):
         for call, number, what in tries[start::AT_ONCE]:
@@ -867,11 +868,11 @@ def first_start():
                 words = [*paths, "-e", f"trace={call}", "-e", f"inject={call}:{what}:when={number}"]
                 with store.traced(*words) as server:
                     if server.port is None:
-                        ended.append(server.process.wait(MAX_WAIT))
+                        early.append(server.process.wait(MAX_WAIT))
                 hold_there(store, Client(0))
 
     at_once(try_some, AT_ONCE)
-    return f"{len(ended)} of {len(tries)} starts ended early"
+    return f"{len(early)} of {len(tries)} starts ended early"
 
 
 def full_heads():
@@ -933,5 +934,5 @@ else:
 if may_trace():
     CASES += [failed_syncs, by_failed_sync, cut_meanwhile, first_start, full_heads]
 else:
-    passed_over.append("failed_syncs, since strace isn't there or may trace nothing")
+    passed_over.append("syncs that fail and first starts, since strace isn't there or may trace nothing")
 sys.exit(try_all(CASES, given.names, passed_over))
