@@ -191,10 +191,10 @@ def by_kill():
     """Kills lose no change that was answered and no event, and repeat at most one event of each lane."""
     clients, told = new_clients(), Told()
     with store_of(program) as store:
+        for _ in range(HASTY):
+            with store.kept(Hasty):
+                pass
         for number in range(rounds):
-            for _ in range(HASTY if number == 0 else 0):
-                with store.kept(Hasty):
-                    pass
             with store.kept() as server:
                 come_back(clients, server, told)
                 work_until(clients, server, server.kill)
