@@ -76,6 +76,9 @@ CALLS = {"mkdir": 1, "openat": 24, "pwrite64": 14, "fsync": 24, "fdatasync": 16}
 # How many of these starts are made for each round.
 FIRST = 5
 
+# The seconds after which it is said that changes are stored again, at most.
+TOLD = 2.5
+
 # What is said if there is no room to write that a shorter log takes the place of the log.
 NO_ROOM = "up_server: the log can't be made shorter yet: the disk failed: No space left on device (os error 28)\n"
 
@@ -636,15 +639,17 @@ def status_of_append(client, path, size):
 
 
 def hold_again(client, path, gone):
-    """Checks that changes are made once there is room, and that each upload is as expected."""
+    """Checks that changes are made soon once there is room, and that each upload is as expected."""
+    soon(lambda: status_of_append(client, path, BODY) == 204, "a change is made once there is room")
     for _ in range(3):
         same(status_of_append(client, path, BODY), 204, "the status of a change once there is room")
     client.remove(gone)
     client.come_back(everything=True)
 
 
-def lines_of(server):
-    """Kills the server, and returns what it has written to standard error since it listened."""
+def lines_of(server, seconds=0):
+    """Kills the server after so many seconds, and returns what it has written to standard error since it listened."""
+    time.sleep(seconds)
     server.kill()
     return server.process.stderr.read().decode().splitlines()
 
@@ -660,7 +665,7 @@ def full_file():
             client.come_back(everything=True)
             server.make_room()
             hold_again(client, path, gone)
-            lines = lines_of(server)
+            lines = lines_of(server, TOLD)
         same(len(lines), 2, f"how many lines say that there is no room, and that there is again: {lines}")
         hold_there(store, client)
     return " and ".join(map(repr, lines))
@@ -705,7 +710,7 @@ def full_disk():
             client.come_back(everything=True)
             enlarge(disk)
             hold_again(client, path, gone[2])
-            lines = lines_of(server)
+            lines = lines_of(server, TOLD)
         hold_turns(lines)
         hold_there(store, client)
     return f"{len(lines)} lines, {lines[0]!r} and {lines[1]!r} by turns"

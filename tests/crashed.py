@@ -14,6 +14,9 @@ LANES = 3
 # The most bytes of an appended piece, and those of an occasional long one. A log shares bodies of 16,384 bytes or more.
 PIECE, LONG = 1000, (16_383, 16_384, 150_000)
 
+# How often a client tries to create an upload while a disk fails, and the seconds between two tries.
+TRIES, PAUSE = 12, 0.25
+
 # The most uploads of a client that are under way, and that are complete, before it continues these or removes some.
 MAX_BEGUN, MAX_WHOLE = 6, 12
 
@@ -256,12 +259,13 @@ class Client:
             self.begin()
 
     def goes_on(self):
-        """Whether one of three creations is made. A file that failed may be opened again at the next one."""
-        for _ in range(3):
+        """Whether a creation is made soon. A file that failed may be opened again at the next one, or a second later."""
+        for _ in range(TRIES):
             with contextlib.suppress(Ended):
                 self.create(3)
                 return True
             self.resolve()
+            time.sleep(PAUSE)
         return False
 
     def finish(self):
