@@ -30,6 +30,7 @@ import tempfile
 import threading
 import time
 
+import fulldisk
 from copied import HEAPED, PIECE, Lone, heaped, put, remove_heap, small, small_changes, switched
 from crashed import LANES, Client, Ended, Told, adopt, lane_of
 from endings import ended
@@ -931,9 +932,10 @@ CASES = [
 ]
 passed_over = []
 if may_mount():
-    CASES.append(full_disk)
+    fulldisk.program = program
+    CASES += [full_disk, *fulldisk.CASES]
 else:
-    passed_over.append("full_disk, since no disk may be mounted here")
+    passed_over.append("disks that are full, since no disk may be mounted here")
 if may_trace():
     CASES += [failed_syncs, by_failed_sync, cut_meanwhile, first_start, full_heads]
 else:
