@@ -259,7 +259,8 @@ class Client:
             self.begin()
 
     def goes_on(self):
-        """Whether a creation is made soon. A file that failed may be opened again at the next one, or a second later."""
+        """Whether a creation is made soon. A file that failed may be opened again at the next one, or a second
+        later."""
         for _ in range(TRIES):
             with contextlib.suppress(Ended):
                 self.create(3)

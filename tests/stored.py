@@ -23,6 +23,9 @@ LIMIT, MORE = 4 << 20, 32 << 20
 # The number of bytes in the heading of a log, with the gate before it.
 HEADING = 33
 
+# How the line begins that says that no change is made any more.
+STOPPED = "up_server: no change is made until the server is started again: "
+
 
 class Kept(Server):
     """A server over the folder of a store, which ends by a kill."""
@@ -144,8 +147,8 @@ class Store:
         return lines[0]
 
     def unread(self):
-        """Checks that the log can't be read to its end, so that nobody is served and no event is handed over. Returns the
-        line that says why."""
+        """Checks that the log can't be read to its end, so that nobody is served and no event is handed over. Returns
+        the line that says why."""
         ran = self.run()
         report = re.fullmatch(rb"\naccepted \d+\n(lane \d+ drained \d+\n)+", ran.stdout)
         same(report is not None, True, f"whether {ran.stdout!r} is a report without events")
@@ -204,6 +207,11 @@ def gates_of(log):
     return [*gates, at]
 
 
+def damage_of(name, gate):
+    """The line that says that the block at this gate of a log can't be read."""
+    return f"up_server: cannot read the store: {name}: the log is damaged at byte {gate}"
+
+
 def logs_left(log, gate, cut):
     """What a crash may leave of a log whose block at this gate is cut: the gate is closed, and the bytes after it are
     short, or differ."""
@@ -226,8 +234,8 @@ def small_disk():
 
 @contextlib.contextmanager
 def tracing(process, *words):
-    """Has strace change the system calls of a process, as these words say, for the time of a `with` or until the process
-    ends. It counts the calls of each thread apart."""
+    """Has strace change the system calls of a process, as these words say, for the time of a `with` or until the
+    process ends. It counts the calls of each thread apart."""
     words = ["strace", "-f", "-p", str(process), "-e", "signal=none", *words]
     with subprocess.Popen(words, stdin=subprocess.DEVNULL, stderr=subprocess.PIPE, bufsize=0) as tracer:
         # strace writes a line when it has attached itself, and another for each thread.
