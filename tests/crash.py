@@ -14,7 +14,8 @@ must be, for each upload, the events that its accepted changes define, each once
 event of each lane that was being handed over may be repeated, as the first of its lane in the next run.
 
 With N rounds, N of the first syncs of each file fail, each in a run of its own, and `5 * N` first starts are killed or
-have a sync that fails; with twenty rounds that is all of them.
+have a sync that fails; with twenty rounds that is all of them. The cases of `tests/lost.py` and `tests/fulldisk.py` are
+run too.
 
 For each case, one line says whether it passed. The last line is `N passed, M failed`, and the exit status is 1 if a
 case failed.
