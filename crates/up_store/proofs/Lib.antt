@@ -1,5 +1,6 @@
 -- The lemmas.
 mod Results
+pub mod Below
 pub mod InTurn
 pub mod Removals
 pub mod Turns

@@ -165,8 +165,10 @@ fn check_lanes<B: Naming, R: Wait>(
 ) -> Result<(), Unrestored>
     ensures { OnOk result (EachAt (HasCounted B.lanes B.max_size entries.now) counted.now) }
 {
-    for lane in 0..counted.len() {
-        check_lane(rt, board, entries, lane as u64, &counted[lane])?;
+    let mut lane: u64 = 0;
+    for of_lane in counted {
+        check_lane(rt, board, entries, lane, of_lane)?;
+        lane += 1;
     }
     Ok(())
 }
