@@ -33,11 +33,18 @@ static ASKED: [&[u8]; 2] = [
 /// The events of these requests: each hook with its offset.
 const EVENTS: [(Hook, u64); 3] = [(Hook::Create, 0), (Hook::Receive, 3), (Hook::Finish, 3)];
 
-/// A post-hook that lists its events, and reports their number. Memory runs out in its first `refusals` calls.
+/// How many calls a post-hook refuses, and whether it does so since it holds events back, or for want of memory.
+#[derive(Clone, Copy)]
+struct Refusals {
+    count: u64,
+    are_held: bool,
+}
+
+/// A post-hook that lists its events, and reports their number. It refuses its first calls.
 #[derive(Drop)]
 struct Scarce<'a> {
     events: Vec<Event>,
-    refusals: u64,
+    refusals: Refusals,
     told: &'a AtomicU64,
 }
 
@@ -57,11 +64,16 @@ impl<'a> PostHook for Scarce<'a> {
         ensures same { self.new.events.items ≡ self.old.events.items }
         ensures room { OnOk result (⟦<Scarce<'a> as PostHook>⟧.has_room self.new ≡ true) }
     {
-        if self.refusals > 0 {
-            self.refusals -= 1;
+        if self.refusals.count > 0 {
+            self.refusals.count -= 1;
             return Err(NoMemory);
         }
+        self.refusals.are_held = false;
         Ok(self.events.reserve(1)?)
+    }
+
+    fn holds_back(&self) -> bool {
+        self.refusals.are_held
     }
 
     fn hand(&mut self, event: &Event) -> Outcome
@@ -78,7 +90,7 @@ impl<'a> PostHook for Scarce<'a> {
 
 impl<'a> Scarce<'a> {
     /// A post-hook that was handed nothing.
-    fn new(alloc: Global, refusals: u64, told: &'a AtomicU64) -> Self
+    fn new(alloc: Global, refusals: Refusals, told: &'a AtomicU64) -> Self
         ensures { result.events.items ≡ [] }
     {
         Scarce {
@@ -189,34 +201,38 @@ fn served_meanwhile<'a, T: Threads + Wait + Eprint + Sync>(
     report
 }
 
-/// Serves three connections, as above, with a lane whose post-hook runs out of memory three times, and checks how it
-/// ended.
+/// Serves three connections, as above, with a lane whose post-hook refuses three calls, and checks how it ended.
 fn hold_meanwhile(
     rt: &(impl Threads + Wait + Eprint + Abort + Sync),
     alloc: Global,
     listener: TcpListener,
     silent: &TcpStream,
+    are_held: bool,
 ) -> Result<(), Fail> {
     let told = AtomicU64::new(0);
-    let hook = Scarce::new(alloc, 3, &told);
+    let refusals = Refusals { count: 3, are_held };
+    let hook = Scarce::new(alloc, refusals, &told);
     let report = served_meanwhile(rt, alloc, listener, silent, hook, &told)?;
     hold(rt, &report, How::Drained, 3, 0)
 }
 
 #[test]
 fn a_lane_goes_on_while_the_server_runs(rt: HostRuntime) -> Result<(), Fail> {
-    let (listener, mut clients) = listen(&rt, &ASKED)?;
-    let silent = TcpStream::connect(&rt, listener.local_addr()?)?;
-    hold_meanwhile(&rt, rt.alloc(), listener, &silent)?;
-    hold_answers(&rt, rt.alloc(), &mut clients, b"HTTP/1.1 20", b"\r\n\r\n")
+    for are_held in [false, true] {
+        let (listener, mut clients) = listen(&rt, &ASKED)?;
+        let silent = TcpStream::connect(&rt, listener.local_addr()?)?;
+        hold_meanwhile(&rt, rt.alloc(), listener, &silent, are_held)?;
+        hold_answers(&rt, rt.alloc(), &mut clients, b"HTTP/1.1 20", b"\r\n\r\n")?;
+    }
+    Ok(())
 }
 
-/// Serves two connections with a lane whose post-hook runs out of memory `refusals` times, and checks how it ended.
+/// Serves two connections with a lane whose post-hook refuses these calls, and checks how it ended.
 fn hold_end(
     rt: &(impl Threads + Wait + Eprint + Abort + Sync),
     alloc: Global,
     listener: TcpListener,
-    refusals: u64,
+    refusals: Refusals,
     how: How,
     count: usize,
     left: u64,
@@ -229,9 +245,14 @@ fn hold_end(
 
 #[test]
 fn a_lane_is_tried_three_times_more_at_the_end(rt: HostRuntime) -> Result<(), Fail> {
-    for (refusals, how, count, left) in [(3, How::Drained, 3, 0), (u64::MAX, How::Stopped, 0, 3)] {
+    for (count, are_held, how, handed, left) in [
+        (3, false, How::Drained, 3, 0),
+        (u64::MAX, false, How::Stopped, 0, 3),
+        (u64::MAX, true, How::Stopped, 0, 3),
+    ] {
         let (listener, _clients) = listen(&rt, &ASKED)?;
-        hold_end(&rt, rt.alloc(), listener, refusals, how, count, left)?;
+        let refusals = Refusals { count, are_held };
+        hold_end(&rt, rt.alloc(), listener, refusals, how, handed, left)?;
     }
     Ok(())
 }
