@@ -150,7 +150,7 @@ class Store:
         """Checks that the log can't be read to its end, so that nobody is served and no event is handed over. Returns
         the line that says why."""
         ran = self.run()
-        report = re.fullmatch(rb"\naccepted \d+\n(lane \d+ drained \d+\n)+", ran.stdout)
+        report = re.fullmatch(rb"\naccepted \d+\n(lane \d+ (drained|stopped) \d+\n)+", ran.stdout)
         same(report is not None, True, f"whether {ran.stdout!r} is a report without events")
         lines = ran.stderr.decode().splitlines()
         same(len(lines), 2, f"how many lines say that it listens, and why it ends: {lines}")
