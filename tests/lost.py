@@ -7,6 +7,7 @@ file, and hands over no event.
 It needs only Python 3 and Linux. `tests/crash.py` runs its cases too.
 """
 import os
+import random
 import shutil
 import sys
 import time
@@ -16,6 +17,9 @@ from crashed import LANES
 from endings import ended
 from serving import same, try_all, words_of
 from stored import STOPPED, counts_of, damage_of, gates_of, store_of
+
+# How many blocks of a log are damaged.
+DAMAGED = 3
 
 
 def without(store, *names):
@@ -126,9 +130,9 @@ def damaged_log():
     """A log with a block that can't be read isn't served, and a line names its file and its place."""
     for original, name in ((small, "log"), (switched, "log.1")):
         log = original(program).store.files()[name]
-        for gate in gates_of(log)[:-1]:
-            # The highest byte of a length, and that of what closures said.
-            for place in (gate + 8, gate + 9 + 16):
+        for gate in random.sample(gates_of(log)[:-1], DAMAGED):
+            # The highest byte of the length, that of the number of entries, and what closures said of the first one.
+            for place in (gate + 8, gate + 16, gate + 33):
                 with original(program).copied() as (store, *_):
                     put(store, name, log[:place] + b"\xff" + log[place + 1 :])
                     line = store.unread()
