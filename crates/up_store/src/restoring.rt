@@ -96,22 +96,20 @@ fn take_in_all<B: Naming, R: Wait>(
     Ok(())
 }
 
-/// Reads the logs of a store to their ends, and carries out the changes again in their order, from this seat of a new
-/// board.
-fn restore_on<B: Naming, D: Disk, J: Site, R: Wait>(
+/// Reads the log of the changes to its end, and carries out the changes again in their order, from this seat of a new
+/// board. The file is unchanged.
+fn take_in_log<B: Naming, D: Disk, J: Site, R: Wait>(
     rt: &R,
     alloc: Global,
     board: &Board<B>,
     seat: &mut Seat<B>,
     changes: Reading<D, J>,
-    voids: LogReader<D>,
-) -> Result<Logs<D, J>, Unrestored>
+    voids: &BTreeSet<u64>,
+) -> Result<Reading<D, J>, Unrestored>
 where
     D: Drop,
     requires same { J.history ≡ B.history }
-    ensures count { IfOk result (λ logs. logs.count ≡ length logs.changes.entries) }
 {
-    let (voids, places) = Voids::read(alloc, voids).map_err(Unrestored::Voids)?;
     let mut reading = changes;
     for _ in 0..u64::MAX {
         let (next, batch) = reading.next_batch(alloc).map_err(Unrestored::Changes)?;
@@ -120,15 +118,9 @@ where
             break;
         };
         let front = reading.front().known_as();
-        take_in_all(rt, alloc, board, seat, entries, &places, &front)?;
+        take_in_all(rt, alloc, board, seat, entries, voids, &front)?;
     }
-    let changes = reading.finish().map_err(Unrestored::Changes)?;
-    let count = changes.len();
-    Ok(Logs {
-        changes,
-        voids,
-        count,
-    })
+    Ok(reading)
 }
 
 /// Checks that the log of a lane has at least as many events as earlier runs counted, on a board that has followed
@@ -173,11 +165,31 @@ fn check_lanes<B: Naming, R: Wait>(
     Ok(())
 }
 
+/// Checks that a log that was read to its end has what it has at least, on a board that has followed its entries.
+fn check<B: Naming, R: Wait>(
+    rt: &R,
+    board: &Board<B>,
+    entries: &Front<Entry, B>,
+    least: &Least<'_>,
+) -> Result<(), Unrestored>
+    ensures least { OnOk result (least.now.entries ≤ length entries.now) }
+    ensures counted { OnOk result
+        (EachAt (HasCounted B.lanes B.max_size entries.now) least.now.events.now) }
+{
+    if entries.len() < least.entries {
+        return Err(Unrestored::Fewer {
+            found: entries.len(),
+            least: least.entries,
+        });
+    }
+    check_lanes(rt, board, entries, least.events)
+}
+
 impl<D: Disk, N, J: Site, K: Chronicle> Store<D, N, J, K> {
     /// Reads the log of the changes and that of the voids to their ends, and carries out the changes again in their
     /// order, from this seat of a new board. Its book is then the one that the changes define. At most one batch is in
     /// memory at a time. The error says why a log can't be read, or why an entry can't be carried out; or it is `Fewer`
-    /// or `Lane` if the logs have less than `least`.
+    /// or `Lane` if the logs have less than `least`. The file of the changes is unchanged then.
     pub fn restore<B: Naming, R: Wait>(
         &self,
         rt: &R,
@@ -195,14 +207,15 @@ impl<D: Disk, N, J: Site, K: Chronicle> Store<D, N, J, K> {
             EachAt (HasCounted B.lanes B.max_size logs.changes.entries) least.now.events.now) }
     {
         let (changes, voids) = readers;
-        let logs = restore_on(rt, alloc, board, seat, changes, voids)?;
-        if logs.count < least.entries {
-            return Err(Unrestored::Fewer {
-                found: logs.count,
-                least: least.entries,
-            });
-        }
-        check_lanes(rt, board, &logs.changes.front().known_as(), least.events)?;
-        Ok(logs)
+        let (voids, places) = Voids::read(alloc, voids).map_err(Unrestored::Voids)?;
+        let reading = take_in_log(rt, alloc, board, seat, changes, &places)?;
+        check(rt, board, &reading.front().known_as(), least)?;
+        let changes = reading.finish().map_err(Unrestored::Changes)?;
+        let count = changes.len();
+        Ok(Logs {
+            changes,
+            voids,
+            count,
+        })
     }
 }
