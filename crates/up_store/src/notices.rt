@@ -19,8 +19,8 @@ pub trait StoreNotices {
     /// changes are refused from the start.
     fn fails(&self, fault: LogFault);
 
-    /// Changes can be written again: one was written, or the log could be opened again. If only removals were taken, all
-    /// changes are taken again.
+    /// Changes can be written again: one was written, or the log could be opened again. If only removals were taken,
+    /// all changes are taken again.
     fn works(&self);
 
     /// No change is made any more until the server is started again. Either a change was written and not made, and this
@@ -43,8 +43,8 @@ pub trait StoreNotices {
     /// besides for other changes. Nothing is written to the log meanwhile.
     fn keeps_room(&self, for_others: bool) -> Result<(), LogFault>;
 
-    /// A batch of removals could not be written. Frees the room that is kept for removals, and returns whether there was
-    /// some. If there was, the batch is tried again.
+    /// A batch of removals could not be written. Frees the room that is kept for removals, and returns whether there
+    /// was some. If there was, the batch is tried again.
     fn makes_room<K: Chronicle>(&self, batch: &Batch<K>) -> bool
         requires removals { All IsRemoval batch.now.entries };
 }

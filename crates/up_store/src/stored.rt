@@ -86,8 +86,9 @@ impl<
         }
     }
 
-    /// Writes a change and waits for its turn. Returns a receipt for its entry if it is on the disk and may be made. The
-    /// error is that memory ran out, that no change is made any more, or that only removals are; it has no turn then.
+    /// Writes a change and waits for its turn. Returns a receipt for its entry if it is on the disk and may be made.
+    /// The error is that memory ran out, that no change is made any more, or that only removals are; it has no turn
+    /// then.
     fn write(&self, alloc: Global, entry: &Entry) -> Result<Option<Receipt<Entry, J>>, AllocError>
         ensures { IfOk result (λ r. IfSome r (λ receipt. receipt.entry ≡ Some entry.now)) }
     {

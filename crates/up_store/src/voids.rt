@@ -41,8 +41,8 @@ fn take_places(places: &mut BTreeSet<u64>, entries: &[Entry]) -> Result<(), Allo
 }
 
 impl<D: Disk> Voids<D> {
-    /// Reads the log of the voids to its end, and returns their places too. Takes the memory with which a place is added
-    /// later. The error says why the log can't be read, or that memory ran out.
+    /// Reads the log of the voids to its end, and returns their places too. Takes the memory with which a place is
+    /// added later. The error says why the log can't be read, or that memory ran out.
     pub fn read(alloc: Global, reader: LogReader<D>) -> Result<(Voids<D>, BTreeSet<u64>), LogFault>
     where
         D: Drop,
@@ -83,8 +83,8 @@ impl<D: Disk> Voids<D> {
         self.log.into_device()
     }
 
-    /// Adds a place, and returns once it is on the disk. Takes no memory: the batch takes as much as the one before. The
-    /// error is that of the write.
+    /// Adds a place, and returns once it is on the disk. Takes no memory: the batch takes as much as the one before.
+    /// The error is that of the write.
     pub fn add(&mut self, place: u64) -> Result<(), LogFault> {
         let Some(before) = self.batch.pop() else {
             return Err(LogFault::Memory);

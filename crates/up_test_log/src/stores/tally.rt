@@ -13,8 +13,8 @@ use up_store::{LogFile, StoreNotices, Unrestored};
 use up_tie::Batch;
 
 /// How often the store reported that changes cannot be written, that they can be again, and that none is made any more;
-/// and that a log was made shorter, and that it could not be. And which files it asked for, and the room of a disk, as a
-/// number of writes.
+/// and that a log was made shorter, and that it could not be. And which files it asked for, and the room of a disk, as
+/// a number of writes.
 #[derive(Drop)]
 pub struct Tally {
     fails: AtomicU64,
