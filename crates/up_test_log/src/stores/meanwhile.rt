@@ -3,7 +3,7 @@ ghost use Rattle.std.specs.Prelude.{◌≡◌, length};
 ghost use Rattle.up_dispatch.specs.Parts.{IsNamed};
 
 use super::disks::reader_of;
-use super::running::{board_of, change, store_of};
+use super::running::{NOTHING, board_of, change, unread_on};
 use super::tally::Tally;
 use crate::full_once::FullOnce;
 use crate::logs::{Row, What};
@@ -15,7 +15,7 @@ use std::sync::Wait;
 use std::sync::atomic::{AtomicU64, Ordering};
 use std::test::Fail;
 use up_compact::{Head, Heads};
-use up_dispatch::{Board, BoardParts, Naming};
+use up_dispatch::{Board, BoardParts, Naming, Seat};
 use up_events::Id;
 use up_handed::EndedUpload;
 use up_history::Chronicle;
@@ -109,11 +109,63 @@ fn current(alloc: Global, calls: (u64, u64)) -> Result<Current<File>, LogFault> 
     Ok(Current { heads, head })
 }
 
+/// A store on these disks, whose changes are made again on a board.
+fn opened<'a, B: Naming, J: Site, K: Chronicle, R: Wait>(
+    rt: &R,
+    alloc: Global,
+    board: &Board<B>,
+    seat: &mut Seat<B>,
+    disks: (File, File),
+    tally: &'a Tally,
+    histories: Histories,
+) -> Result<Store<File, &'a Tally, J, K>, Unrestored>
+    requires written { histories.written ≡ J.history }
+    requires drawn { histories.drawn ≡ K.history }
+    requires nothing { J.premise → ⊥ }
+    requires same { J.history ≡ B.history }
+{
+    let (store, readers) = unread_on(alloc, disks, tally, histories).map_err(Unrestored::Changes)?;
+    let logs = store.restore(rt, alloc, board, seat, readers, &NOTHING)?;
+    store.open(rt, logs, FIRST);
+    Ok(store)
+}
+
 /// How often logs were made or removed by the end of each of two tries to make a log shorter.
 type Counts = (u64, u64);
 
-/// Makes changes in a store, tries to make its log shorter, makes more changes, and tries it again. `None` if the heads
-/// or the log can't be opened.
+/// Makes changes in a store, tries to make its log shorter, makes more changes, and tries it again. This call of a
+/// shorter log fails.
+fn try_twice<B: Naming, J: Site, K: Chronicle, R: Wait>(
+    rt: &R,
+    alloc: Global,
+    board: &Board<B>,
+    seat: &mut Seat<B>,
+    store: &Store<File, &Tally, J, K>,
+    current: Current<File>,
+    calls: u64,
+) -> Result<Counts, Fail>
+    requires same { J.history ≡ B.history }
+{
+    let mut keeper = Stored::new(rt, board, store, seat);
+    change(alloc, &mut keeper, &BEFORE)?;
+    let count = AtomicU64::new(0);
+    let folder = Meanwhile {
+        rt,
+        alloc,
+        board,
+        store,
+        calls,
+        count: &count,
+    };
+    let shortening = Shortening::new(current, ended(rt, alloc), folder, 2, 0);
+    shortening.shorten(rt, alloc, store);
+    let first = count.load(Ordering::SeqCst);
+    change(alloc, &mut keeper, &AFTER)?;
+    shortening.shorten(rt, alloc, store);
+    Ok((first, count.load(Ordering::SeqCst)))
+}
+
+/// Tries twice to make the log of a new store shorter. `None` if the heads or the log can't be opened.
 fn run_by<B: Naming, J: Site, K: Chronicle, R: Wait>(
     rt: &R,
     alloc: Global,
@@ -135,35 +187,15 @@ fn run_by<B: Naming, J: Site, K: Chronicle, R: Wait>(
     };
     let (board, mut seat) = board_of::<B, R>(rt, alloc, parts)?;
     let disks = (disk(alloc, (calls.log, 0)), disk(alloc, (0, 0)));
-    let opened: Result<Store<File, &Tally, J, K>, Unrestored> = store_of(
-        rt,
-        alloc,
-        &board,
-        &mut seat,
-        (disks, FIRST),
-        tally,
-        histories,
+    let opened: Result<Store<File, &Tally, J, K>, Unrestored> = opened(
+        rt, alloc, &board, &mut seat, disks, tally, histories,
     );
     let Ok(store) = opened else {
         return Ok(None);
     };
-    let mut keeper = Stored::new(rt, &board, &store, &mut seat);
-    change(alloc, &mut keeper, &BEFORE)?;
-    let count = AtomicU64::new(0);
-    let folder = Meanwhile {
-        rt,
-        alloc,
-        board: &board,
-        store: &store,
-        calls: calls.shorter,
-        count: &count,
-    };
-    let shortening = Shortening::new(current, ended(rt, alloc), folder, 2, 0);
-    shortening.shorten(rt, alloc, &store);
-    let first = count.load(Ordering::SeqCst);
-    change(alloc, &mut keeper, &AFTER)?;
-    shortening.shorten(rt, alloc, &store);
-    Ok(Some((first, count.load(Ordering::SeqCst))))
+    let shorter = calls.shorter;
+    let counts = try_twice(rt, alloc, &board, &mut seat, &store, current, shorter)?;
+    Ok(Some(counts))
 }
 
 /// The upload 1, which has ended.

@@ -163,10 +163,10 @@ fn plain_of<B: Naming, R: Wait>(
 }
 
 /// A store on these disks that was not read yet, and who reads them.
-type Unread<'a, D, J, K> = (Store<D, &'a Tally, J, K>, (Reading<D, J>, LogReader<D>));
+pub type Unread<'a, D, J, K> = (Store<D, &'a Tally, J, K>, (Reading<D, J>, LogReader<D>));
 
 /// A store on these disks that was not read yet, and who reads them.
-fn unread_on<'a, D: Disk, J: Site, K: Chronicle>(
+pub fn unread_on<'a, D: Disk, J: Site, K: Chronicle>(
     alloc: Global,
     disks: (D, D),
     tally: &'a Tally,
@@ -190,7 +190,7 @@ pub const NOTHING: Least<'static> = Least {
     events: &[],
 };
 
-/// A store on these disks, which are of the first generation. Its changes are made again on a board.
+/// A store on these disks, whose changes are made again on a board. Its log is the first one.
 pub fn store_on<'a, B: Naming, D: Disk, J: Site, K: Chronicle, R: Wait>(
     rt: &R,
     alloc: Global,
@@ -207,30 +207,9 @@ where
     requires nothing { J.premise → ⊥ }
     requires same { J.history ≡ B.history }
 {
-    store_of(rt, alloc, board, seat, (disks, 0), tally, histories)
-}
-
-/// A store on these disks, with their generation. Its changes are made again on a board.
-pub fn store_of<'a, B: Naming, D: Disk, J: Site, K: Chronicle, R: Wait>(
-    rt: &R,
-    alloc: Global,
-    board: &Board<B>,
-    seat: &mut Seat<B>,
-    disks: ((D, D), u64),
-    tally: &'a Tally,
-    histories: Histories,
-) -> Result<Store<D, &'a Tally, J, K>, Unrestored>
-where
-    D: Drop,
-    requires written { histories.written ≡ J.history }
-    requires drawn { histories.drawn ≡ K.history }
-    requires nothing { J.premise → ⊥ }
-    requires same { J.history ≡ B.history }
-{
-    let (disks, generation) = disks;
     let (store, readers) = unread_on(alloc, disks, tally, histories).map_err(Unrestored::Changes)?;
     let logs = store.restore(rt, alloc, board, seat, readers, &NOTHING)?;
-    store.open(rt, logs, generation);
+    store.open(rt, logs, 0);
     Ok(store)
 }
 
