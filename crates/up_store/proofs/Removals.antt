@@ -1,5 +1,5 @@
 -- Which changes are drawn while only removals are.
-use Rattle.std.proofs.Common.{◌≡◌, Bool, List, [], ◌∷◌, ◌++◌, sym}
+use Rattle.std.proofs.Common.{◌≡◌, Bool, List, [], ◌∷◌, ◌++◌, sym, subst}
 use Rattle.std.specs.List.{All}
 use Rattle.std.proofs.lemmas.List.Elements.{All-nil, All-cons, All-head, All-tail, All-same}
 use Rattle.up_log.specs.declared.entry.Entry.{Entry}
@@ -20,6 +20,12 @@ none_drawn is xs none on = All-same IsRemoval xs [] none (All-nil IsRemoval)
 -- the first of those that wait, and the rest
 pub first_drawn : (is : Bool) (all first rest : List Entry) → all ≡ first ++ rest → AreDrawn is all → AreDrawn is first
 first_drawn is all first rest same drawn on = all_left first rest (All-same IsRemoval (first ++ rest) all (sym same) (drawn on))
+
+-- the same, as a caller sees them
+pub taken_drawn : (is now : Bool) (all first rest taken : List Entry) → is ≡ now → all ≡ first ++ rest → taken ≡ first → AreDrawn is all → AreDrawn now taken
+taken_drawn is now all first rest taken same split takes drawn =
+    let seen = subst (λ (xs : List Entry). AreDrawn is xs) (sym takes) (first_drawn is all first rest split drawn) in
+    subst (λ (b : Bool). AreDrawn b taken) same seen
 
 pub rest_drawn : (is : Bool) (all first rest : List Entry) → all ≡ first ++ rest → AreDrawn is all → AreDrawn is rest
 rest_drawn is all first rest same drawn on = all_right first rest (All-same IsRemoval (first ++ rest) all (sym same) (drawn on))

@@ -336,9 +336,8 @@ impl<J: Chronicle, K: Chronicle> Line<J, K> {
         ensures other { (¬ Places self.old written.now) → self.new.is_over ≡ true }
         ensures done { self.new.done ≡ self.old.done }
     {
-        if !self.on_disk.join(written) {
-            self.is_over = true;
-        }
+        let follows = self.on_disk.join(written);
+        self.is_over = self.is_over || !follows;
         if self.is_over {
             self.lose_rest();
         }
