@@ -3,7 +3,7 @@
 
     tests/hostile.py [--program PATH] [NAME..]
 
-It needs only Python 3 and Linux, and takes less than a minute. For each case, one line says whether it passed. The last
+It needs only Python 3 and Linux, and takes a minute or two. For each case, one line says whether it passed. The last
 line is `N passed, M failed`, and the exit status is 1 if a case failed.
 """
 import contextlib
