@@ -1,40 +1,14 @@
 //! The post-hooks of the lanes of a server that continues where earlier runs ended.
-ghost use Rattle.std.specs.Prelude.{◌≡◌, ◌≤◌, [], All, IfOk, vec_len};
-ghost use Rattle.up_handed.specs.Counts.{count_of, device_of};
-ghost use Rattle.up_handed.specs.OnDisk.{IsOnDisk};
+ghost use Rattle.std.specs.Prelude.{◌≡◌, [], All, IfOk, vec_len};
+ghost use Rattle.up_handed.specs.Openings.{hooks_of, counts_of, opened_counts};
 
 use crate::continued::Continued;
-use crate::handed::Handed;
 use crate::noting::{Endings, Noting};
+use crate::opened::Opened;
 use sqlite_disk::Disk;
 use std::alloc::{AllocError, Global};
 use std::marker::Send;
 use up_hooks::PostHook;
-
-/// A count whose number is on the disk, as it is after the count was opened.
-#[derive(Drop)]
-pub struct Opened<D: Disk> {
-    pub(crate) handed: Handed<D>,
-    /// The number of counted events that a shorter log leaves out.
-    pub(crate) left_out: u64,
-    ghost on_disk: { IsOnDisk D.Disk (device_of handed) (count_of handed) },
-    ghost fits: { left_out ≤ count_of handed },
-}
-
-impl<D: Disk> Opened<D> {
-    /// A count whose number is on the disk. A shorter log leaves out `left_out` of its events; `None` if it counts
-    /// fewer.
-    pub fn new(handed: Handed<D>, left_out: u64) -> Option<Opened<D>>
-    where
-        D: Drop,
-        requires on_disk { IsOnDisk D.Disk (device_of handed) (count_of handed) }
-    {
-        if left_out > handed.count() {
-            return None;
-        }
-        Some(Opened { handed, left_out })
-    }
-}
 
 /// Makes the post-hook of each lane continue after the events that the count at its place includes, and report which
 /// uploads have ended. `AllocError` if memory runs out.
@@ -47,6 +21,8 @@ pub fn continue_each<H: PostHook + Drop, D: Disk + Send + Drop, E: Endings + Cop
     requires new { All (λ h. H.is_sound h × (H.handed h ≡ [])) hooks.items }
     requires one_each { vec_len counts ≡ vec_len hooks }
     ensures one_for_each { IfOk result (λ made. vec_len made ≡ vec_len hooks) }
+    ensures hooks { IfOk result (λ made. hooks_of made.items ≡ hooks.items) }
+    ensures counts { IfOk result (λ made. counts_of made.items ≡ opened_counts counts.items) }
     ensures new { IfOk result (λ made. All
         (λ n. ⟦<Noting<Continued<H, D>, E> as PostHook>⟧.is_sound n
         × (⟦<Noting<Continued<H, D>, E> as PostHook>⟧.handed n ≡ [])) made.items) }

@@ -2,7 +2,7 @@
 ghost use Rattle.std.specs.Prelude.{◌≡◌, IfOk, map};
 ghost use Rattle.up_handed.specs.Openings.{counted_of};
 
-use crate::continuing::Opened;
+use crate::opened::Opened;
 use sqlite_disk::Disk;
 use std::alloc::{AllocError, Global};
 
