@@ -1,7 +1,7 @@
 -- Which changes are drawn while only removals are.
-use Rattle.std.proofs.Common.{◌≡◌, Bool, List, [], ◌∷◌, ◌++◌, sym, subst}
+use Rattle.std.proofs.Common.{◌≡◌, Bool, true, List, [], ◌∷◌, ◌++◌, sym, subst}
 use Rattle.std.specs.List.{All}
-use Rattle.std.proofs.lemmas.List.Elements.{All-nil, All-cons, All-head, All-tail, All-same}
+use Rattle.std.proofs.lemmas.List.Elements.{All-nil, All-cons, All-head, All-tail, All-same, All-push}
 use Rattle.up_log.specs.declared.entry.Entry.{Entry}
 use Rattle.up_store.specs.Lines.{AreDrawn, IsRemoval}
 
@@ -29,3 +29,7 @@ taken_drawn is now all first rest taken same split takes drawn =
 
 pub rest_drawn : (is : Bool) (all first rest : List Entry) → all ≡ first ++ rest → AreDrawn is all → AreDrawn is rest
 rest_drawn is all first rest same drawn on = all_right first rest (All-same IsRemoval (first ++ rest) all (sym same) (drawn on))
+
+-- one more is drawn
+pub more_drawn : (is : Bool) (xs ys : List Entry) (x : Entry) → ys ≡ xs ++ x ∷ [] → AreDrawn is xs → (is ≡ true → IsRemoval x) → AreDrawn is ys
+more_drawn is xs ys x same drawn removal on = All-same IsRemoval ys (xs ++ x ∷ []) same (All-push IsRemoval xs x (drawn on) (removal on))

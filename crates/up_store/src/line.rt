@@ -164,6 +164,13 @@ impl<J: Chronicle, K: Chronicle> Line<J, K> {
         self.place = place;
     }
 
+    /// Whether a change may be drawn: it is a removal, or all changes are drawn.
+    fn takes(&self, entry: &Entry) -> bool
+        ensures { IsTrue result → self.now.is_for_removals ≡ true → IsRemoval entry.now }
+    {
+        !self.is_for_removals || is_removal(entry)
+    }
+
     /// Draws the next number for a change, and returns a receipt for it. `AllocError` if memory or the numbers run out,
     /// if no change is made any more, or if only removals are drawn and it is none. No number was drawn then.
     pub fn draw(&mut self, change: Spelled, entry: &Entry) -> Result<Receipt<Entry, K>, AllocError>
@@ -174,10 +181,7 @@ impl<J: Chronicle, K: Chronicle> Line<J, K> {
         ensures removals { self.old.is_for_removals ≡ true → OnOk result (IsRemoval entry.now) }
         ensures none { OnErr result (self.new ≡ self.old) }
     {
-        if self.is_over || self.drawn.len() == u64::MAX {
-            return Err(AllocError);
-        }
-        if self.is_for_removals && !is_removal(entry) {
+        if self.is_over || self.drawn.len() == u64::MAX || !self.takes(entry) {
             return Err(AllocError);
         }
         let mut drawn = self.drawn.again();
