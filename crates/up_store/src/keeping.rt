@@ -148,6 +148,7 @@ impl<
         board: &Board<B>,
         seat: Seat<B>,
     ) -> (Seat<B>, bool)
+        requires same { B.history ≡ J.history }
         ensures counted { IsTrue result.1 → (entries : List Logged)
             × EachAt (HasCounted B.lanes B.max_size entries) (counted_in self.now.permit) }
     {

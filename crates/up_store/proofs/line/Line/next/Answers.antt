@@ -1,0 +1,9 @@
+use Rattle.std.proofs.Common.{◌≡◌, subst}
+use Rattle.up_tie.specs.Ties.{Changes}
+use Rattle.up_store.specs.Lines.{AreDrawn}
+use Rattle.up_store.proofs.line.Line.next.Goals as goal
+
+pub returns-then-may_write-clause-removals : goal.returns-then-may_write-clause-removals
+returns-then-may_write-clause-removals g c = λ batch same.
+    let is : c.begin_batch.result ≡ batch = cc same in
+    subst (λ (b : Changes). AreDrawn c.args.self.now.is_for_removals b.entries) is c.begin_batch.ensures.removals
