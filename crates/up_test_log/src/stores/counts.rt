@@ -90,48 +90,44 @@ fn restored<R: Wait>(
     restored_by::<Brand, Brand, Brand, R>(rt, alloc, parts, files, least, Histories::new())
 }
 
+/// What was counted of each of two lanes: how many events, and how many of these a shorter log leaves out.
+type Counts = [(u64, u64); 2];
+
+/// Why these files are refused if a head counts so many entries; an empty text if they aren't.
+fn refusal<R: Wait>(rt: &R, alloc: Global, entries: u64, counts: Counts) -> Result<String, Fail> {
+    let events = [
+        counted(counts[0].0, counts[0].1),
+        counted(counts[1].0, counts[1].1),
+    ];
+    let least = Least {
+        entries,
+        events: &events,
+    };
+    match restored(rt, alloc, files(alloc)?, &least)? {
+        Ok(_) => Ok(String::new(alloc)),
+        Err(why) => Ok(format!(in alloc; "{why}")?),
+    }
+}
+
 #[test]
 fn a_log_has_what_was_counted(rt: HostRuntime) -> Result<(), Fail> {
     let alloc = rt.alloc();
+    let no_entries = "the log has 3 entries, and heads counts 4";
+    let no_events = "handed.0 counts 2 events, and the log has 1 of lane 0";
+    let fewer_events = "handed.1 counts 30 events, and the log has 3 of lane 1";
+    let fewer_left_out = "handed.1 counts 11 events, and the log has 10 of lane 1";
     // What a head counts, what was counted of each lane, and why the log is refused.
     for (entries, counts, want) in [
         (0, [(0, 0), (0, 0)], ""),
         (3, [(1, 0), (3, 0)], ""),
         (3, [(0, 0), (10, 7)], ""),
         (3, [(0, 0), (u64::MAX, u64::MAX)], ""),
-        (
-            4,
-            [(0, 0), (0, 0)],
-            "the log has 3 entries, and heads counts 4",
-        ),
-        (
-            0,
-            [(2, 0), (3, 0)],
-            "handed.0 counts 2 events, and the log has 1 of lane 0",
-        ),
-        (
-            0,
-            [(1, 0), (30, 0)],
-            "handed.1 counts 30 events, and the log has 3 of lane 1",
-        ),
-        (
-            0,
-            [(1, 0), (11, 7)],
-            "handed.1 counts 11 events, and the log has 10 of lane 1",
-        ),
+        (4, [(0, 0), (0, 0)], no_entries),
+        (0, [(2, 0), (3, 0)], no_events),
+        (0, [(1, 0), (30, 0)], fewer_events),
+        (0, [(1, 0), (11, 7)], fewer_left_out),
     ] {
-        let events = [
-            counted(counts[0].0, counts[0].1),
-            counted(counts[1].0, counts[1].1),
-        ];
-        let least = Least {
-            entries,
-            events: &events,
-        };
-        let found = match restored(&rt, alloc, files(alloc)?, &least)? {
-            Ok(_) => String::new(alloc),
-            Err(why) => format!(in alloc; "{why}")?,
-        };
+        let found = refusal(&rt, alloc, entries, counts)?;
         expect_same(
             &rt,
             &(entries, counts, found.as_str()),
