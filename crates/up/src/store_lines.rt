@@ -1,5 +1,5 @@
 //! What is printed about a store.
-ghost use Rattle.std.specs.Prelude.{⊤};
+ghost use Rattle.std.specs.Prelude.{IfOk, ⊤};
 
 use crate::notice_lines::milliseconds;
 use crate::room::{give_up_room, keep_room};
@@ -186,11 +186,9 @@ impl<R> LogFile<StoreFile> for &StoreLines<'_, R> {
     // No contract says which path a file was opened at.
     ghost is_file = { λ _ _. ⊤ };
 
-    fn open_again(
-        &self,
-        generation: u64,
-        failed: Option<StoreFile>,
-    ) -> Result<StoreFile, LogFault> {
+    fn open_again(&self, generation: u64, failed: Option<StoreFile>) -> Result<StoreFile, LogFault>
+        ensures { IfOk result (λ _. ⊤) }
+    {
         drop(failed);
         let path = self.path_of(generation)?;
         open_device(self.host, path.as_str(), Wary)
