@@ -1,5 +1,5 @@
 //! What a store reports, and disks whose files can be opened again.
-ghost use Rattle.std.specs.Prelude.{⊤};
+ghost use Rattle.std.specs.Prelude.{IfOk, ⊤};
 
 use crate::full_once::FullOnce;
 use crate::scarce::Scarce;
@@ -190,7 +190,9 @@ impl<D: Disk> Again for Scarce<'_, D> {
 impl<D: Again> LogFile<D> for &Tally {
     ghost is_file = { λ _ _. ⊤ };
 
-    fn open_again(&self, generation: u64, failed: Option<D>) -> Result<D, LogFault> {
+    fn open_again(&self, generation: u64, failed: Option<D>) -> Result<D, LogFault>
+        ensures { IfOk result (λ _. ⊤) }
+    {
         self.least.fetch_min(generation, Ordering::SeqCst);
         self.greatest.fetch_max(generation, Ordering::SeqCst);
         match failed {
