@@ -243,6 +243,16 @@ impl Permission for Flag<'_> {
     }
 }
 
+/// Hands over the event of this number, if there is room for it.
+fn hand_next<H: PostHook>(hook: &mut H, number: u64)
+    requires { H.is_sound hook.old }
+    ensures { H.is_sound hook.new }
+{
+    if has_room(hook) {
+        hook.hand(&event_of(number));
+    }
+}
+
 /// What a post-hook that may not hand over events yet is handed of five events, of which earlier runs handed over
 /// three, and whether it says that it holds events back. Then the same once it may.
 fn held<F: Fn(&Event) -> Outcome + Send + Copy>(
@@ -259,11 +269,8 @@ fn held<F: Fn(&Event) -> Outcome + Send + Copy>(
     hand_over(&mut run, 5);
     let before = (told(run.hook().hook()), run.holds_back(), run.count());
     is_given.store(true, Ordering::SeqCst);
-    for number in [4, 5] {
-        if has_room(&mut run) {
-            run.hand(&event_of(number));
-        }
-    }
+    hand_next(&mut run, 4);
+    hand_next(&mut run, 5);
     let after = (told(run.hook().hook()), run.holds_back(), run.count());
     Ok([before, after])
 }

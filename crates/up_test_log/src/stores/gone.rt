@@ -19,13 +19,16 @@ use up_tie::Site;
 
 /// Whether the file of a store is gone, before and after it is taken away, and later; and the results of changes before
 /// and after.
+type Found = ([bool; 3], [Vec<CommitResult>; 2]);
+
+/// Makes a change, takes the file away, and makes another change.
 fn taken_away<B: Naming, J: Site, K: Chronicle, R: Wait>(
     rt: &R,
     alloc: Global,
     parts: BoardParts,
     tally: &Tally,
     histories: Histories,
-) -> Result<([bool; 3], [Vec<CommitResult>; 2]), Fail>
+) -> Result<Found, Fail>
     requires named { IsNamed B.name B.parts B.queue B.lanes parts }
     requires lanes { length parts.queues ≡ 2 }
     requires sized { B.max_size ≡ 1000 }
@@ -49,18 +52,17 @@ fn taken_away<B: Naming, J: Site, K: Chronicle, R: Wait>(
     Ok((gone, [made, refused]))
 }
 
+/// The same, of a store over a new board of two lanes.
+fn away<R: Wait>(rt: &R, alloc: Global, tally: &Tally) -> Result<Found, Fail> {
+    let parts = BoardParts::new(alloc, 2, 4)?;
+    let histories = Histories::new();
+    taken_away::<Brand, Brand, Brand, R>(rt, alloc, parts, tally, histories)
+}
+
 #[test]
 fn no_change_is_made_without_the_file(rt: HostRuntime) -> Result<(), Fail> {
-    let alloc = rt.alloc();
     let tally = Tally::new();
-    let parts = BoardParts::new(alloc, 2, 4)?;
-    let (gone, [made, refused]) = taken_away::<Brand, Brand, Brand, _>(
-        &rt,
-        alloc,
-        parts,
-        &tally,
-        Histories::new(),
-    )?;
+    let (gone, [made, refused]) = away(&rt, rt.alloc(), &tally)?;
     expect_same(&rt, &(gone, tally.gone()), &([false, true, true], 1));
     for told in made.iter() {
         assert!(&rt; told.is_ok());
