@@ -31,6 +31,7 @@ APART = 0.8
 # What standard error says by turns.
 REFUSED = re.compile(r"up_server: changes can't be stored, and are refused: .+")
 AGAIN = "up_server: changes are stored again"
+LANE = re.compile(r"up_server: lane \d+ (waits for memory|goes on)")
 
 
 class Patient(Kept):
@@ -97,7 +98,8 @@ class Uploaders:
 
 
 class Lines:
-    """The lines on standard error of a server until it is killed, each with the time at which it came."""
+    """The lines on standard error of a server until it is killed, each with the time at which it came, but for those that
+    say that a lane waits, as it does while the disk has no room for its count, or goes on."""
 
     def __init__(self, server):
         self.server, self.found = server, []
@@ -106,7 +108,9 @@ class Lines:
 
     def read(self):
         for line in self.server.process.stderr:
-            self.found.append((time.monotonic(), line.decode().rstrip("\n")))
+            text = line.decode().rstrip("\n")
+            if not LANE.fullmatch(text):
+                self.found.append((time.monotonic(), text))
 
     def hold(self):
         """Kills the server. Checks that the lines say by turns that changes are refused and are stored again, and that
@@ -176,7 +180,8 @@ def removals_on_a_full_disk():
                 uploaders.until_refused()
                 enlarge(disk)
                 uploaders.until_done()
-                lines.until_again()
+            # While they upload, they fill the larger disk too.
+            lines.until_again()
             hold_standing(server, paths, [])
             same(os.path.getsize(store.path("spare")), 1 << 20, "the bytes that are kept for removals once there is room")
             count += lines.hold()
