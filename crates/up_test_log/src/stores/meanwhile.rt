@@ -135,12 +135,12 @@ type Counts = (u64, u64);
 
 /// Makes changes in a store, tries to make its log shorter, makes more changes, and tries it again. This call of a
 /// shorter log fails.
-fn try_twice<B: Naming, J: Site, K: Chronicle, R: Wait>(
-    rt: &R,
+fn try_twice<'x, B: Naming, J: Site, K: Chronicle, R: Wait>(
+    rt: &'x R,
     alloc: Global,
-    board: &Board<B>,
-    seat: &mut Seat<B>,
-    store: &Store<File, &Tally, J, K>,
+    board: &'x Board<B>,
+    seat: &'x mut Seat<B>,
+    store: &'x Store<File, &'x Tally, J, K>,
     current: Current<File>,
     calls: u64,
 ) -> Result<Counts, Fail>
