@@ -1,6 +1,7 @@
 -- What a keeper's plans and commits may be.
-use Rattle.std.specs.Prelude.{◌≡◌, ◌≤◌, ℕ, Result, Ok, Err, length}
+use Rattle.std.specs.Prelude.{◌≡◌, ◌≤◌, ℕ, Result, Ok, Err, List, length}
 use Rattle.up_headers.specs.declared.request.Request.{Request}
+use Rattle.up_log.specs.declared.entry.Entry.{Entry}
 use Rattle.up_machine.specs.Decision.{IsExpectedOrNoMemory, decide, decide_plan}
 use Rattle.up_machine.specs.State.{State, after}
 use Rattle.up_machine.specs.declared.plan.Done.{Done}
@@ -38,6 +39,24 @@ abbrev pub SeatCommits : (ℕ → QueueId) → ℕ → ℕ → Committing ℕ
 SeatCommits queue lanes max_size count request id asked after_it result =
     (old : BoardView) × (new : BoardView) × IsCommitOf queue lanes max_size old new count after_it request id asked result
 
--- a seat of such a board as a keeper
-abbrev pub by_seat : (ℕ → QueueId) → ℕ → ℕ → ClosureAnswers → Keeping ℕ
-by_seat queue lanes max_size gives = keeping (SeatPlans queue lanes max_size) (SeatCommits queue lanes max_size) gives
+-- in a conversation: how many changes were made from its seat, and the entries of the history that the board follows, up
+-- to that of the last change that was made in the conversation
+pub record SeatState : Type 0 where
+  pub count : ℕ
+  pub known : List Entry
+
+abbrev pub seat_state : ℕ → List Entry → SeatState
+seat_state count known = record { count = count; known = known }
+
+-- the plans of a seat in a conversation
+abbrev pub ConversationPlans : (ℕ → QueueId) → ℕ → ℕ → Planning SeatState
+ConversationPlans queue lanes max_size old request result = SeatPlans queue lanes max_size old.count request result
+
+-- the commits of a seat that are not entries of a history
+abbrev pub UnloggedCommits : (ℕ → QueueId) → ℕ → ℕ → Committing SeatState
+UnloggedCommits queue lanes max_size old request id asked new result =
+    SeatCommits queue lanes max_size old.count request id asked new.count result × (new.known ≡ old.known)
+
+-- a seat of a board that follows no history as a keeper
+abbrev pub by_seat : (ℕ → QueueId) → ℕ → ℕ → ClosureAnswers → Keeping SeatState
+by_seat queue lanes max_size gives = keeping (ConversationPlans queue lanes max_size) (UnloggedCommits queue lanes max_size) gives

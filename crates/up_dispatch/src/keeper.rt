@@ -1,7 +1,8 @@
 //! What plans and commits requests: a book that is lent, or a seat of a board.
-ghost use Rattle.std.specs.Prelude.{◌≡◌};
+ghost use Rattle.std.specs.Prelude.{◌≡◌, []};
 ghost use Rattle.up_headers.specs.Table.{FitsWithin};
 ghost use Rattle.up_dispatch.specs.Free.{no_history};
+ghost use Rattle.up_dispatch.specs.Keepers.{seat_state};
 
 use crate::board::Board;
 use crate::naming::Naming;
@@ -115,7 +116,7 @@ impl<'a, B: Naming, R: Wait> Seated<'a, B, R> {
     /// Borrows the seat.
     pub fn new(rt: &'a R, board: &'a Board<B>, seat: &'a mut Seat<B>) -> Seated<'a, B, R>
         requires free { B.history ≡ no_history }
-        ensures state { ⟦<Seated<'a, B, R> as Keeper>⟧.state result ≡ seat.old }
+        ensures state { ⟦<Seated<'a, B, R> as Keeper>⟧.state result ≡ seat_state seat.old [] }
         ensures lender { ⟦<Seated<'a, B, R> as Keeper>⟧.lender result ≡ seat.entry.ghost_name }
     {
         Seated { rt, board, seat }
@@ -123,18 +124,19 @@ impl<'a, B: Naming, R: Wait> Seated<'a, B, R> {
 }
 
 impl<B: Naming, R: Wait> Keeper for Seated<'_, B, R> {
-    ghost use Rattle.std.specs.Prelude.{◌≡◌, ℕ};
-    ghost use Rattle.up_dispatch.specs.Keepers.{SeatPlans, SeatCommits};
+    ghost use Rattle.std.specs.Prelude.{◌≡◌, []};
+    ghost use Rattle.up_dispatch.specs.Keepers.{ConversationPlans, SeatState, UnloggedCommits};
+    ghost use Rattle.up_dispatch.specs.Keepers.{seat_state};
 
-    ghost State = { ℕ };
+    ghost State = { SeatState };
 
-    ghost state = { λ k. k.seat.now };
+    ghost state = { λ k. seat_state k.seat.now [] };
 
     ghost lender = { λ k. k.seat.ghost_name };
 
-    ghost plans = { SeatPlans B.queue B.lanes B.max_size };
+    ghost plans = { ConversationPlans B.queue B.lanes B.max_size };
 
-    ghost commits = { SeatCommits B.queue B.lanes B.max_size };
+    ghost commits = { UnloggedCommits B.queue B.lanes B.max_size };
 
     fn plan(&mut self, alloc: Global, request: &Request) -> Result<Plan, Refusal> {
         self.board.plan(self.rt, alloc, self.seat, request)

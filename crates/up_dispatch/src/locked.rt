@@ -165,8 +165,8 @@ impl<B: Naming> Locked<B> {
         Some(())
     }
 
-    /// How many events the log of a lane has in the book that the entries of a front define. `None` if the book does not
-    /// follow exactly these entries.
+    /// How many events the log of a lane has in the book that the entries of a front define. `None` if the book does
+    /// not follow exactly these entries.
     pub fn logged(&self, entries: &Front<Entry, B>, lane: u64) -> Option<u64>
         ensures { IfSome result (HasLogged B.lanes B.max_size entries.now lane) }
     {

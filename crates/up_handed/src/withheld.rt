@@ -1,5 +1,6 @@
 //! A post-hook that hands over no event before it may.
 ghost use Rattle.std.specs.Prelude.{◌≡◌, [], All, IfOk, IsTrue, true, vec_len};
+ghost use Rattle.up_handed.specs.Withholds.{withheld_hooks};
 
 use std::alloc::{AllocError, Global};
 use std::marker::Send;
@@ -85,7 +86,8 @@ impl<H, P> Withheld<H, P> {
     }
 }
 
-/// Makes each post-hook hand over no event before the permission is given. `AllocError` if memory runs out.
+/// Makes each post-hook hand over no event before the permission is given, in the same order. `AllocError` if memory
+/// runs out.
 pub fn withhold_each<H: PostHook + Drop, P: Permission + Copy + Drop>(
     alloc: Global,
     hooks: Vec<H>,
@@ -93,6 +95,7 @@ pub fn withhold_each<H: PostHook + Drop, P: Permission + Copy + Drop>(
 ) -> Result<Vec<Withheld<H, P>>, AllocError>
     requires new { All (λ h. H.is_sound h × (H.handed h ≡ [])) hooks.items }
     ensures one_for_each { IfOk result (λ made. vec_len made ≡ vec_len hooks) }
+    ensures hooks { IfOk result (λ made. withheld_hooks made.items ≡ hooks.items) }
     ensures new { IfOk result (λ made. All
         (λ w. ⟦<Withheld<H, P> as PostHook>⟧.is_sound w
         × (⟦<Withheld<H, P> as PostHook>⟧.handed w ≡ [])) made.items) }

@@ -1,5 +1,6 @@
 //! How far something follows a history.
 ghost use Rattle.std.specs.Prelude.{◌≡◌, ◌≤◌, ◌++◌, ◌∷◌, [], length, take, Some, IsTrue, ◌↔◌};
+ghost use mathlib.Core.List.{IsPrefix};
 ghost use Rattle.up_history.specs.Histories.{HasFirst, first_entries};
 
 use crate::chronicle::Chronicle;
@@ -59,6 +60,20 @@ impl<E, J: Chronicle> Trail<E, J> {
         }
     }
 
+    /// It follows all entries up to that of a receipt.
+    pub fn up_to(receipt: &Receipt<E, J>) -> Trail<E, J>
+        ensures { (entry : E) → receipt.now.entry ≡ Some entry
+            → result ≡ receipt.now.before ++ entry ∷ [] }
+    {
+        let front = receipt.front();
+        // For the prover: the length of a front is below 2^64, so the sum does not overflow.
+        let _ = front.len();
+        Trail {
+            count: receipt.number() + 1,
+            front: Some(front),
+        }
+    }
+
     /// The number of entries that it follows.
     pub fn len(&self) -> u64
         ensures { result ≡ length self.now }
@@ -71,6 +86,19 @@ impl<E, J: Chronicle> Trail<E, J> {
         ensures { IsTrue result ↔ (receipt.now.number ≡ length self.now) }
     {
         receipt.number() == self.len()
+    }
+
+    /// Whether it follows only entries before that of a receipt.
+    pub fn is_before(&self, receipt: &Receipt<E, J>) -> bool
+        ensures is { IsTrue result ↔ (length self.now ≤ receipt.now.number) }
+        ensures before { IsTrue result → IsPrefix self.now receipt.now.before }
+    {
+        if self.len() > receipt.number() {
+            return false;
+        }
+        // For the prover: a law, which does nothing when it runs.
+        agree(&self.front, self.count, &receipt.front());
+        true
     }
 
     /// Whether it follows all entries of a front, and no others.

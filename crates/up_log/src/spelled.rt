@@ -39,8 +39,8 @@ impl Spelled {
         Spelled::encoded(Vec::with_capacity(alloc, room_of(logged))?, logged)
     }
 
-    /// Encodes an entry in the memory of this one, and needs no other if it takes no more. `AllocError` if it takes more
-    /// and memory runs out.
+    /// Encodes an entry in the memory of this one, and needs no other if it takes no more. `AllocError` if it takes
+    /// more and memory runs out.
     pub fn again(self, logged: &Entry) -> Result<Spelled, AllocError>
         ensures { IfOk result (λ spelled. spelled ≡ logged.now) }
     {

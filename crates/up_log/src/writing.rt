@@ -7,10 +7,7 @@ use crate::entry::{Consent, Entry};
 use std::alloc::{AllocError, Global};
 use up_events::{Id, Kind};
 use up_headers::{NewUpload, NotDigits, Pairs, Patch, Request};
-use up_message::{Piece, Sequence};
-
-/// How many bytes a PATCH must append so that they are not copied into its encoding.
-const MIN_SHARED: usize = 16_384;
+use up_message::{MIN_SHARED, Piece, Sequence};
 
 /// A number as eight bytes, the lowest first.
 #[tactic(auto, unfolding(crate::specs::Spelling::word))]

@@ -9,10 +9,7 @@ use bytes::BytesMut;
 use std::alloc::{AllocError, Global};
 use std::marker::Model;
 use up_events::{Accepted, Journal, NoMemory};
-use up_message::{Piece, Run, Segments};
-
-/// The minimum size, in bytes, of a body that is kept as it arrived. A smaller body is copied into the tail.
-const KEPT_FROM: usize = 16_384;
+use up_message::{MIN_SHARED, Piece, Run, Segments};
 
 /// The maximum room of a tail, in bytes.
 const TAIL_ROOM: usize = 65_536;
@@ -192,7 +189,7 @@ impl Pieces {
         ensures err { OnErr result (self.new ≡ self.old) }
         ensures not_noted { OnErr result (journal.new ≡ journal.old) }
     {
-        if more.len() < KEPT_FROM {
+        if more.len() < MIN_SHARED {
             self.append_small(alloc, journal, change, more.as_slice(), most)
         } else {
             self.append_large(alloc, journal, change, more)

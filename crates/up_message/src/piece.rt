@@ -6,6 +6,9 @@ use bytes::{Bytes, BytesMut};
 use std::alloc::{AllocError, Global};
 use std::marker::Model;
 
+/// The minimum size, in bytes, of a body that is shared, and not copied, to be kept or encoded.
+pub const MIN_SHARED: usize = 16_384;
+
 /// Bytes in one piece of memory, which other owners may share. Memory that is allocated for a piece has no room beyond
 /// its bytes. Contracts describe the bytes.
 #[derive(Drop)]

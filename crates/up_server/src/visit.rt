@@ -80,7 +80,8 @@ fn serve_stream<'x, B: Naming, I: Ids, S: Service, T: Wait>(
         source: &mut source,
         sink: &mut sink,
     };
-    Ok(service.converse(rt, alloc, context.board, seat, hooks, &mut exchange))
+    let (ended, _known) = service.converse(rt, alloc, context.board, seat, hooks, &mut exchange);
+    Ok(ended)
 }
 
 /// Closes a connection after its last answer. Bytes that the client has sent, or still sends, are read and dropped. If

@@ -5,6 +5,7 @@ ghost use Rattle.up_log.specs.declared.entry.Entry.{Entry as Logged};
 ghost use Rattle.up_hooks.specs.MayAnswer.{ClosuresMayAnswer};
 ghost use Rattle.up_dispatch.specs.Answering.{Serves};
 ghost use Rattle.up_dispatch.specs.Exchanges.{KeepsBorrows, stand_in};
+ghost use Rattle.up_dispatch.specs.Keepers.{seat_state};
 ghost use Rattle.up_dispatch.specs.Turn.{Converses};
 ghost use Rattle.up_dispatch.specs.Lists.{EachAt};
 ghost use Rattle.up_store.specs.Permits.{HasCounted, counted_in};
@@ -26,9 +27,9 @@ use std::sync::atomic::AtomicU64;
 use std::sync::{Mutex, Wait};
 use up_dispatch::{Board, Ended, Exchange, Ids, Naming, Seat, Service, converse};
 use up_handed::Counted;
-use up_history::Chronicle;
+use up_history::{Chronicle, Trail};
 use up_hooks::PreHooks;
-use up_log::LogReader;
+use up_log::{Entry, LogReader};
 use up_tie::{Reading, Site};
 use up_wire::{Sink, Source};
 
@@ -92,7 +93,13 @@ impl<D: Disk, N, F, J: Site, K: Chronicle> Keeping<D, N, F, J, K> {
     }
 }
 
-/// Holds one conversation from a seat of the board. Each change is in the log before the board hears of it.
+/// For the prover: what was lent and comes back is unchanged.
+fn give_back<X>(_lent: &mut X)
+    ensures { _lent.new ≡ _lent.old }
+{}
+
+/// Holds one conversation from a seat of the board. Each change is in the log before the board hears of it. Also
+/// returns the entries of the log up to that of the last change that was made here.
 pub fn converse_stored<
     B: Naming,
     D: Disk + Drop,
@@ -111,18 +118,21 @@ pub fn converse_stored<
     seat: &mut Seat<B>,
     hooks: &PreHooks,
     exchange: &mut Exchange<'_, I, R, W>,
-) -> Ended
+) -> (Ended, Trail<Entry, B>)
     requires same { J.history ≡ B.history }
     ensures served { Converses
         (Serves (by_stored_seat B.queue B.lanes B.max_size (ClosuresMayAnswer hooks.now)) I.draws)
         B.max_size
-        (stand_in R.device W.device seat.old exchange.old)
-        (stand_in R.device W.device seat.new exchange.new) result }
+        (stand_in R.device W.device (seat_state seat.old []) exchange.old)
+        (stand_in R.device W.device (seat_state seat.new result.1) exchange.new) result.0 }
     ensures borrows { KeepsBorrows exchange.old exchange.new }
 {
     let max_size = board.max_size();
     let mut stored = Stored::new(rt, board, store, seat);
-    converse(alloc, &mut stored, hooks, max_size, exchange)
+    let ended = converse(alloc, &mut stored, hooks, max_size, exchange);
+    let Stored { seat, known, .. } = stored;
+    give_back(seat);
+    (ended, known)
 }
 
 impl<
@@ -190,7 +200,7 @@ impl<
         seat: &mut Seat<B>,
         hooks: &PreHooks,
         exchange: &mut Exchange<'_, I, R, W>,
-    ) -> Ended {
+    ) -> (Ended, Trail<Entry, B>) {
         converse_stored(rt, alloc, board, &self.store, seat, hooks, exchange)
     }
 }

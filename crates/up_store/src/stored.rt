@@ -1,8 +1,12 @@
 //! A seat of a board whose changes are written to a log before they are made.
-ghost use Rattle.std.specs.Prelude.{◌≡◌, true, IfNone, IfOk, IfSome, Err, Some};
+ghost use Rattle.std.specs.Prelude.{◌≡◌, ◌++◌, ◌∷◌, [], true, IfNone, IfOk, IfSome, Err, Some};
+ghost use mathlib.Core.List.{IsPrefix};
+ghost use Rattle.up_headers.specs.Table.{FitsWithin};
 ghost use Rattle.up_machine.specs.Decision.{is_refusal};
 ghost use Rattle.up_machine.specs.declared.refusal.Refusal.TheVariants.{NoMemory};
 ghost use Rattle.up_replay.specs.Replay.{asked_of};
+ghost use Rattle.up_dispatch.specs.Keepers.{seat_state};
+ghost use Rattle.up_dispatch.specs.Tied.{CommitsAfter};
 
 use crate::held::LogFile;
 use crate::notices::StoreNotices;
@@ -11,9 +15,9 @@ use sqlite_disk::Disk;
 use std::alloc::{AllocError, Global};
 use std::sync::Wait;
 use up_dispatch::{Board, Keeper, Naming, Seat};
-use up_events::Id;
+use up_events::{Id, MAX_UPLOAD_BYTES};
 use up_headers::Request;
-use up_history::{Chronicle, Receipt};
+use up_history::{Chronicle, Receipt, Trail};
 use up_log::{Consent, Entry, Spelled};
 use up_machine::{Asked, Done, Plan, Refusal};
 use up_tie::Site;
@@ -29,7 +33,9 @@ pub struct Stored<'a, B: Naming, D: Disk, N, J: Site, K: Chronicle, R: Wait> {
     rt: &'a R,
     board: &'a Board<B>,
     store: &'a Store<D, N, J, K>,
-    seat: &'a mut Seat<B>,
+    pub(crate) seat: &'a mut Seat<B>,
+    /// The entries of the history up to that of the last change that was made here.
+    pub(crate) known: Trail<Entry, B>,
     ghost same: { J.history ≡ B.history },
 }
 
@@ -57,6 +63,34 @@ fn answer_of(decided: Option<Result<Done, Refusal>>) -> Result<Done, Refusal>
     }
 }
 
+/// Has the board decide on the entry of a receipt, if that comes after all known entries. Then it is known too. `None`
+/// if the board does not decide on it; nothing has changed then.
+fn decide<B: Naming, R: Wait>(
+    rt: &R,
+    alloc: Global,
+    board: &Board<B>,
+    seat: &mut Seat<B>,
+    known: &mut Trail<Entry, B>,
+    receipt: &Receipt<Entry, B>,
+    entry: Entry,
+) -> Option<Result<Done, Refusal>>
+    requires bounded { FitsWithin MAX_UPLOAD_BYTES entry.request }
+    requires claims { receipt.now.entry ≡ Some entry }
+    ensures known { IfSome result (λ r. IsPrefix known.old receipt.now.before
+        × (known.new ≡ receipt.now.before ++ entry ∷ [])) }
+    ensures some { IfSome result (λ r. CommitsAfter B.queue B.lanes B.max_size
+        receipt.now.before seat.old entry seat.new r) }
+    ensures none { IfNone result ((seat.new ≡ seat.old) × (known.new ≡ known.old)) }
+{
+    // For the prover: turns come in the order of the log, so it always does.
+    if !known.is_before(receipt) {
+        return None;
+    }
+    let decided = board.commit_at(rt, alloc, seat, receipt, entry)?;
+    *known = Trail::up_to(receipt);
+    Some(decided)
+}
+
 impl<
     'a,
     B: Naming,
@@ -74,7 +108,8 @@ impl<
         seat: &'a mut Seat<B>,
     ) -> Stored<'a, B, D, N, J, K, R>
         requires same { J.history ≡ B.history }
-        ensures state { ⟦<Stored<'a, B, D, N, J, K, R> as Keeper>⟧.state result ≡ seat.old }
+        ensures state { ⟦<Stored<'a, B, D, N, J, K, R> as Keeper>⟧.state result
+            ≡ seat_state seat.old [] }
         ensures lender { ⟦<Stored<'a, B, D, N, J, K, R> as Keeper>⟧.lender result
             ≡ seat.entry.ghost_name }
     {
@@ -83,6 +118,7 @@ impl<
             board,
             store,
             seat,
+            known: Trail::new(),
         }
     }
 
@@ -114,17 +150,17 @@ impl<
 
 impl<B: Naming, D: Disk + Drop, N: StoreNotices + LogFile<D>, J: Site, K: Chronicle, R: Wait> Keeper
     for Stored<'_, B, D, N, J, K, R> {
-    ghost use Rattle.std.specs.Prelude.{◌≡◌, ℕ};
-    ghost use Rattle.up_dispatch.specs.Keepers.{SeatPlans};
+    ghost use Rattle.std.specs.Prelude.{◌≡◌};
+    ghost use Rattle.up_dispatch.specs.Keepers.{ConversationPlans, SeatState, seat_state};
     ghost use Rattle.up_store.specs.StoredCommits.{StoredCommits};
 
-    ghost State = { ℕ };
+    ghost State = { SeatState };
 
-    ghost state = { λ k. k.seat.now };
+    ghost state = { λ k. seat_state k.seat.now k.known };
 
     ghost lender = { λ k. k.seat.ghost_name };
 
-    ghost plans = { SeatPlans B.queue B.lanes B.max_size };
+    ghost plans = { ConversationPlans B.queue B.lanes B.max_size };
 
     ghost commits = { StoredCommits B.queue B.lanes B.max_size };
 
@@ -153,9 +189,15 @@ impl<B: Naming, D: Disk + Drop, N: StoreNotices + LogFile<D>, J: Site, K: Chroni
             return Err(Refusal::NoMemory);
         };
         let receipt: Receipt<Entry, B> = receipt.known_as();
-        let decided = self
-            .board
-            .commit_at(self.rt, alloc, self.seat, &receipt, entry);
+        let decided = decide(
+            self.rt,
+            alloc,
+            self.board,
+            self.seat,
+            &mut self.known,
+            &receipt,
+            entry,
+        );
         let answer = answer_of(decided);
         if matches!(answer, Err(Refusal::NoMemory | Refusal::Closed)) {
             self.store.note_void(self.rt);

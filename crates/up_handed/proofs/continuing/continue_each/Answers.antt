@@ -1,5 +1,5 @@
-use Rattle.std.proofs.Common.{◌≡◌, ◌⊎◌, inl, inr, ℕ, List, [], ◌∷◌, ◌++◌, ◌+◌, length, map, vec_len, rules, arith, ap, subst, sym, ◌∙◌, append_assoc, append-nil}
-use Rattle.std.proofs.lemmas.List.{length-append, length-map, map-append, nil_from_length}
+use Rattle.std.proofs.Common.{◌≡◌, ◌⊎◌, inl, inr, ℕ, [], ◌++◌, ◌+◌, map, vec_len, rules, arith, ap, subst, sym, ◌∙◌}
+use Rattle.std.proofs.lemmas.List.{length-map}
 use Rattle.std.proofs.lemmas.List.Elements.{All-nil, All-rest, All-push}
 use Rattle.std.specs.Iterator.Adapters.{zip_first, zip_second}
 use Rattle.std.specs.Vec.Iter.{into_iter_items, into_iter_len}
@@ -10,19 +10,8 @@ use Rattle.up_handed.specs.declared.continued.Continued.{Continued}
 use Rattle.up_handed.specs.declared.handed.Handed.{Handed}
 use Rattle.up_handed.specs.declared.noting.Noting.{Noting}
 use Rattle.up_handed.specs.declared.opened.Opened.{Opened}
+use Rattle.up_handed.proofs.Making.{grows, all_made}
 use Rattle.up_handed.proofs.continuing.continue_each.Goals as goal
-
--- one more was made of the first of those that were left
-grows : {X Y : Type 0} (f : X → Y) (made : List X) (next : X) (first : Y) (rest left all : List Y) → f next ≡ first → left ≡ first ∷ rest → map f made ++ left ≡ all → map f (made ++ next ∷ []) ++ rest ≡ all
-grows f made next first rest left all is split was =
-    ap (λ l. l ++ rest) (map-append f made (next ∷ [])) ∙ append_assoc (map f made) (f next ∷ []) rest
-    ∙ ap (λ y. map f made ++ (y ∷ rest)) is ∙ ap (λ l. map f made ++ l) (sym split) ∙ was
-
--- none is left once as many were made as there were
-all_made : {X Y : Type 0} (f : X → Y) (made : List X) (left all : List Y) → map f made ++ left ≡ all → length made ≡ length all → map f made ≡ all
-all_made f made left all is same =
-    let none : left ≡ [] = nil_from_length left (omega (arith, same, ap length is, length-append (map f made) left, length-map made f)) in
-    sym (append-nil (map f made)) ∙ ap (λ l. map f made ++ l) (sym none) ∙ is
 
 -- a loop over two lists of the same length ends after as many turns
 ended : {S T : Type 0} (first second done all : ℕ) (P : S → Type 0) (Q : T → Type 0) → ((u : S) × P u) ⊎ ((u : T) × Q u)
