@@ -63,8 +63,8 @@ KILLS = 5
 # The files of which a sync fails once, whether only after a switch to a shorter log, and how many of the first syncs of
 # a thread do. A thread makes fewer syncs of some files than of others.
 SYNCED = [
-    ("heads", False, 4), ("log", False, 10), ("log.1", False, 6), ("void.1", False, 6), ("handed", False, 10),
-    ("log.1", True, 10),
+    ("heads", False, 4), ("log", False, 10), ("log.1", False, 6), ("void", False, 2), ("void.1", False, 6),
+    ("handed", False, 10), ("spare", False, 4), ("log.1", True, 10),
 ]
 
 # The seconds for which a shorter log is held up when it is opened, and how many large uploads are made meanwhile.
