@@ -45,6 +45,7 @@ fn closed_by_store<B: Naming, J: Site, K: Chronicle, R: Wait>(
     board.close(rt);
     let rows = [(What::Put, 1, 3), (What::Make, 2, 4), (What::Remove, 1, 0)];
     let told = change(alloc, &mut keeper, &rows)?;
+    drop(keeper);
     let logs = files_of(store)?;
     Ok((told, (logs.changes.into_device(), logs.voids.into_device())))
 }

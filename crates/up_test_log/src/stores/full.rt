@@ -121,6 +121,7 @@ fn step_by_store<B: Naming, J: Site, K: Chronicle, R: Wait>(
         let told = change(alloc, &mut keeper, &rows_of(alloc, *step)?)?;
         found.push(told_of(tally, &told))?;
     }
+    drop(keeper);
     let logs = files_of(store)?;
     let changes = logs.changes.into_device().into_inner();
     Ok((found, (changes, logs.voids.into_device().into_inner())))

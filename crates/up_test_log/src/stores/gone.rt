@@ -45,6 +45,7 @@ fn taken_away<B: Naming, J: Site, K: Chronicle, R: Wait>(
     let first = store.is_gone(rt);
     let mut keeper = Stored::new(rt, &board, &store, &mut seat);
     let made = change(alloc, &mut keeper, &[(What::Make, 1, 4)])?;
+    drop(keeper);
     tally.take_away();
     let gone = [first, store.is_gone(rt), store.is_gone(rt)];
     let mut keeper = Stored::new(rt, &board, &store, &mut seat);

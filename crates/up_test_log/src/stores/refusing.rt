@@ -82,6 +82,7 @@ fn refused_by_store<B: Naming, J: Site, K: Chronicle, R: Wait>(
     )?;
     let mut keeper = Stored::new(rt, &board, &store, &mut seat);
     let told = refuse(alloc, &mut keeper, refused)?;
+    drop(keeper);
     let (count, _) = count_in(alloc, files_of(store)?.changes.into_device())?;
     Ok((told, count))
 }

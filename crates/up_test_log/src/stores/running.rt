@@ -238,6 +238,7 @@ where
     )?;
     let mut keeper = Stored::new(rt, &board, &store, &mut seat);
     let seen = seen(rt, alloc, &board, &mut keeper)?;
+    drop(keeper);
     Ok((seen, files_of(store)?))
 }
 
@@ -319,6 +320,7 @@ fn run_by<
     let outcomes = work_each(rt, alloc, &board, &store, jobs)?;
     let mut keeper = Stored::new(rt, &board, &store, &mut seat);
     let seen = seen(rt, alloc, &board, &mut keeper)?;
+    drop(keeper);
     Ok(Some(Ran {
         outcomes,
         seen,

@@ -141,6 +141,7 @@ fn shorten_by<B: Naming, J: Site, K: Chronicle, R: Wait>(
     )?;
     let mut keeper = Stored::new(rt, &board, &store, &mut seat);
     let seen = seen(rt, alloc, &board, &mut keeper)?.1;
+    drop(keeper);
     let Some(current) = shortening.into_current() else {
         return Err("a store that is open".into());
     };
