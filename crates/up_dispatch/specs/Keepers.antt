@@ -40,7 +40,7 @@ SeatCommits queue lanes max_size count request id asked after_it result =
     (old : BoardView) × (new : BoardView) × IsCommitOf queue lanes max_size old new count after_it request id asked result
 
 -- in a conversation: how many changes were made from its seat, and the entries of the history that the board follows, up
--- to that of the last change that was made in the conversation
+-- to the last one that the board decided on in the conversation
 pub record SeatState : Type 0 where
   pub count : ℕ
   pub known : List Entry

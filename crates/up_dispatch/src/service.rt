@@ -72,7 +72,7 @@ pub trait Service: Sync {
         requires same { B.history ≡ history };
 
     /// Serves one conversation from a seat of the board. Also returns the entries of the history that the board
-    /// follows, up to that of the last change that was made in the conversation. There are none if no change was made.
+    /// follows, up to the last one that the board decided on in the conversation. There are none if it decided on none.
     fn converse<B: Naming, I: Ids, R: Source, W: Sink, T: Wait>(
         &self,
         rt: &T,

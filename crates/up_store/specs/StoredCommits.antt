@@ -35,8 +35,8 @@ IsRefusedFirst queue lanes max_size old request id asked new result =
 abbrev pub IsNotMade : SeatState → SeatState → Result Done Refusal → Type 0
 IsNotMade old new result = (result ≡ Err refusal.NoMemory) × (new ≡ old)
 
--- the commits of a lawful board that has all changes made from the seat, in the order of the log; or the board did not
--- see the change
+-- the commits of a lawful board that has decided on all changes from the seat, in the order of the log; or the board did
+-- not see the change
 abbrev pub StoredCommits : (ℕ → QueueId) → ℕ → ℕ → Committing SeatState
 StoredCommits queue lanes max_size old request id asked new result =
     IsInTurn queue lanes max_size old request id asked new result

@@ -99,7 +99,7 @@ fn give_back<X>(_lent: &mut X)
 {}
 
 /// Holds one conversation from a seat of the board. Each change is in the log before the board hears of it. Also
-/// returns the entries of the log up to that of the last change that was made here.
+/// returns the entries of the log up to the last one that the board decided on here.
 pub fn converse_stored<
     B: Naming,
     D: Disk + Drop,

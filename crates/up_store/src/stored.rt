@@ -34,7 +34,7 @@ pub struct Stored<'a, B: Naming, D: Disk, N, J: Site, K: Chronicle, R: Wait> {
     board: &'a Board<B>,
     store: &'a Store<D, N, J, K>,
     pub(crate) seat: &'a mut Seat<B>,
-    /// The entries of the history up to that of the last change that was made here.
+    /// The entries of the history up to the last one that the board decided on here.
     pub(crate) known: Trail<Entry, B>,
     ghost same: { J.history ≡ B.history },
 }
