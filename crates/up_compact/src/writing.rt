@@ -16,7 +16,7 @@ use up_headers::Request;
 use up_log::{Entry, Log, LogFault, Spelled};
 
 /// How much of a log has been processed.
-#[derive(Clone, Copy, Debug, PartialEq, Eq)]
+#[derive(Clone, Copy, PartialEq, Eq)]
 pub struct Progress {
     /// The place of the next batch.
     pub place: usize,

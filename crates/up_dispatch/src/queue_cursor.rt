@@ -10,7 +10,7 @@ use up_events::Journal;
 use up_queue::{Item, PutEnd};
 
 /// How filling a queue ended.
-#[derive(Clone, Copy, Debug, PartialEq, Eq)]
+#[derive(Clone, Copy, PartialEq, Eq)]
 pub enum Filled {
     /// The whole log was put, and after it the end, if no more events come.
     Whole,

@@ -15,7 +15,7 @@ use crate::tail::Tail;
 use std::collections::BTreeMap;
 
 /// The state of an upload.
-#[derive(Clone, Copy, Debug)]
+#[derive(Clone, Copy)]
 pub struct Track {
     /// The number of its events.
     pub events: u64,

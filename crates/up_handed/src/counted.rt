@@ -7,7 +7,7 @@ use sqlite_disk::Disk;
 use std::alloc::{AllocError, Global};
 
 /// What earlier runs counted of the events of a lane.
-#[derive(Clone, Copy, Debug, PartialEq, Eq)]
+#[derive(Clone, Copy, PartialEq, Eq)]
 pub struct Counted {
     /// The number of events that they handed over, with those that a shorter log leaves out.
     pub count: u64,

@@ -6,7 +6,7 @@ use up_events::{Event, Hook, Id, NoMemory};
 use up_hooks::{Outcome, PostHook};
 
 /// An upload that has ended.
-#[derive(Clone, Copy, Debug, PartialEq, Eq)]
+#[derive(Clone, Copy, PartialEq, Eq)]
 pub struct EndedUpload {
     pub id: Id,
     /// The number of its events.

@@ -7,7 +7,7 @@ use std::alloc::{AllocError, Global};
 use up_events::Id;
 
 /// What a target refers to.
-#[derive(Clone, Copy, Debug, PartialEq, Eq)]
+#[derive(Clone, Copy, PartialEq, Eq)]
 pub(crate) enum Place {
     /// The creation URL, `/files` or `/files/` (tus 1.0.0, Creation).
     Creation,

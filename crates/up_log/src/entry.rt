@@ -4,7 +4,7 @@ use up_headers::Request;
 
 /// What the closures said about a request that they do not refuse. A refused request changes nothing, so it is not
 /// logged.
-#[derive(Clone, Copy, Debug, PartialEq, Eq)]
+#[derive(Clone, Copy, PartialEq, Eq)]
 pub enum Consent {
     /// Nobody was asked.
     Skipped,

@@ -2,7 +2,7 @@
 
 /// The numbers of a server that its log depends on: with other numbers, the decisions about its entries would be
 /// different. They are at the start of the file.
-#[derive(Clone, Copy, Debug, PartialEq, Eq)]
+#[derive(Clone, Copy, PartialEq, Eq)]
 pub struct Setup {
     /// The number of lanes that hand over events.
     pub lanes: u64,

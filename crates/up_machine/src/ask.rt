@@ -40,7 +40,7 @@ pub struct Ask {
 }
 
 /// The answer of a closure.
-#[derive(Clone, Copy, Debug, PartialEq, Eq)]
+#[derive(Clone, Copy, PartialEq, Eq)]
 pub enum Verdict {
     Allow,
     /// The request is not carried out. The status of the response is 400, 403, 409, 413, 422 or 429.

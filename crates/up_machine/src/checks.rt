@@ -14,7 +14,7 @@ use up_events::{Accepted, Id, Kind};
 use up_headers::{NotDigits, Patch};
 
 /// The result of a PATCH.
-#[derive(Clone, Copy, Debug)]
+#[derive(Clone, Copy)]
 pub struct PatchOutcome {
     /// The number of bytes of the upload after it.
     pub offset: u64,

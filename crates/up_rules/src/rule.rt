@@ -9,7 +9,7 @@ use up_machine::{Ask, Point, Verdict};
 use up_words::Words;
 
 /// A rule that a closure of the program enforces.
-#[derive(Debug, Drop, PartialEq, Eq)]
+#[derive(Drop, PartialEq, Eq)]
 pub enum Rule {
     /// A plain or final upload is created only with this key in its metadata.
     NeedsKey(String),

@@ -50,7 +50,7 @@ pub trait Notices {
 }
 
 /// Tells nobody.
-#[derive(Clone, Copy, Debug)]
+#[derive(Clone, Copy)]
 pub struct Silent;
 
 impl Notices for Silent {

@@ -18,7 +18,7 @@ const RETRY: u64 = 1000;
 const MAX_LAST: u64 = 1 << 24;
 
 /// How long the connections of a server wait for their clients.
-#[derive(Clone, Copy, Debug, Default, PartialEq, Eq)]
+#[derive(Clone, Copy, Default, PartialEq, Eq)]
 pub struct Patience {
     /// How many seconds a read or a write may last without moving a byte, at least 1. `None` sets no limit.
     pub seconds: Option<u64>,

@@ -22,7 +22,7 @@ pub enum Due {
 }
 
 /// The kinds of shortage about which a line was printed.
-#[derive(Clone, Copy, Debug, PartialEq, Eq)]
+#[derive(Clone, Copy, PartialEq, Eq)]
 struct Wants {
     descriptors: bool,
     memory: bool,
@@ -71,7 +71,7 @@ impl Wants {
 
 /// Which lines were printed about accepting connections, and when: one line as each kind of shortage begins, and one
 /// when all are over. Times are in milliseconds since any fixed moment.
-#[derive(Clone, Copy, Debug, PartialEq, Eq)]
+#[derive(Clone, Copy, PartialEq, Eq)]
 pub struct Said {
     /// The kinds about which a line was printed since all shortages were over.
     wants: Wants,

@@ -8,7 +8,7 @@ use up_log::LogFault;
 const APART: u64 = 1000;
 
 /// Whether changes are stored.
-#[derive(Clone, Copy, Debug)]
+#[derive(Clone, Copy)]
 pub enum Storing {
     /// They are.
     Stored,
@@ -26,7 +26,7 @@ impl Storing {
 }
 
 /// Whether changes are stored, and what the last line said about it. Times are in milliseconds since any fixed moment.
-#[derive(Clone, Copy, Debug)]
+#[derive(Clone, Copy)]
 pub struct Told {
     news: Storing,
     /// Whether the last line said that changes are refused.

@@ -6,7 +6,7 @@ use crate::wire_fault::WireFault;
 use up_message::{Field, Values, find_value, is_digits, number, same_name};
 
 /// How a head says where the body ends.
-#[derive(Clone, Copy, Debug)]
+#[derive(Clone, Copy)]
 pub enum Framing {
     NoBody,
     Sized(u64),

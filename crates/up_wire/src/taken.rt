@@ -3,7 +3,7 @@ use crate::wire_fault::WireFault;
 use up_message::Message;
 
 /// The caller's limits.
-#[derive(Clone, Copy, Debug, PartialEq, Eq)]
+#[derive(Clone, Copy, PartialEq, Eq)]
 pub struct Limits {
     /// The maximum number of bytes of a body.
     pub max_body: u64,
