@@ -1,6 +1,6 @@
 use Rattle.std.proofs.Common.{◌≡◌, ◌⊎◌, inl, inr, ℕ, [], ◌++◌, ◌+◌, map, vec_len, rules, arith, ap, subst, sym, ◌∙◌}
 use Rattle.std.proofs.lemmas.List.{length-map}
-use Rattle.std.proofs.lemmas.List.Elements.{All-nil, All-rest, All-push}
+use Rattle.std.proofs.lemmas.List.Elements.{All-nil, All-head, All-rest, All-push}
 use Rattle.std.specs.Iterator.Adapters.{zip_first, zip_second}
 use Rattle.std.specs.Vec.Iter.{into_iter_items, into_iter_len}
 use Rattle.std.specs.List.{All}
@@ -35,6 +35,11 @@ loop-hook-init g c =
       same_hooks = ap (λ l. map hook_of l ++ into_iter_items (zip_first c.into_iter-hook-iterator.result)) c.in_ok-made.ensures.items ∙ sym same;
       same_counts = ap (λ l. map count_of l ++ opened_counts (into_iter_items (zip_second c.into_iter-hook-iterator.result))) c.in_ok-made.ensures.items ∙ ap (λ l. opened_counts l) (sym same_counts);
     }
+
+pub without-continued-requires-clause-sound : goal.without-continued-requires-clause-sound
+without-continued-requires-clause-sound g c = λ lives outlive.
+    let fresh : g.row.H.Denot → Type 0 = λ h. g.H.PostHook.is_sound h × (g.H.PostHook.handed h ≡ []) in
+    (All-head fresh c.in-Some.hook (into_iter_items (zip_first c.next.new.self)) (subst (All fresh) c.in-Some.ensures.steps.0.0 c.loop-hook.invariant.new)).0
 
 pub loop-hook-preserved : goal.loop-hook-preserved
 loop-hook-preserved g c =
