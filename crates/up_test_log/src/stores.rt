@@ -1,6 +1,8 @@
 //! Stores with disks in memory.
+mod beginning;
 mod closing;
 mod counts;
+mod course;
 mod disks;
 mod failing;
 mod full;

@@ -2,6 +2,7 @@
 ghost use Rattle.std.specs.Prelude.{◌≡◌, length};
 ghost use Rattle.up_dispatch.specs.Parts.{IsNamed};
 
+use super::beginning::{Begun, begun};
 use super::disks::{file_of, reader_of};
 use super::running::board_of;
 use super::tally::Tally;
@@ -9,17 +10,15 @@ use crate::logs::{Row, What, disk_of};
 use crate::same::expect_same;
 use sqlite_disk::Memory;
 use std::alloc::Global;
-use std::marker::{Brand, Send};
+use std::marker::Brand;
 use std::sync::Wait;
 use std::test::Fail;
 use up_compact::Heads;
-use up_dispatch::{BoardParts, Naming, Service};
-use up_handed::{Counted, Permission};
+use up_dispatch::{BoardParts, Naming};
+use up_handed::Counted;
 use up_history::Chronicle;
 use up_log::{LogFault, LogReader};
-use up_store::{
-    Current, EndedUploads, Folder, Histories, Keeping, Least, Shortening, Store, Unrestored,
-};
+use up_store::{Current, EndedUploads, Folder, Histories, Least, Shortening, Store, Unrestored};
 use up_tie::{Reading, Site};
 
 /// Three entries in two batches. Of the two lanes the first has one event, and the second has three.
@@ -156,52 +155,21 @@ fn the_reason_says_which_log_is_damaged(rt: HostRuntime) -> Result<(), Fail> {
     Ok(())
 }
 
-/// Whether conversations may begin over a store of which so many events were counted, and whether events may then be
-/// handed over. They may not before.
-fn begun_by<B: Naming, J: Site + Send, K: Chronicle + Send, R: Wait>(
-    rt: &R,
-    alloc: Global,
-    parts: BoardParts,
-    counts: Vec<Counted>,
-    histories: Histories,
-) -> Result<(bool, bool, bool), Fail>
-    requires named { IsNamed B.name B.parts B.queue B.lanes parts }
-    requires lanes { length parts.queues ≡ 2 }
-    requires sized { B.max_size ≡ 1000 }
-    requires written { histories.written ≡ J.history }
-    requires drawn { histories.drawn ≡ K.history }
-    requires nothing { J.premise → ⊥ }
-    requires same { J.history ≡ B.history }
-{
-    let (board, seat) = board_of::<B, R>(rt, alloc, parts)?;
-    let tally = Tally::new();
-    let (changes, voids) = files(alloc)?;
+/// Begins over these files, of which so many events of the second lane were counted.
+fn begun_after<R: Wait>(rt: &R, alloc: Global, count: u64) -> Result<Begun, Fail> {
+    let mut counts = Vec::new(alloc);
+    counts.push(counted(1, 0))?;
+    counts.push(counted(count, 0))?;
     let (heads, head) = Heads::read(alloc, reader_of(alloc, Memory::new(alloc))?)?;
     let current = Current { heads, head };
-    let keeping: Keeping<Memory, &Tally, NoFolder, J, K> = Keeping::new(
-        alloc,
-        reader_of(alloc, changes)?,
-        reader_of(alloc, voids)?,
-        histories,
-        &tally,
-        Shortening::new(current, EndedUploads::new(alloc), NoFolder, 2, 0),
-        counts,
-    )?;
-    let before = keeping.permit().is_given();
-    let (_seat, is_ready) = keeping.begin(rt, alloc, &board, seat);
-    Ok((before, is_ready, keeping.permit().is_given()))
+    let shortening = Shortening::new(current, EndedUploads::new(alloc), NoFolder, 2, 0);
+    begun(rt, alloc, files(alloc)?, shortening, counts)
 }
 
 #[test]
 fn events_are_handed_over_if_the_log_has_what_was_counted(rt: HostRuntime) -> Result<(), Fail> {
-    let alloc = rt.alloc();
     for (count, fits) in [(2, true), (3, true), (4, false)] {
-        let mut counts = Vec::new(alloc);
-        counts.push(counted(1, 0))?;
-        counts.push(counted(count, 0))?;
-        let parts = BoardParts::new(alloc, 2, 4)?;
-        let histories = Histories::new();
-        let found = begun_by::<Brand, Brand, Brand, _>(&rt, alloc, parts, counts, histories)?;
+        let found = begun_after(&rt, rt.alloc(), count)?;
         expect_same(&rt, &(count, found), &(count, (false, fits, fits)));
     }
     Ok(())

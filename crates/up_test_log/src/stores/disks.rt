@@ -3,7 +3,6 @@ use super::tally::Tally;
 use crate::logs::{Row, SETUP, read, spelled_of};
 use sqlite_disk::{Disk, Memory};
 use std::alloc::Global;
-use std::test::Fail;
 use up_history::Chronicle;
 use up_log::{Log, LogFault, LogReader};
 use up_store::{Logs, Store, Voids};
@@ -54,22 +53,17 @@ pub struct Files<D: Disk> {
     pub count: u64,
 }
 
-/// The files of a store that is open.
-pub fn files_of<D: Disk, J: Site, K: Chronicle>(
-    store: Store<D, &Tally, J, K>,
-) -> Result<Files<D>, Fail>
+/// The files of a store. `None` if it isn't open.
+pub fn files_of<D: Disk, J: Site, K: Chronicle>(store: Store<D, &Tally, J, K>) -> Option<Files<D>>
 where
     D: Drop,
 {
-    let Some(logs) = store.into_logs() else {
-        return Err("a store that is open".into());
-    };
     let Logs {
         changes,
         voids,
         count,
-    } = logs;
-    Ok(Files {
+    } = store.into_logs()?;
+    Some(Files {
         changes: changes.into_log(),
         voids,
         count,

@@ -1,4 +1,5 @@
 //! Stores on disks that fail, for good or for one call.
+use super::disks::Files;
 use super::running::{CommitResult, Job, Ran, Seen, plainly, restored, run_on};
 use super::tally::{Again, Tally};
 use super::together::{jobs_of, jobs_that_keep, shared_file, told_plainly};
@@ -66,6 +67,44 @@ fn seen_again<D: Again + Drop, R: Wait>(
     Ok(restored(rt, alloc, disks)?.0)
 }
 
+/// The results of these rows in a store on these disks, and its logs. `None` if the logs are not opened.
+fn made_on<D: Again + Send + Drop, R: Threads + Wait + Sync>(
+    rt: &R,
+    alloc: Global,
+    disks: (D, D),
+    tally: &Tally,
+    rows: &[Row],
+) -> Result<Option<(Vec<CommitResult>, Files<D>)>, Fail> {
+    let mut jobs = Vec::new(alloc);
+    jobs.push(job_of(alloc, rows)?)?;
+    let Some(Ran { outcomes, logs, .. }) = run_on(rt, alloc, disks, tally, jobs)? else {
+        return Ok(None);
+    };
+    let mut outcomes = outcomes;
+    match outcomes.pop() {
+        Some((told, _)) => Ok(Some((told, logs))),
+        None => Err("one job".into()),
+    }
+}
+
+/// Checks that a crash leaves this many rows, or one more.
+fn hold_left<R: Wait + Abort>(
+    rt: &R,
+    alloc: Global,
+    disks: (Fuse<Memory>, Fuse<Memory>),
+    all: usize,
+) -> Result<(), Fail> {
+    let (mut changes, voids) = disks;
+    changes.crash();
+    let seen = seen_again(rt, alloc, (changes, voids))?;
+    let is_next = seen == standing(rt, alloc, all.saturating_add(1))?;
+    assert!(rt;
+        is_next || seen == standing(rt, alloc, all)?,
+        "after {all} rows"
+    );
+    Ok(())
+}
+
 /// The number of rows that succeed in a store whose disk fails from some call on. Checks that a crash leaves these, and
 /// perhaps the next one. `None` if the logs are not opened.
 fn left<R: Threads + Wait + Abort + Sync>(
@@ -78,25 +117,14 @@ fn left<R: Threads + Wait + Abort + Sync>(
         Fuse::new(Memory::new(alloc), calls),
         Fuse::new(Memory::new(alloc), u64::MAX),
     );
-    let mut jobs = Vec::new(alloc);
-    jobs.push(job_of(alloc, &ROWS)?)?;
-    let Some(Ran { outcomes, logs, .. }) = run_on(rt, alloc, disks, &tally, jobs)? else {
+    let Some((told, logs)) = made_on(rt, alloc, disks, &tally, &ROWS)? else {
         return Ok(None);
     };
-    let [(told, _)] = outcomes.as_slice() else {
-        return Err("one job".into());
-    };
-    let (first, all) = made(told);
+    let (first, all) = made(&told);
     expect_same(rt, &(first, told.len()), &(all, 6));
     expect_same(rt, &tally.counts(), &[u64::from(all < 6), 0, 0]);
-    let (mut changes, voids) = (logs.changes.into_device(), logs.voids.into_device());
-    changes.crash();
-    let seen = seen_again(rt, alloc, (changes, voids))?;
-    let is_next = seen == standing(rt, alloc, all.saturating_add(1))?;
-    assert!(rt;
-        is_next || seen == standing(rt, alloc, all)?,
-        "after {calls} calls"
-    );
+    let disks = (logs.changes.into_device(), logs.voids.into_device());
+    hold_left(rt, alloc, disks, all)?;
     Ok(Some(all))
 }
 
@@ -217,22 +245,17 @@ fn full_at<R: Threads + Wait + Abort + Sync>(
         FullOnce::new(Memory::new(alloc), calls),
         FullOnce::new(Memory::new(alloc), 0),
     );
-    let mut jobs = Vec::new(alloc);
-    jobs.push(job_of(alloc, &CREATIONS)?)?;
-    let Some(Ran { outcomes, logs, .. }) = run_on(rt, alloc, disks, &tally, jobs)? else {
+    let Some((told, logs)) = made_on(rt, alloc, disks, &tally, &CREATIONS)? else {
         return Ok(None);
     };
-    let [(told, _)] = outcomes.as_slice() else {
-        return Err("one job".into());
-    };
-    let (first, all) = made(told);
+    let (first, all) = made(&told);
     expect_same(
         rt,
         &tally.counts(),
         &[u64::from(all < 6), u64::from(first < all), 0],
     );
     expect_same(rt, &logs.count, &(all as u64));
-    hold_taken(rt, alloc, logs.changes.into_device().into_inner(), told)?;
+    hold_taken(rt, alloc, logs.changes.into_device().into_inner(), &told)?;
     Ok(Some((first, all)))
 }
 

@@ -1,27 +1,23 @@
 //! Stores on a full disk, which has room for removals alone.
-ghost use Rattle.std.specs.Prelude.{◌≡◌, length};
-ghost use Rattle.up_dispatch.specs.Parts.{IsNamed};
-
-use super::disks::{file_of, files_of};
-use super::running::{
-    CommitResult, Job, Ran, board_of, change, plainly, restored, run_on, store_on,
-};
+use super::course::{Course, taken};
+use super::disks::file_of;
+use super::running::{CommitResult, Job, Ran, change, hold_again, restored, run_on};
 use super::tally::Tally;
 use crate::logs::{Row, What};
 use crate::same::expect_same;
 use crate::scarce::Scarce;
 use sqlite_disk::Memory;
 use std::alloc::{AllocError, Global};
-use std::marker::{Brand, Sync};
+use std::marker::Sync;
 use std::process::Abort;
 use std::sync::Wait;
 use std::sync::atomic::Ordering;
 use std::test::Fail;
 use std::thread::Threads;
-use up_dispatch::{BoardParts, Naming};
+use up_dispatch::{Board, Naming, Seat};
 use up_history::Chronicle;
 use up_machine::Refusal;
-use up_store::{Histories, Store, Stored};
+use up_store::{Store, Stored};
 use up_tie::Site;
 
 /// The uploads that are created first.
@@ -81,48 +77,58 @@ fn told_of(tally: &Tally, told: &[CommitResult]) -> Told {
     (made, refused, tally.room().load(Ordering::SeqCst))
 }
 
+/// These steps, of a store whose disks have the tally's room.
+#[derive(Drop)]
+struct Steps<'a> {
+    tally: &'a Tally,
+    steps: &'a [(Step, Told)],
+}
+
+impl Course<Scarce<'_, Memory>> for Steps<'_> {
+    type Found = Vec<Told>;
+
+    fn take<B: Naming, J: Site, K: Chronicle, R: Wait>(
+        &self,
+        rt: &R,
+        alloc: Global,
+        board: &Board<B>,
+        store: &Store<Scarce<'_, Memory>, &Tally, J, K>,
+        seat: &mut Seat<B>,
+    ) -> Result<Vec<Told>, Fail> {
+        let mut keeper = Stored::new(rt, board, store, seat);
+        let mut found = Vec::new(alloc);
+        for (step, _) in self.steps {
+            match step {
+                Step::Fill(spare) => self.tally.fill(0, *spare),
+                Step::Enlarge => self.tally.enlarge(),
+                Step::Start => store.begin(rt, 4),
+                Step::Look => {
+                    store.make_up_room(rt);
+                }
+                _ => {}
+            }
+            let told = change(alloc, &mut keeper, &rows_of(alloc, *step)?)?;
+            found.push(told_of(self.tally, &told))?;
+        }
+        Ok(found)
+    }
+}
+
+/// A disk that has the tally's room.
+fn scarce(alloc: Global, tally: &Tally) -> Scarce<'_, Memory> {
+    Scarce::new(Memory::new(alloc), tally.room())
+}
+
 /// What comes of these steps, and the files of the logs.
-fn step_by_store<B: Naming, J: Site, K: Chronicle, R: Wait>(
+fn stepped<R: Wait>(
     rt: &R,
     alloc: Global,
-    parts: BoardParts,
     tally: &Tally,
-    steps: &[Step],
-    histories: Histories,
-) -> Result<(Vec<Told>, (Memory, Memory)), Fail>
-    requires named { IsNamed B.name B.parts B.queue B.lanes parts }
-    requires lanes { length parts.queues ≡ 2 }
-    requires sized { B.max_size ≡ 1000 }
-    requires written { histories.written ≡ J.history }
-    requires drawn { histories.drawn ≡ K.history }
-    requires nothing { J.premise → ⊥ }
-    requires same { J.history ≡ B.history }
-{
-    let (board, mut seat) = board_of::<B, R>(rt, alloc, parts)?;
-    let disks = (
-        Scarce::new(Memory::new(alloc), tally.room()),
-        Scarce::new(Memory::new(alloc), tally.room()),
-    );
-    let store: Store<Scarce<'_, Memory>, &Tally, J, K> = store_on(
-        rt, alloc, &board, &mut seat, disks, tally, histories,
-    )?;
-    let mut keeper = Stored::new(rt, &board, &store, &mut seat);
-    let mut found = Vec::new(alloc);
-    for step in steps {
-        match step {
-            Step::Fill(spare) => tally.fill(0, *spare),
-            Step::Enlarge => tally.enlarge(),
-            Step::Start => store.begin(rt, 4),
-            Step::Look => {
-                store.make_up_room(rt);
-            }
-            _ => {}
-        }
-        let told = change(alloc, &mut keeper, &rows_of(alloc, *step)?)?;
-        found.push(told_of(tally, &told))?;
-    }
-    drop(keeper);
-    let logs = files_of(store)?;
+    steps: &[(Step, Told)],
+) -> Result<(Vec<Told>, (Memory, Memory)), Fail> {
+    let disks = (scarce(alloc, tally), scarce(alloc, tally));
+    let (found, logs) = taken(rt, alloc, disks, tally, &Steps { tally, steps })?;
+    let logs = logs.ok_or("a store that is open")?;
     let changes = logs.changes.into_device().into_inner();
     Ok((found, (changes, logs.voids.into_device().into_inner())))
 }
@@ -137,32 +143,13 @@ fn hold<R: Wait + Abort>(
     rows: &[Row],
 ) -> Result<(), Fail> {
     let tally = Tally::new();
-    let parts = BoardParts::new(alloc, 2, 4)?;
-    let mut asked = Vec::new(alloc);
-    for (step, _) in steps {
-        asked.push(*step)?;
-    }
-    let (found, disks) = step_by_store::<Brand, Brand, Brand, _>(
-        rt,
-        alloc,
-        parts,
-        &tally,
-        &asked,
-        Histories::new(),
-    )?;
+    let (found, disks) = stepped(rt, alloc, &tally, steps)?;
     for (place, (found, (_, want))) in found.iter().zip(steps).enumerate() {
         expect_same(rt, &(place, *found), &(place, *want));
     }
     expect_same(rt, &found.len(), &steps.len());
     expect_same(rt, &tally.counts(), &[reports, reports, 0]);
-    let job = Job {
-        rows: Vec::from_slice(alloc, rows)?,
-        byte: 0,
-        times: 0,
-    };
-    let (seen, _) = restored(rt, alloc, disks)?;
-    assert!(rt; seen == plainly(rt, alloc, &job)?.1);
-    Ok(())
+    hold_again(rt, alloc, disks, rows)
 }
 
 /// Room for all writes.

@@ -1,25 +1,17 @@
 //! Logs that a switch to a shorter one has left, when a server starts again.
-ghost use Rattle.std.specs.Prelude.{◌≡◌, length};
-ghost use Rattle.up_dispatch.specs.Parts.{IsNamed};
-
+use super::beginning::begun;
 use super::disks::{file_of, reader_of};
-use super::running::board_of;
-use super::tally::Tally;
 use crate::logs::{PAIR, disk_of};
 use crate::same::expect_same;
 use sqlite_disk::Memory;
 use std::alloc::Global;
-use std::marker::{Brand, Send};
 use std::sync::Wait;
 use std::sync::atomic::{AtomicU64, Ordering};
 use std::test::Fail;
 use up_compact::{Head, Heads};
-use up_dispatch::{BoardParts, Naming, Service};
-use up_history::Chronicle;
 use up_log::{LogFault, LogReader};
 use up_message::Sequence;
-use up_store::{Current, EndedUploads, Folder, Histories, Keeping, Shortening};
-use up_tie::Site;
+use up_store::{Current, EndedUploads, Folder, Shortening};
 
 /// The generation of the log with which the server starts.
 const GENERATION: u64 = 3;
@@ -55,56 +47,25 @@ fn current(alloc: Global, entries: u64) -> Result<Current<Memory>, LogFault> {
 
 /// Starts a server on this log, whose head says that it has this many entries. Returns whether the log was read, how
 /// many logs were removed, and the sum of their generations.
-fn start_by<B: Naming, J: Site + Send, K: Chronicle + Send, R: Wait>(
-    rt: &R,
-    alloc: Global,
-    parts: BoardParts,
-    log: Memory,
-    entries: u64,
-    histories: Histories,
-) -> Result<(bool, u64, u64), Fail>
-    requires named { IsNamed B.name B.parts B.queue B.lanes parts }
-    requires lanes { length parts.queues ≡ 2 }
-    requires sized { B.max_size ≡ 1000 }
-    requires written { histories.written ≡ J.history }
-    requires drawn { histories.drawn ≡ K.history }
-    requires nothing { J.premise → ⊥ }
-    requires same { J.history ≡ B.history }
-{
-    let (board, seat) = board_of::<B, R>(rt, alloc, parts)?;
-    let removed = Removed {
-        count: AtomicU64::new(0),
-        sum: AtomicU64::new(0),
-    };
-    let ended = EndedUploads::new(alloc);
-    let shortening = Shortening::new(current(alloc, entries)?, ended, &removed, 2, 0);
-    let tally = Tally::new();
-    let keeping: Keeping<Memory, &Tally, &Removed, J, K> = Keeping::new(
-        alloc,
-        reader_of(alloc, log)?,
-        reader_of(alloc, Memory::new(alloc))?,
-        histories,
-        &tally,
-        shortening,
-        Vec::new(alloc),
-    )?;
-    let (_seat, is_read) = keeping.begin(rt, alloc, &board, seat);
-    Ok((
-        is_read,
-        removed.count.load(Ordering::SeqCst),
-        removed.sum.load(Ordering::SeqCst),
-    ))
-}
-
 fn start<R: Wait>(
     rt: &R,
     alloc: Global,
     log: Memory,
     entries: u64,
 ) -> Result<(bool, u64, u64), Fail> {
-    let parts = BoardParts::new(alloc, 2, 4)?;
-    let histories = Histories::new();
-    start_by::<Brand, Brand, Brand, R>(rt, alloc, parts, log, entries, histories)
+    let removed = Removed {
+        count: AtomicU64::new(0),
+        sum: AtomicU64::new(0),
+    };
+    let current = current(alloc, entries)?;
+    let shortening = Shortening::new(current, EndedUploads::new(alloc), &removed, 2, 0);
+    let disks = (log, Memory::new(alloc));
+    let (_, is_read, _) = begun(rt, alloc, disks, shortening, Vec::new(alloc))?;
+    Ok((
+        is_read,
+        removed.count.load(Ordering::SeqCst),
+        removed.sum.load(Ordering::SeqCst),
+    ))
 }
 
 /// A log of two entries, of which this byte is changed to 9.

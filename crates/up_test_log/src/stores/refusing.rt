@@ -3,8 +3,9 @@ ghost use Rattle.std.specs.Prelude.{◌≡◌, length};
 ghost use Rattle.up_dispatch.specs.Free.{no_history};
 ghost use Rattle.up_dispatch.specs.Parts.{IsNamed};
 
-use super::disks::{count_in, files_of};
-use super::running::{CommitResult, board_of, change, result_of, store_on};
+use super::course::{Course, taken};
+use super::disks::count_in;
+use super::running::{CommitResult, board_of, change, result_of};
 use super::tally::Tally;
 use crate::logs::{What, entries_of};
 use crate::same::expect_same;
@@ -13,12 +14,12 @@ use std::alloc::Global;
 use std::marker::Brand;
 use std::sync::Wait;
 use std::test::Fail;
-use up_dispatch::{BoardParts, Keeper, Naming, Seated};
+use up_dispatch::{Board, BoardParts, Keeper, Naming, Seat, Seated};
 use up_events::{Accepted, Id, Kind, NoMemory};
 use up_history::Chronicle;
 use up_machine::{Asked, Reason, Refusal};
 use up_replay::fits;
-use up_store::{Histories, Store, Stored};
+use up_store::{Store, Stored};
 use up_tie::Site;
 
 /// The results of changes that a closure refuses, after the upload 1 of four bytes was created.
@@ -58,32 +59,38 @@ fn refused_plainly<B: Naming, R: Wait>(
     Ok(refuse(alloc, &mut Seated::new(rt, &board, &mut seat), refused)?)
 }
 
+/// These changes through a store. The closure answers this.
+#[derive(Drop)]
+struct Refusing<'a> {
+    refused: &'a Asked,
+}
+
+impl Course<Memory> for Refusing<'_> {
+    type Found = Vec<CommitResult>;
+
+    fn take<B: Naming, J: Site, K: Chronicle, R: Wait>(
+        &self,
+        rt: &R,
+        alloc: Global,
+        board: &Board<B>,
+        store: &Store<Memory, &Tally, J, K>,
+        seat: &mut Seat<B>,
+    ) -> Result<Vec<CommitResult>, Fail> {
+        let mut keeper = Stored::new(rt, board, store, seat);
+        Ok(refuse(alloc, &mut keeper, self.refused)?)
+    }
+}
+
 /// Their results through a store, and the number of entries of its log after them.
-fn refused_by_store<B: Naming, J: Site, K: Chronicle, R: Wait>(
+fn refused_by_store<R: Wait>(
     rt: &R,
     alloc: Global,
-    parts: BoardParts,
     refused: &Asked,
-    histories: Histories,
-) -> Result<(Vec<CommitResult>, u64), Fail>
-    requires named { IsNamed B.name B.parts B.queue B.lanes parts }
-    requires lanes { length parts.queues ≡ 2 }
-    requires sized { B.max_size ≡ 1000 }
-    requires written { histories.written ≡ J.history }
-    requires drawn { histories.drawn ≡ K.history }
-    requires nothing { J.premise → ⊥ }
-    requires same { J.history ≡ B.history }
-{
-    let (board, mut seat) = board_of::<B, R>(rt, alloc, parts)?;
+) -> Result<(Vec<CommitResult>, u64), Fail> {
     let disks = (Memory::new(alloc), Memory::new(alloc));
-    let tally = Tally::new();
-    let store: Store<Memory, &Tally, J, K> = store_on(
-        rt, alloc, &board, &mut seat, disks, &tally, histories,
-    )?;
-    let mut keeper = Stored::new(rt, &board, &store, &mut seat);
-    let told = refuse(alloc, &mut keeper, refused)?;
-    drop(keeper);
-    let (count, _) = count_in(alloc, files_of(store)?.changes.into_device())?;
+    let (told, logs) = taken(rt, alloc, disks, &Tally::new(), &Refusing { refused })?;
+    let logs = logs.ok_or("a store that is open")?;
+    let (count, _) = count_in(alloc, logs.changes.into_device())?;
     Ok((told, count))
 }
 
@@ -119,11 +126,7 @@ fn what_a_closure_refuses_is_not_written(rt: HostRuntime) -> Result<(), Fail> {
     let parts = BoardParts::new(alloc, 2, 4)?;
     let plain = refused_plainly::<Brand, _>(&rt, alloc, parts, &refused)?;
     expect_same(&rt, &plain.as_slice(), &want.as_slice());
-    let parts = BoardParts::new(alloc, 2, 4)?;
-    let histories = Histories::new();
-    let (told, count) = refused_by_store::<Brand, Brand, Brand, _>(
-        &rt, alloc, parts, &refused, histories,
-    )?;
+    let (told, count) = refused_by_store(&rt, alloc, &refused)?;
     expect_same(&rt, &told.as_slice(), &want.as_slice());
     expect_same(&rt, &count, &1);
     Ok(())

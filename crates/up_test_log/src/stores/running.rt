@@ -5,12 +5,14 @@ ghost use Rattle.up_dispatch.specs.Parts.{IsNamed};
 ghost use Rattle.up_events.specs.declared.limits.TheConstants.{MAX_UPLOAD_BYTES};
 ghost use Rattle.up_headers.specs.Table.{FitsWithin};
 
+use super::course::{Course, taken};
 use super::disks::{Files, files_of, reader_of};
 use super::tally::{Again, Tally};
 use crate::logs::{Row, entries_of};
-use sqlite_disk::Disk;
+use sqlite_disk::{Disk, Memory};
 use std::alloc::Global;
 use std::marker::{Brand, Send, Sync};
+use std::process::Abort;
 use std::sync::Wait;
 use std::test::Fail;
 use std::thread;
@@ -26,7 +28,7 @@ use up_replay::{asked_of, fits};
 use up_store::{Histories, Least, Store, Stored, Unrestored};
 use up_test_server::append;
 use up_tie::{Reading, Site};
-use up_wire::{Output, write_response};
+use up_wire::{Output, WriteFailed, write_response};
 
 /// The number of uploads that are compared.
 const UPLOADS: u64 = 400;
@@ -108,6 +110,25 @@ fn work<K: Keeper>(alloc: Global, keeper: &mut K, job: &Job) -> Result<Outcome, 
     Ok((told, append_each(alloc, keeper, job.byte, job.times)?))
 }
 
+/// Writes the response of a board to this request.
+fn write_answer<K: Keeper>(
+    alloc: Global,
+    keeper: &mut K,
+    request: Request,
+    id: Id,
+    sink: &mut Output<Vec<u8>>,
+) -> Result<(), WriteFailed>
+    requires { FitsWithin MAX_UPLOAD_BYTES request }
+{
+    let hooks = PreHooks::new(Vec::new(alloc));
+    write_response(
+        sink,
+        &answer(alloc, keeper, &hooks, request, id),
+        false,
+        false,
+    )
+}
+
 /// The counts of a board, and its responses to HEAD and GET of each upload.
 pub fn seen<B: Naming, K: Keeper, R: Wait>(
     rt: &R,
@@ -115,14 +136,11 @@ pub fn seen<B: Naming, K: Keeper, R: Wait>(
     board: &Board<B>,
     keeper: &mut K,
 ) -> Result<Seen, Fail> {
-    let hooks = PreHooks::new(Vec::new(alloc));
     let mut sink = Output::new(Vec::new(alloc));
     for number in 0..UPLOADS {
         let id = Id::new(u128::from(number));
-        let response = answer(alloc, keeper, &hooks, Request::Head(id), id);
-        write_response(&mut sink, &response, false, false)?;
-        let response = answer(alloc, keeper, &hooks, Request::Get(id), id);
-        write_response(&mut sink, &response, false, false)?;
+        write_answer(alloc, keeper, Request::Head(id), id, &mut sink)?;
+        write_answer(alloc, keeper, Request::Get(id), id, &mut sink)?;
     }
     Ok((board.counts(rt), sink.into_inner()))
 }
@@ -213,33 +231,22 @@ where
     Ok(store)
 }
 
-/// The state of a board with these parts that is restored from the logs on these disks, and the logs.
-fn made_again<B: Naming, J: Site, K: Chronicle, D: Again, R: Wait>(
-    rt: &R,
-    alloc: Global,
-    parts: BoardParts,
-    disks: (D, D),
-    histories: Histories,
-) -> Result<(Seen, Files<D>), Fail>
-where
-    D: Drop,
-    requires named { IsNamed B.name B.parts B.queue B.lanes parts }
-    requires lanes { length parts.queues ≡ 2 }
-    requires sized { B.max_size ≡ 1000 }
-    requires written { histories.written ≡ J.history }
-    requires drawn { histories.drawn ≡ K.history }
-    requires nothing { J.premise → ⊥ }
-    requires same { J.history ≡ B.history }
-{
-    let (board, mut seat) = board_of::<B, R>(rt, alloc, parts)?;
-    let tally = Tally::new();
-    let store: Store<D, &Tally, J, K> = store_on(
-        rt, alloc, &board, &mut seat, disks, &tally, histories,
-    )?;
-    let mut keeper = Stored::new(rt, &board, &store, &mut seat);
-    let seen = seen(rt, alloc, &board, &mut keeper)?;
-    drop(keeper);
-    Ok((seen, files_of(store)?))
+/// A look at all uploads of a board.
+struct Look;
+
+impl<D: Again + Drop> Course<D> for Look {
+    type Found = Seen;
+
+    fn take<B: Naming, J: Site, K: Chronicle, R: Wait>(
+        &self,
+        rt: &R,
+        alloc: Global,
+        board: &Board<B>,
+        store: &Store<D, &Tally, J, K>,
+        seat: &mut Seat<B>,
+    ) -> Result<Seen, Fail> {
+        seen(rt, alloc, board, &mut Stored::new(rt, board, store, seat))
+    }
 }
 
 /// The results of each job, the state of the board after them, and the logs.
@@ -318,13 +325,11 @@ fn run_by<
         return Ok(None);
     };
     let outcomes = work_each(rt, alloc, &board, &store, jobs)?;
-    let mut keeper = Stored::new(rt, &board, &store, &mut seat);
-    let seen = seen(rt, alloc, &board, &mut keeper)?;
-    drop(keeper);
+    let seen = Look.take(rt, alloc, &board, &store, &mut seat)?;
     Ok(Some(Ran {
         outcomes,
         seen,
-        logs: files_of(store)?,
+        logs: files_of(store).ok_or("a store that is open")?,
     }))
 }
 
@@ -335,17 +340,13 @@ pub fn plainly<R: Wait>(rt: &R, alloc: Global, job: &Job) -> Result<(Outcome, Se
 }
 
 /// The state of a board that is restored from the logs on these disks, and the logs.
-pub fn restored<D: Again, R: Wait>(
+pub fn restored<D: Again + Drop, R: Wait>(
     rt: &R,
     alloc: Global,
     disks: (D, D),
-) -> Result<(Seen, Files<D>), Fail>
-where
-    D: Drop,
-{
-    let parts = BoardParts::new(alloc, 2, 4)?;
-    let histories = Histories::new();
-    made_again::<Brand, Brand, Brand, D, R>(rt, alloc, parts, disks, histories)
+) -> Result<(Seen, Files<D>), Fail> {
+    let (seen, logs) = taken(rt, alloc, disks, &Tally::new(), &Look)?;
+    Ok((seen, logs.ok_or("a store that is open")?))
 }
 
 /// Does each job in a thread of its own, through a store whose logs are on these disks. `None` if the logs are not
@@ -360,4 +361,21 @@ pub fn run_on<D: Again + Send + Drop, R: Threads + Wait + Sync>(
     let parts = BoardParts::new(alloc, 2, 4)?;
     let histories = Histories::new();
     run_by::<Brand, Brand, Brand, D, R>(rt, alloc, parts, disks, tally, jobs, histories)
+}
+
+/// Checks that these changes are there after a restart.
+pub fn hold_again<R: Wait + Abort>(
+    rt: &R,
+    alloc: Global,
+    disks: (Memory, Memory),
+    rows: &[Row],
+) -> Result<(), Fail> {
+    let job = Job {
+        rows: Vec::from_slice(alloc, rows)?,
+        byte: 0,
+        times: 0,
+    };
+    let (seen, _) = restored(rt, alloc, disks)?;
+    assert!(rt; seen == plainly(rt, alloc, &job)?.1);
+    Ok(())
 }

@@ -1,25 +1,22 @@
 //! Stores whose log is made shorter.
-ghost use Rattle.std.specs.Prelude.{◌≡◌, length};
-ghost use Rattle.up_dispatch.specs.Parts.{IsNamed};
-
-use super::disks::{Files, files_of, reader_of};
-use super::running::{CommitResult, board_of, change, restored, seen, store_on};
+use super::course::{Course, taken};
+use super::disks::{Files, reader_of};
+use super::running::{CommitResult, change, restored, seen};
 use super::tally::Tally;
 use crate::logs::{Row, What};
 use crate::same::expect_same;
 use sqlite_disk::{Crash, Fuse, Memory};
 use std::alloc::Global;
-use std::marker::Brand;
 use std::process::Abort;
 use std::sync::Wait;
 use std::test::Fail;
 use up_compact::{Head, Heads};
-use up_dispatch::{BoardParts, Naming};
+use up_dispatch::{Board, Naming, Seat};
 use up_events::Id;
 use up_handed::EndedUpload;
 use up_history::Chronicle;
 use up_log::{LogFault, LogReader};
-use up_store::{Current, EndedUploads, Folder, Histories, Shortening, Store, Stored};
+use up_store::{Current, EndedUploads, Folder, Shortening, Store, Stored};
 use up_tie::Site;
 
 type File = Fuse<Memory>;
@@ -100,63 +97,53 @@ fn current(alloc: Global, calls: u64) -> Result<Current<File>, LogFault> {
     Ok(Current { heads, head })
 }
 
-/// Makes changes in a new store, makes its log shorter, and makes more changes.
-fn shorten_by<B: Naming, J: Site, K: Chronicle, R: Wait>(
-    rt: &R,
-    alloc: Global,
-    parts: BoardParts,
+/// Changes are made, the log is made shorter, and more changes follow.
+#[derive(Drop)]
+struct MadeShorter {
     calls: Calls,
-    tally: &Tally,
-    histories: Histories,
-) -> Result<After, Fail>
-    requires named { IsNamed B.name B.parts B.queue B.lanes parts }
-    requires lanes { length parts.queues ≡ 2 }
-    requires sized { B.max_size ≡ 1000 }
-    requires written { histories.written ≡ J.history }
-    requires drawn { histories.drawn ≡ K.history }
-    requires nothing { J.premise → ⊥ }
-    requires same { J.history ≡ B.history }
-{
-    let (board, mut seat) = board_of::<B, R>(rt, alloc, parts)?;
+}
+
+impl Course<File> for MadeShorter {
+    /// The results of the changes after that, the responses of the board about each upload, and which log is the
+    /// current one.
+    type Found = (Vec<CommitResult>, Vec<u8>, Current<File>);
+
+    fn take<B: Naming, J: Site, K: Chronicle, R: Wait>(
+        &self,
+        rt: &R,
+        alloc: Global,
+        board: &Board<B>,
+        store: &Store<File, &Tally, J, K>,
+        seat: &mut Seat<B>,
+    ) -> Result<Self::Found, Fail> {
+        let mut keeper = Stored::new(rt, board, store, seat);
+        change(alloc, &mut keeper, &FIRST)?;
+        let ended = ended(rt, alloc);
+        let folder = Disks {
+            alloc,
+            calls: self.calls.shorter,
+        };
+        let shortening = Shortening::new(current(alloc, self.calls.heads)?, ended, folder, 2, 0);
+        shortening.shorten(rt, alloc, store);
+        let told = change(alloc, &mut keeper, &SECOND)?;
+        let seen = seen(rt, alloc, board, &mut keeper)?.1;
+        let Some(current) = shortening.into_current() else {
+            return Err("a store that is open".into());
+        };
+        Ok((told, seen, current))
+    }
+}
+
+/// The state after the log of a new store was made shorter, or could not be.
+fn shorten<R: Wait>(rt: &R, alloc: Global, calls: Calls, tally: &Tally) -> Result<After, Fail> {
     let disks = (disk(alloc, u64::MAX), disk(alloc, u64::MAX));
-    let store: Store<File, &Tally, J, K> = store_on(
-        rt, alloc, &board, &mut seat, disks, tally, histories,
-    )?;
-    change(
-        alloc,
-        &mut Stored::new(rt, &board, &store, &mut seat),
-        &FIRST,
-    )?;
-    let ended = ended(rt, alloc);
-    let folder = Disks {
-        alloc,
-        calls: calls.shorter,
-    };
-    let shortening = Shortening::new(current(alloc, calls.heads)?, ended, folder, 2, 0);
-    shortening.shorten(rt, alloc, &store);
-    let told = change(
-        alloc,
-        &mut Stored::new(rt, &board, &store, &mut seat),
-        &SECOND,
-    )?;
-    let mut keeper = Stored::new(rt, &board, &store, &mut seat);
-    let seen = seen(rt, alloc, &board, &mut keeper)?.1;
-    drop(keeper);
-    let Some(current) = shortening.into_current() else {
-        return Err("a store that is open".into());
-    };
+    let ((told, seen, current), logs) = taken(rt, alloc, disks, tally, &MadeShorter { calls })?;
     Ok(After {
         told,
         seen,
-        logs: files_of(store)?,
+        logs: logs.ok_or("a store that is open")?,
         current,
     })
-}
-
-fn shorten<R: Wait>(rt: &R, alloc: Global, calls: Calls, tally: &Tally) -> Result<After, Fail> {
-    let parts = BoardParts::new(alloc, 2, 4)?;
-    let histories = Histories::new();
-    shorten_by::<Brand, Brand, Brand, R>(rt, alloc, parts, calls, tally, histories)
 }
 
 /// The head that a crash leaves.

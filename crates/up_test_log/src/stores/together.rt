@@ -1,6 +1,6 @@
 //! Changes from several seats at once.
 use super::disks::{count_in, file_of};
-use super::running::{Job, Outcome, Ran, plainly, restored, run_on};
+use super::running::{Job, Outcome, Ran, Seen, plainly, restored, run_on};
 use super::tally::Tally;
 use crate::logs::{Row, What};
 use crate::same::expect_same;
@@ -89,6 +89,22 @@ fn count_of<R: Wait + Abort>(rt: &R, alloc: Global, outcomes: &[Outcome]) -> Res
     Ok(count)
 }
 
+/// Checks that the log on these disks has so many entries, and brings back what was seen.
+fn hold_seen<R: Wait + Abort>(
+    rt: &R,
+    alloc: Global,
+    disks: (Memory, Memory),
+    seen: &Seen,
+    count: u64,
+) -> Result<(), Fail> {
+    let (entries, file) = count_in(alloc, disks.0)?;
+    expect_same(rt, &entries, &count);
+    let (again, logs) = restored(rt, alloc, (file, disks.1))?;
+    expect_same(rt, &(again.0, logs.count), &(seen.0, count));
+    expect_same(rt, &again.1.as_slice(), &seen.1.as_slice());
+    Ok(())
+}
+
 #[test]
 fn changes_made_at_once_come_back(rt: HostRuntime) -> Result<(), Fail> {
     let alloc = rt.alloc();
@@ -110,11 +126,7 @@ fn changes_made_at_once_come_back(rt: HostRuntime) -> Result<(), Fail> {
     expect_same(&rt, &seen.0.changes, &(1 + 3 * (30 + 30 + 10 + 60)));
     expect_same(&rt, &(seen.0.uploads, seen.0.bytes), &(61, 300));
     expect_same(&rt, &(tally.counts(), logs.count), &([0, 0, 0], count));
-    let (entries, file) = count_in(alloc, logs.changes.into_device())?;
-    expect_same(&rt, &entries, &count);
-    let disks = (file, logs.voids.into_device());
-    let (again, logs) = restored(&rt, alloc, disks)?;
-    expect_same(&rt, &(again.0, logs.count), &(seen.0, count));
-    expect_same(&rt, &again.1.as_slice(), &seen.1.as_slice());
-    Ok(())
+    drop(outcomes);
+    let disks = (logs.changes.into_device(), logs.voids.into_device());
+    hold_seen(&rt, alloc, disks, &seen, count)
 }

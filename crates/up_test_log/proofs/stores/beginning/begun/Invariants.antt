@@ -1,6 +1,6 @@
 use Rattle.std.specs.Prelude.{length, slice_index_or}
 use Rattle.up_queue.specs.EndViews.{no_queue}
-use Rattle.up_test_log.proofs.stores.counts.events_are_handed_over_if_the_log_has_what_was_counted.Given as goal
+use Rattle.up_test_log.proofs.stores.beginning.begun.Given as goal
 
 abbrev pub ghosts-begun_by-B-Ledger : goal.ghosts-begun_by-B-Ledger
 ghosts-begun_by-B-Ledger g a = record { name = a.parts.name; parts = a.parts.parts }
