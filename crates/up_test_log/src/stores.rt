@@ -1,4 +1,5 @@
 //! Stores with disks in memory.
+mod at_once;
 mod beginning;
 mod closing;
 mod counts;

@@ -4,7 +4,7 @@ ghost use Rattle.up_dispatch.specs.Parts.{IsNamed};
 
 use super::beginning::{Begun, begun};
 use super::disks::{file_of, reader_of};
-use super::running::board_of;
+use super::running::{Unread, board_of, unread_on};
 use super::tally::Tally;
 use crate::logs::{Row, What, disk_of};
 use crate::same::expect_same;
@@ -18,8 +18,8 @@ use up_dispatch::{BoardParts, Naming};
 use up_handed::Counted;
 use up_history::Chronicle;
 use up_log::{LogFault, LogReader};
-use up_store::{Current, EndedUploads, Folder, Histories, Least, Shortening, Store, Unrestored};
-use up_tie::{Reading, Site};
+use up_store::{Current, EndedUploads, Folder, Histories, Least, Shortening, Unrestored};
+use up_tie::Site;
 
 /// Three entries in two batches. Of the two lanes the first has one event, and the second has three.
 const FIRST: [Row; 2] = [(What::Make, 1, 4), (What::Put, 1, 4)];
@@ -67,11 +67,7 @@ fn restored_by<B: Naming, J: Site, K: Chronicle, R: Wait>(
 {
     let (board, mut seat) = board_of::<B, R>(rt, alloc, parts)?;
     let tally = Tally::new();
-    let readers = (reader_of(alloc, files.0)?, reader_of(alloc, files.1)?);
-    let (store, history): (Store<Memory, &Tally, J, K>, _) = Store::unread(
-        alloc, &tally, histories,
-    )?;
-    let readers = (Reading::new(readers.0, history), readers.1);
+    let (store, readers): Unread<'_, Memory, J, K> = unread_on(alloc, files, &tally, histories)?;
     match store.restore(rt, alloc, &board, &mut seat, readers, least) {
         Ok(logs) => Ok(Ok(logs.count)),
         Err(why) => Ok(Err(why)),

@@ -1,6 +1,7 @@
 //! Stores on disks that fail, for good or for one call.
+use super::at_once::{Ran, run_on};
 use super::disks::Files;
-use super::running::{CommitResult, Job, Ran, Seen, plainly, restored, run_on};
+use super::running::{CommitResult, Job, Outcome, Seen, plainly, restored};
 use super::tally::{Again, Tally};
 use super::together::{jobs_of, jobs_that_keep, shared_file, told_plainly};
 use crate::full_once::FullOnce;
@@ -153,6 +154,20 @@ fn is_cut_off(told: &[CommitResult], want: &[CommitResult]) -> bool {
     first == all && told.len() == want.len() && told[..first] == want[..first]
 }
 
+/// Checks that the results of three seats are those of a plain board, up to where no more was written.
+fn hold_cut_off<R: Wait + Abort>(
+    rt: &R,
+    alloc: Global,
+    outcomes: &[Outcome],
+    calls: u64,
+) -> Result<(), Fail> {
+    let plain = told_plainly(rt, alloc)?;
+    for ((told, _), (want, _)) in outcomes.iter().zip(&plain) {
+        assert!(rt; is_cut_off(told, want), "after {calls} calls");
+    }
+    Ok(())
+}
+
 /// Checks that three seats of a board whose disk fails from some call on get true results: a crash leaves what
 /// succeeded, in the same order.
 fn hold_at_once<R: Threads + Wait + Abort + Sync>(
@@ -165,21 +180,15 @@ fn hold_at_once<R: Threads + Wait + Abort + Sync>(
         Fuse::new(shared_file(alloc)?, calls),
         Fuse::new(Memory::new(alloc), u64::MAX),
     );
-    let Some(
-        Ran {
-            outcomes,
-            seen,
-            logs,
-        },
-    ) = run_on(rt, alloc, disks, &tally, jobs_of(alloc)?)?
-    else {
-        return Err("an open log".into());
-    };
+    let run = run_on(rt, alloc, disks, &tally, jobs_of(alloc)?)?;
+    let Ran {
+        outcomes,
+        seen,
+        logs,
+    } = run.ok_or("an open log")?;
     expect_same(rt, &tally.counts(), &[1, 0, 0]);
-    let plain = told_plainly(rt, alloc)?;
-    for ((told, _), (want, _)) in outcomes.iter().zip(&plain) {
-        assert!(rt; is_cut_off(told, want), "after {calls} calls");
-    }
+    hold_cut_off(rt, alloc, &outcomes, calls)?;
+    drop(outcomes);
     let (mut changes, voids) = (logs.changes.into_device(), logs.voids.into_device());
     changes.crash();
     assert!(rt;

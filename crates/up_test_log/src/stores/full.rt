@@ -1,7 +1,8 @@
 //! Stores on a full disk, which has room for removals alone.
+use super::at_once::{Ran, run_on};
 use super::course::{Course, taken};
 use super::disks::file_of;
-use super::running::{CommitResult, Job, Ran, change, hold_again, restored, run_on};
+use super::running::{CommitResult, Job, Outcome, change, hold_again, restored};
 use super::tally::Tally;
 use crate::logs::{Row, What};
 use crate::same::expect_same;
@@ -65,6 +66,12 @@ fn rows_of(alloc: Global, step: Step) -> Result<Vec<Row>, AllocError> {
 type Told = (usize, usize, u64);
 
 fn told_of(tally: &Tally, told: &[CommitResult]) -> Told {
+    let (made, refused) = count(told);
+    (made, refused, tally.room().load(Ordering::SeqCst))
+}
+
+/// How many of these changes were made, and how many were refused without a decision.
+fn count(told: &[CommitResult]) -> (usize, usize) {
     let mut made: usize = 0;
     let mut refused: usize = 0;
     for told in told {
@@ -74,7 +81,7 @@ fn told_of(tally: &Tally, told: &[CommitResult]) -> Told {
             Err(_) => {}
         }
     }
-    (made, refused, tally.room().load(Ordering::SeqCst))
+    (made, refused)
 }
 
 /// These steps, of a store whose disks have the tally's room.
@@ -240,6 +247,35 @@ fn jobs_of(alloc: Global) -> Result<Vec<Job>, AllocError> {
     Ok(jobs)
 }
 
+/// The files of a store with the uploads that these jobs remove, on disks that have the tally's room.
+fn scarce_files<'a>(
+    alloc: Global,
+    tally: &'a Tally,
+) -> Result<(Scarce<'a, Memory>, Scarce<'a, Memory>), Fail> {
+    let first = rows_from(alloc, What::Make, 0)?;
+    let second = rows_from(alloc, What::Make, EACH)?;
+    let changes = file_of(alloc, &[first.as_slice(), second.as_slice()])?;
+    let voids = file_of(alloc, &[])?;
+    let room = tally.room();
+    Ok((Scarce::new(changes, room), Scarce::new(voids, room)))
+}
+
+/// Checks that all removals were made, few creations, and that each of these was made or refused without a decision.
+fn hold_outcomes<R: Abort>(rt: &R, outcomes: &[Outcome], room: u64) -> Result<(), Fail> {
+    let [(one, _), (two, _), (three, _), (four, _)] = outcomes else {
+        return Err("four jobs".into());
+    };
+    for told in one.iter().chain(three.iter()) {
+        assert!(rt; told.is_ok(), "with room for {room} writes");
+    }
+    let (made, refused) = count(two);
+    let (more, others) = count(four);
+    let (made, refused) = (made.saturating_add(more), refused.saturating_add(others));
+    expect_same(rt, &(room, made.saturating_add(refused)), &(room, 80));
+    assert!(rt; made < 10, "with room for {room} writes");
+    Ok(())
+}
+
 /// Checks that all removals are made while a disk with this much room fills, and that a restart brings what was made.
 fn hold_at_once<R: Threads + Wait + Abort + Sync>(
     rt: &R,
@@ -248,37 +284,16 @@ fn hold_at_once<R: Threads + Wait + Abort + Sync>(
 ) -> Result<(), Fail> {
     let tally = Tally::new();
     tally.fill(room, 1000);
-    let first = rows_from(alloc, What::Make, 0)?;
-    let second = rows_from(alloc, What::Make, EACH)?;
-    let disks = (
-        Scarce::new(
-            file_of(alloc, &[first.as_slice(), second.as_slice()])?,
-            tally.room(),
-        ),
-        Scarce::new(file_of(alloc, &[])?, tally.room()),
-    );
-    let Some(
-        Ran {
-            outcomes,
-            seen,
-            logs,
-        },
-    ) = run_on(rt, alloc, disks, &tally, jobs_of(alloc)?)?
-    else {
-        return Err("an open log".into());
-    };
-    let [(one, _), (two, _), (three, _), (four, _)] = outcomes.as_slice() else {
-        return Err("four jobs".into());
-    };
-    for told in one.iter().chain(three.iter()) {
-        assert!(rt; told.is_ok(), "with room for {room} writes");
-    }
-    let (made, refused, _) = told_of(&tally, two);
-    let (more, others, _) = told_of(&tally, four);
-    let (made, refused) = (made.saturating_add(more), refused.saturating_add(others));
-    expect_same(rt, &made.saturating_add(refused), &80);
-    assert!(rt; made < 10, "with room for {room} writes");
+    let disks = scarce_files(alloc, &tally)?;
+    let run = run_on(rt, alloc, disks, &tally, jobs_of(alloc)?)?;
+    let Ran {
+        outcomes,
+        seen,
+        logs,
+    } = run.ok_or("an open log")?;
+    hold_outcomes(rt, &outcomes, room)?;
     expect_same(rt, &tally.counts(), &[1, 0, 0]);
+    drop(outcomes);
     let changes = logs.changes.into_device().into_inner();
     let disks = (changes, logs.voids.into_device().into_inner());
     let (again, _) = restored(rt, alloc, disks)?;

@@ -6,17 +6,15 @@ ghost use Rattle.up_events.specs.declared.limits.TheConstants.{MAX_UPLOAD_BYTES}
 ghost use Rattle.up_headers.specs.Table.{FitsWithin};
 
 use super::course::{Course, taken};
-use super::disks::{Files, files_of, reader_of};
+use super::disks::{Files, reader_of};
 use super::tally::{Again, Tally};
 use crate::logs::{Row, entries_of};
 use sqlite_disk::{Disk, Memory};
 use std::alloc::Global;
-use std::marker::{Brand, Send, Sync};
+use std::marker::Brand;
 use std::process::Abort;
 use std::sync::Wait;
 use std::test::Fail;
-use std::thread;
-use std::thread::Threads;
 use up_dispatch::{Board, BoardParts, Counts, Keeper, Naming, Seat, Seated, answer};
 use up_events::{Accepted, Id, NoMemory};
 use up_headers::Request;
@@ -105,7 +103,8 @@ pub struct Job {
 /// The results of the rows of a job, and the number of attempts for its bytes.
 pub type Outcome = (Vec<CommitResult>, u64);
 
-fn work<K: Keeper>(alloc: Global, keeper: &mut K, job: &Job) -> Result<Outcome, NoMemory> {
+/// Does a job.
+pub fn work<K: Keeper>(alloc: Global, keeper: &mut K, job: &Job) -> Result<Outcome, NoMemory> {
     let told = change(alloc, keeper, &job.rows)?;
     Ok((told, append_each(alloc, keeper, job.byte, job.times)?))
 }
@@ -232,7 +231,7 @@ where
 }
 
 /// A look at all uploads of a board.
-struct Look;
+pub struct Look;
 
 impl<D: Again + Drop> Course<D> for Look {
     type Found = Seen;
@@ -249,90 +248,6 @@ impl<D: Again + Drop> Course<D> for Look {
     }
 }
 
-/// The results of each job, the state of the board after them, and the logs.
-#[derive(Drop)]
-pub struct Ran<D: Disk> {
-    pub outcomes: Vec<Outcome>,
-    pub seen: Seen,
-    pub logs: Files<D>,
-}
-
-/// Does each job in a thread of its own, from a seat of its own, through a store whose logs are on these disks.
-fn work_each<
-    B: Naming + Send + Sync,
-    D: Again + Send + Drop,
-    J: Site + Send,
-    K: Chronicle + Send,
-    R: Threads + Wait + Sync,
->(
-    rt: &R,
-    alloc: Global,
-    board: &Board<B>,
-    store: &Store<D, &Tally, J, K>,
-    jobs: Vec<Job>,
-) -> Result<Vec<Outcome>, Fail>
-    requires same { J.history ≡ B.history }
-{
-    let given = thread::map_vec(
-        rt,
-        jobs,
-        &|job: Job| -> Result<Outcome, NoMemory>
-            requires same { J.history ≡ B.history }
-        {
-            let Some(mut seat) = board.seat(rt) else {
-                return Err(NoMemory);
-            };
-            work(alloc, &mut Stored::new(rt, board, store, &mut seat), &job)
-        },
-    )?;
-    let mut outcomes = Vec::new(alloc);
-    for outcome in given {
-        outcomes.push(outcome?)?;
-    }
-    Ok(outcomes)
-}
-
-/// Does each job in a thread of its own, from a seat of its own, through a store whose logs are on these disks. `None`
-/// if the logs are not opened.
-fn run_by<
-    B: Naming + Send + Sync,
-    J: Site + Send,
-    K: Chronicle + Send,
-    D: Again + Send + Drop,
-    R: Threads + Wait + Sync,
->(
-    rt: &R,
-    alloc: Global,
-    parts: BoardParts,
-    disks: (D, D),
-    tally: &Tally,
-    jobs: Vec<Job>,
-    histories: Histories,
-) -> Result<Option<Ran<D>>, Fail>
-    requires named { IsNamed B.name B.parts B.queue B.lanes parts }
-    requires lanes { length parts.queues ≡ 2 }
-    requires sized { B.max_size ≡ 1000 }
-    requires written { histories.written ≡ J.history }
-    requires drawn { histories.drawn ≡ K.history }
-    requires nothing { J.premise → ⊥ }
-    requires same { J.history ≡ B.history }
-{
-    let (board, mut seat) = board_of::<B, R>(rt, alloc, parts)?;
-    let opened: Result<Store<D, &Tally, J, K>, Unrestored> = store_on(
-        rt, alloc, &board, &mut seat, disks, tally, histories,
-    );
-    let Ok(store) = opened else {
-        return Ok(None);
-    };
-    let outcomes = work_each(rt, alloc, &board, &store, jobs)?;
-    let seen = Look.take(rt, alloc, &board, &store, &mut seat)?;
-    Ok(Some(Ran {
-        outcomes,
-        seen,
-        logs: files_of(store).ok_or("a store that is open")?,
-    }))
-}
-
 /// The results of a job on a plain board, and the state of the board after it.
 pub fn plainly<R: Wait>(rt: &R, alloc: Global, job: &Job) -> Result<(Outcome, Seen), Fail> {
     let parts = BoardParts::new(alloc, 2, 4)?;
@@ -347,20 +262,6 @@ pub fn restored<D: Again + Drop, R: Wait>(
 ) -> Result<(Seen, Files<D>), Fail> {
     let (seen, logs) = taken(rt, alloc, disks, &Tally::new(), &Look)?;
     Ok((seen, logs.ok_or("a store that is open")?))
-}
-
-/// Does each job in a thread of its own, through a store whose logs are on these disks. `None` if the logs are not
-/// opened.
-pub fn run_on<D: Again + Send + Drop, R: Threads + Wait + Sync>(
-    rt: &R,
-    alloc: Global,
-    disks: (D, D),
-    tally: &Tally,
-    jobs: Vec<Job>,
-) -> Result<Option<Ran<D>>, Fail> {
-    let parts = BoardParts::new(alloc, 2, 4)?;
-    let histories = Histories::new();
-    run_by::<Brand, Brand, Brand, D, R>(rt, alloc, parts, disks, tally, jobs, histories)
 }
 
 /// Checks that these changes are there after a restart.

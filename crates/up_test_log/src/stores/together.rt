@@ -1,6 +1,7 @@
 //! Changes from several seats at once.
+use super::at_once::{Ran, run_on};
 use super::disks::{count_in, file_of};
-use super::running::{Job, Outcome, Ran, Seen, plainly, restored, run_on};
+use super::running::{Job, Outcome, Seen, plainly, restored};
 use super::tally::Tally;
 use crate::logs::{Row, What};
 use crate::same::expect_same;
@@ -111,22 +112,22 @@ fn changes_made_at_once_come_back(rt: HostRuntime) -> Result<(), Fail> {
     let tally = Tally::new();
     let disks = (shared_file(alloc)?, Memory::new(alloc));
     let run = run_on(&rt, alloc, disks, &tally, jobs_of(alloc)?)?;
-    let Some(
-        Ran {
-            outcomes,
-            seen,
-            logs,
-        },
-    ) = run
-    else {
-        return Err("an open log".into());
-    };
+    let Ran {
+        outcomes,
+        seen,
+        logs,
+    } = run.ok_or("an open log")?;
     // The upload 0 was created before these. A third of the rows is refused, and half of the removals.
     let count = count_of(&rt, alloc, &outcomes)?.saturating_add(1);
-    expect_same(&rt, &seen.0.changes, &(1 + 3 * (30 + 30 + 10 + 60)));
-    expect_same(&rt, &(seen.0.uploads, seen.0.bytes), &(61, 300));
-    expect_same(&rt, &(tally.counts(), logs.count), &([0, 0, 0], count));
     drop(outcomes);
+    let counts = seen.0;
+    let made = 1 + 3 * (30 + 30 + 10 + 60);
+    expect_same(
+        &rt,
+        &(counts.changes, counts.uploads, counts.bytes),
+        &(made, 61, 300),
+    );
+    expect_same(&rt, &(tally.counts(), logs.count), &([0, 0, 0], count));
     let disks = (logs.changes.into_device(), logs.voids.into_device());
     hold_seen(&rt, alloc, disks, &seen, count)
 }

@@ -1,6 +1,6 @@
 use Rattle.std.specs.Prelude.{length, slice_index_or}
 use Rattle.up_queue.specs.EndViews.{no_queue}
-use Rattle.up_test_log.proofs.stores.running.run_on.Given as goal
+use Rattle.up_test_log.proofs.stores.at_once.run_on.Given as goal
 
 abbrev pub ghosts-run_by-B-Ledger : goal.ghosts-run_by-B-Ledger
 ghosts-run_by-B-Ledger g a = record { name = a.parts.name; parts = a.parts.parts }
