@@ -4,9 +4,9 @@
     rt check up_wire && bench/sizes.py up_wire
     bench/sizes.py up_wire up_store --most 50
 
-The time of a proof goes with these bytes: about a second of processor time for each MB of `Lts`, the borrow checker's
-part, whatever else the machine does. `bench/proofs.py` measures the time itself. The prover keeps them of a crate that
-`rt check` or `./up` has proved.
+The time of a proof goes with these bytes, whatever else the machine does; most are of `Lts`, the borrow checker's part.
+`bench/proofs.py` measures the time itself. The prover keeps them of a crate that `rt check` or `./up` has proved, also
+of functions that aren't there any more: only those of a first check are exact.
 """
 import argparse
 import collections
@@ -22,9 +22,8 @@ def sizes_of(crate):
     """The bytes of each kind of file of each function, closure and drop of a crate."""
     functions = collections.defaultdict(collections.Counter)
     prefix = f"Rattle-{crate}-proofs."
-    for path in glob.glob(os.path.join(CRATES, crate, "out", "incremental", "**", f"{prefix}*.oantt"), recursive=True):
-        name = os.path.basename(path).removeprefix(prefix).removesuffix(".oantt").removesuffix(".decls")
-        words = name.split(".")
+    for path in glob.glob(os.path.join(CRATES, crate, "out", "incremental", "*", f"{prefix}*.oantt")):
+        words = os.path.basename(path).removeprefix(prefix).removesuffix(".oantt").split(".")
         names = list(words)
         while names and names[-1][:1].isupper() and names[-1][1:2].islower() and len(names) > 1:
             names.pop()
