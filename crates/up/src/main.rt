@@ -5,6 +5,7 @@
 mod fault;
 mod listener;
 mod notice_lines;
+mod over_store;
 mod room;
 mod rules;
 mod running;
@@ -17,7 +18,7 @@ mod streams;
 use crate::fault::Fault;
 use crate::listener::listen;
 use crate::rules::run_by_rules;
-use crate::store_files::{StoreFiles, store_of};
+use crate::store_files::{OpenStore, store_of};
 use crate::streams::open_closed_streams;
 use clap::error::ErrorKind;
 use std::alloc::Global;
@@ -32,21 +33,21 @@ use std::time::Clock;
 use up_server::{EventLines, ServerFault};
 use up_words::{Words, WordsFault, words};
 
-/// Serves as the arguments ask. Takes the listener and the files, if there are any.
+/// Serves as the arguments ask. Takes the listener and the store, if there are any.
 fn run_by_words<
     R: Input + Print + Eprint + AllocGlobal + Clock + RandomSource + Threads + Wait + Sync,
 >(
     rt: &R,
     words: &Words,
     listener: &mut Option<TcpListener>,
-    files: &mut Option<StoreFiles<'_>>,
+    store: &mut Option<OpenStore<'_>>,
 ) -> Result<(), Fault> {
     let lines = EventLines::new(rt.alloc(), io::writer(rt))?;
     let wanted = match &words.serve {
         Some(serving) if serving.events => Some(&lines),
         _ => None,
     };
-    run_by_rules(rt, words, wanted, listener, files)
+    run_by_rules(rt, words, wanted, listener, store)
 }
 
 /// The arguments, without the name of the program.
@@ -75,7 +76,7 @@ fn asked<R: Print>(rt: &R, alloc: Global, arguments: Vec<String>) -> Result<Opti
     }
 }
 
-/// Listens if the arguments ask for it, and serves. Takes the files, if there are any.
+/// Listens if the arguments ask for it, and serves. Takes the store, if there is one.
 fn run<
     R: Input
         + Print
@@ -87,28 +88,28 @@ fn run<
         + Threads
         + Wait
         + Sync,
->(rt: &R, words: &Words, files: &mut Option<StoreFiles<'_>>) -> Result<(), Fault> {
+>(rt: &R, words: &Words, store: &mut Option<OpenStore<'_>>) -> Result<(), Fault> {
     let mut listener = match &words.serve {
         Some(serving) => Some(listen(rt, serving)?),
         None => None,
     };
-    run_by_words(rt, words, &mut listener, files)
+    run_by_words(rt, words, &mut listener, store)
 }
 
-/// What the arguments ask for, and the files of the store if they ask for one, which are then open. `None` if they only
-/// ask for the version. No standard stream is closed when the first file is opened.
-fn prepared(rt: &HostRuntime) -> Result<Option<(Words, Option<StoreFiles<'_>>)>, Fault> {
+/// What the arguments ask for, and the store if they ask for one. Its files are then open. `None` if they only ask for
+/// the version. No standard stream is closed when the first file is opened.
+fn prepared(rt: &HostRuntime) -> Result<Option<(Words, Option<OpenStore<'_>>)>, Fault> {
     open_closed_streams(rt)?;
     let Some(words) = asked(rt, rt.alloc(), arguments(rt)?)? else {
         return Ok(None);
     };
-    let files = store_of(rt, &words)?;
-    Ok(Some((words, files)))
+    let store = store_of(rt, &words)?;
+    Ok(Some((words, store)))
 }
 
 fn main(rt: HostRuntime) -> ExitCode {
     let ended = match prepared(&rt) {
-        Ok(Some((words, mut files))) => run(&rt, &words, &mut files),
+        Ok(Some((words, mut store))) => run(&rt, &words, &mut store),
         Ok(None) => Ok(()),
         Err(fault) => Err(fault),
     };

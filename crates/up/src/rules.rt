@@ -5,7 +5,7 @@ ghost use Rattle.up_rules.specs.Rules.{judged};
 
 use crate::fault::Fault;
 use crate::running::run_with;
-use crate::store_files::StoreFiles;
+use crate::store_files::OpenStore;
 use std::io::Write;
 use std::marker::{Send, Sync};
 use std::net::TcpListener;
@@ -20,7 +20,7 @@ use up_server::EventLines;
 use up_words::Words;
 
 /// Serves what the arguments ask for, with the closures for their rules. These are asked in the order in which the help
-/// lists the rules. Takes the listener and the files, if there are any. The error says why the run failed.
+/// lists the rules. Takes the listener and the store, if there are any. The error says why the run failed.
 pub fn run_by_rules<
     'a,
     R: Input + Print + Eprint + AllocGlobal + Clock + RandomSource + Threads + Wait + Sync + 'a,
@@ -30,7 +30,7 @@ pub fn run_by_rules<
     words: &'a Words,
     lines: Option<&'a EventLines<W>>,
     listener: &mut Option<TcpListener>,
-    files: &mut Option<StoreFiles<'_>>,
+    store: &mut Option<OpenStore<'_>>,
 ) -> Result<(), Fault> {
     let mut hooks = Vec::new(rt.alloc());
     for rule in rules_of(rt.alloc(), words)? {
@@ -41,5 +41,5 @@ pub fn run_by_rules<
         { rule.judge(ask) };
         hooks.push(PreHook::new(point, Box::new(rt.alloc(), judge)?))?;
     }
-    run_with(rt, words, lines, listener, PreHooks::new(hooks), files)
+    run_with(rt, words, lines, listener, PreHooks::new(hooks), store)
 }

@@ -11,10 +11,9 @@ use up_log::{LogReader, Setup};
 use up_store::Current;
 use up_words::{Settings, Words};
 
-/// The files of a store. They are open, so that no other server opens them.
+/// The open files of a store.
 #[derive(Drop)]
-pub struct StoreFiles<'a> {
-    pub folder: StoreFolder<'a>,
+pub struct StoreFiles {
     /// The settings of the server for which they were opened.
     pub settings: Settings,
     /// Which logs are the current ones.
@@ -25,9 +24,14 @@ pub struct StoreFiles<'a> {
     pub voids: LogReader<StoreFile>,
     /// How many events each lane has handed over.
     pub counts: Vec<Opened<StoreFile>>,
-    /// The path of the file that keeps room for removals.
-    pub spare: String,
     pub ghost one_each: { vec_len counts ≡ settings.lanes },
+}
+
+/// A store whose files are open, so that no other server opens them.
+#[derive(Drop)]
+pub struct OpenStore<'a> {
+    pub folder: StoreFolder<'a>,
+    pub files: StoreFiles,
 }
 
 /// Begins to open the log of this name and generation. The error has its path, and why it can't be opened.
@@ -116,35 +120,30 @@ fn open_logs(folder: &StoreFolder<'_>) -> Result<Logs, Fault> {
 }
 
 /// Opens the files in this folder, which is made if it does not exist.
-fn open_store<'a>(folder: StoreFolder<'a>, settings: Settings) -> Result<StoreFiles<'a>, Fault> {
+fn open_files(folder: &StoreFolder<'_>, settings: Settings) -> Result<StoreFiles, Fault> {
     if let Err(error) = folder.make_folder() {
         return Err(Fault::Store {
-            path: folder.path,
+            path: String::from_str(folder.rt.alloc(), folder.path.as_str())?,
             reason: Unopened::Folder(error),
         });
     }
-    let spare = folder.path_of("spare")?;
-    let logs = open_logs(&folder)?;
-    let left_out = logs.current.head.left_out.as_slice();
-    let counts = open_counts(&folder, settings.lanes, left_out)?;
     let Logs {
         current,
         changes,
         voids,
-    } = logs;
+    } = open_logs(folder)?;
+    let counts = open_counts(folder, settings.lanes, current.head.left_out.as_slice())?;
     Ok(StoreFiles {
-        folder,
         settings,
         current,
         changes,
         voids,
         counts,
-        spare,
     })
 }
 
 /// Opens the store that the arguments ask for. `None` if they ask for none.
-pub fn store_of<'a>(rt: &'a HostRuntime, words: &Words) -> Result<Option<StoreFiles<'a>>, Fault> {
+pub fn store_of<'a>(rt: &'a HostRuntime, words: &Words) -> Result<Option<OpenStore<'a>>, Fault> {
     let Some(serving) = &words.serve else {
         return Ok(None);
     };
@@ -159,5 +158,6 @@ pub fn store_of<'a>(rt: &'a HostRuntime, words: &Words) -> Result<Option<StoreFi
             max_size: words.settings.max_size,
         },
     };
-    Ok(Some(open_store(folder, words.settings)?))
+    let files = open_files(&folder, words.settings)?;
+    Ok(Some(OpenStore { folder, files }))
 }

@@ -3,7 +3,7 @@ ghost use Rattle.std.specs.Prelude.{IfOk, ⊤};
 
 use crate::notice_lines::milliseconds;
 use crate::room::{give_up_room, keep_room};
-use crate::store_folder::StoreFile;
+use crate::store_folder::{StoreFile, StoreFolder};
 use sqlite_std_file::Wary;
 use std::alloc::AllocError;
 use std::os::unix::fs::MetadataExt;
@@ -69,18 +69,17 @@ pub struct StoreLines<'a, R> {
 }
 
 impl<'a, R> StoreLines<'a, R> {
-    /// No line was printed yet. The changes are in the file at the path `log`, and the file at the path `spare` keeps
-    /// room.
-    pub fn new(rt: &'a R, host: &'a HostRuntime, log: String, spare: String) -> StoreLines<'a, R> {
-        StoreLines {
+    /// No line was printed yet. The store is in this folder.
+    pub fn new(rt: &'a R, folder: &StoreFolder<'a>) -> Result<StoreLines<'a, R>, AllocError> {
+        Ok(StoreLines {
             rt,
-            host,
-            log,
-            spare,
+            host: folder.rt,
+            log: folder.path_of("log")?,
+            spare: folder.path_of("spare")?,
             is_unread: AtomicBool::new(false),
             known: Mutex::new(None),
             told: Mutex::new(Told::new()),
-        }
+        })
     }
 
     /// The path of the log of this generation.

@@ -1,0 +1,183 @@
+//! A run of the server over a store.
+ghost use Rattle.std.specs.Prelude.{◌≡◌, [], All, List, length, vec_len};
+ghost use Rattle.up_hooks.specs.Recorded.{AnswersWithCodes};
+ghost use Rattle.up_log.specs.Logs.{IsReaderAt};
+ghost use Rattle.up_log.specs.declared.entry.Entry.{Entry as Logged};
+
+use crate::fault::Fault;
+use crate::running::{Arrivals, Beside, run_on, visits_of};
+use crate::store_files::{OpenStore, StoreFiles};
+use crate::store_folder::{EndedNotes, StoreFile, StoreFolder};
+use crate::store_lines::StoreLines;
+use sqlite_disk::Disk;
+use std::marker::{Brand, Send, Sync};
+use std::random::RandomSource;
+use std::sync::Wait;
+use std::thread;
+use std::thread::Threads;
+use std::time::Clock;
+use up_events::Event;
+use up_handed::{Opened, continue_each, counted_each, withhold_each};
+use up_history::Chronicle;
+use up_hooks::{Outcome, PostHook, Teller, new_tellers};
+use up_server::{ServerFault, Shown};
+use up_store::{EndedUploads, Folder, Histories, Keeping, LogFile, Shortening, StoreNotices};
+use up_tie::Site;
+
+/// How many bytes a log has, at the least, that is made shorter: 64 MiB.
+const LEAST_LOG: u64 = 1 << 26;
+
+/// Serves what the listener accepts. Changes are written to logs before they are made, and a thread tends the store.
+fn run_kept<
+    'x,
+    H: Shown + Drop,
+    D: Disk + Drop + Send + 'x,
+    N: StoreNotices + LogFile<D> + Drop + Send + Sync + 'x,
+    F: Folder<D> + Drop + Sync + 'x,
+    J: Site + Send + 'x,
+    K: Chronicle + Send + 'x,
+    R: Print + Eprint + AllocGlobal + Clock + RandomSource + Threads + Wait + Sync,
+>(
+    rt: &R,
+    beside: &'x Beside<'x, R>,
+    arrivals: Arrivals,
+    post_hooks: Vec<H>,
+    keeping: &'x Keeping<D, N, F, J, K>,
+) -> Result<(), Fault>
+    requires one_for_each { length post_hooks.items ≡ beside.now.settings.lanes }
+    requires new { All (λ h. H.is_sound h × (H.handed h ≡ [])) post_hooks.items }
+{
+    let Some(visits) = visits_of(beside, keeping) else {
+        return Ok(());
+    };
+    thread::scope(
+        thread::scope_env(),
+        rt,
+        move |scope| -> Result<(), Fault>
+            requires one_for_each { length post_hooks.items ≡ beside.now.settings.lanes }
+            requires new { All (λ h. H.is_sound h × (H.handed h ≡ [])) post_hooks.items }
+        {
+            if scope.spawn(move || keeping.tend(rt, rt.alloc())).is_err() {
+                return Err(Fault::Server(ServerFault::Memory));
+            }
+            let ended = run_on(rt, beside, &visits, arrivals, post_hooks);
+            keeping.stop_tending();
+            ended
+        },
+    )
+}
+
+/// How a run ended whose store could not be read, which was reported: only if memory ran out, too, that is to be
+/// reported.
+fn after_unread(served: Result<(), Fault>) -> Result<(), Fault> {
+    match served {
+        Err(Fault::Server(ServerFault::Memory)) => served,
+        _ => Err(Fault::AlreadyReported),
+    }
+}
+
+/// Serves what the listener accepts, over a store. The post-hooks continue where earlier runs ended.
+fn run_continued<
+    'x,
+    J: Site + Send + 'x,
+    K: Chronicle + Send + 'x,
+    F: Fn(&Event) -> Outcome + Send + Drop,
+    R: Print + Eprint + AllocGlobal + Clock + RandomSource + Threads + Wait + Sync,
+>(
+    rt: &R,
+    beside: &'x Beside<'x, R>,
+    arrivals: Arrivals,
+    tellers: Vec<Teller<F>>,
+    counts: Vec<Opened<StoreFile>>,
+    keeping: &'x Keeping<StoreFile, &'x StoreLines<'x, R>, StoreFolder<'x>, J, K>,
+) -> Result<(), Fault>
+    requires one_for_each { length tellers.items ≡ beside.now.settings.lanes }
+    requires one_each { vec_len counts ≡ beside.now.settings.lanes }
+    requires new { All (λ t. ⟦<Teller<F> as PostHook>⟧.is_sound t
+        × (⟦<Teller<F> as PostHook>⟧.handed t ≡ [])) tellers.items }
+{
+    let withheld = withhold_each(rt.alloc(), tellers, keeping.permit())?;
+    let notes = EndedNotes::new(rt, keeping.ended());
+    match continue_each(rt.alloc(), withheld, counts, notes) {
+        Ok(post_hooks) => run_kept(rt, beside, arrivals, post_hooks, keeping),
+        Err(_) => Err(Fault::Server(ServerFault::Memory)),
+    }
+}
+
+/// Serves what the listener accepts, over a store, once its histories have names.
+fn run_named<
+    'x,
+    J: Site + Send + 'x,
+    K: Chronicle + Send + 'x,
+    F: Fn(&Event) -> Outcome + Send + Drop,
+    R: Print + Eprint + AllocGlobal + Clock + RandomSource + Threads + Wait + Sync,
+>(
+    rt: &R,
+    beside: &'x Beside<'x, R>,
+    arrivals: Arrivals,
+    tellers: Vec<Teller<F>>,
+    store: OpenStore<'x>,
+    lines: &'x StoreLines<'x, R>,
+    histories: Histories,
+) -> Result<(), Fault>
+    requires written { histories.written ≡ J.history }
+    requires drawn { histories.drawn ≡ K.history }
+    requires reader { J.premise → (batches : List (List Logged))
+        × IsReaderAt ⟦<StoreFile as Disk>⟧ store.files.changes J.setup [] batches }
+    requires one_for_each { length tellers.items ≡ beside.now.settings.lanes }
+    requires same { store.files.settings.lanes ≡ beside.now.settings.lanes }
+    requires new { All (λ t. ⟦<Teller<F> as PostHook>⟧.is_sound t
+        × (⟦<Teller<F> as PostHook>⟧.handed t ≡ [])) tellers.items }
+{
+    let OpenStore { folder, files } = store;
+    let StoreFiles {
+        settings,
+        current,
+        changes,
+        voids,
+        counts,
+    } = files;
+    let ended = EndedUploads::new(rt.alloc());
+    let shortening = Shortening::new(current, ended, folder, settings.lanes, LEAST_LOG);
+    let counted = counted_each(rt.alloc(), counts.as_slice())?;
+    let keeping: Keeping<_, _, _, J, K> = Keeping::new(
+        rt.alloc(),
+        changes,
+        voids,
+        histories,
+        lines,
+        shortening,
+        counted,
+    )?;
+    run_continued(rt, beside, arrivals, tellers, counts, &keeping)
+}
+
+/// Serves what the listener accepts, over a store. The post-hooks return what `answer` does.
+pub fn run_stored<
+    'x,
+    F: Fn(&Event) -> Outcome + Send + Copy + Drop,
+    R: Print + Eprint + AllocGlobal + Clock + RandomSource + Threads + Wait + Sync + 'x,
+>(
+    rt: &'x R,
+    beside: &'x Beside<'x, R>,
+    arrivals: Arrivals,
+    answer: F,
+    store: OpenStore<'x>,
+) -> Result<(), Fault>
+    requires same { store.files.settings.lanes ≡ beside.now.settings.lanes }
+    requires callable { F.IsAlwaysCallable answer }
+    requires codes { AnswersWithCodes F.Fn answer }
+{
+    let lines = StoreLines::new(rt, &store.folder)?;
+    let histories = Histories::new();
+    let Ok(tellers) = new_tellers(rt.alloc(), beside.settings.lanes, answer) else {
+        return Err(Fault::Server(ServerFault::Memory));
+    };
+    let served = run_named::<Brand, Brand, _, _>(
+        rt, beside, arrivals, tellers, store, &lines, histories,
+    );
+    if lines.is_unread() {
+        return after_unread(served);
+    }
+    served
+}
