@@ -4,6 +4,7 @@ use crate::same::expect_same;
 use sqlite_std_file::Unknown;
 use std::alloc::Global;
 use std::fs;
+use std::process::Abort;
 use std::test::Fail;
 use up_log::{Log, LogFault, LogReader, Setup, open_file};
 
@@ -31,6 +32,21 @@ fn changed(
     Ok(copy)
 }
 
+/// The number of bytes that are left of a file, the place of a changed byte, its new value, and the number of batches.
+type Torn = (usize, usize, u8, u64);
+
+/// Checks the number of batches that are left of these bytes, and that one more can be appended.
+fn hold_left<R: Abort>(rt: &R, alloc: Global, bytes: &[u8], torn: Torn) -> Result<(), Fail> {
+    let (left, place, byte, want) = torn;
+    let found = counts(alloc, &changed(bytes, alloc, left, place, byte)?)?;
+    expect_same(
+        rt,
+        &(left, byte, place, found),
+        &(left, byte, place, (want, want.saturating_add(1))),
+    );
+    Ok(())
+}
+
 #[test]
 fn a_crash_leaves_whole_batches(rt: HostRuntime) -> Result<(), Fail> {
     let alloc = rt.alloc();
@@ -40,10 +56,8 @@ fn a_crash_leaves_whole_batches(rt: HostRuntime) -> Result<(), Fail> {
     if two == 0 || end == 0 {
         return Err(Fail::new("no log"));
     }
-    // The number of bytes that are left of the file, the place of the changed byte, its new value, and the number of
-    // batches.
     let gate = two - 1;
-    for (left, place, byte, want) in [
+    for torn in [
         (end, end - 1, 0, 3u64),
         (end - 1, gate, 1, 3),
         (end, gate, 0, 2),
@@ -56,16 +70,9 @@ fn a_crash_leaves_whole_batches(rt: HostRuntime) -> Result<(), Fail> {
         (1, 0, 9, 0),
         (0, 0, 9, 0),
     ] {
-        let found = counts(alloc, &changed(&three, alloc, left, place, byte)?)?;
-        expect_same(
-            &rt,
-            &(left, byte, place, found),
-            &(left, byte, place, (want, want.saturating_add(1))),
-        );
+        hold_left(&rt, alloc, &three, torn)?;
     }
-    let torn = changed(&log_of(alloc, 0)?, alloc, 34, 0, 7)?;
-    expect_same(&rt, &counts(alloc, &torn)?, &(0, 1));
-    Ok(())
+    hold_left(&rt, alloc, &log_of(alloc, 0)?, (34, 0, 7, 0))
 }
 
 /// Why a file is refused, if it is and is unchanged.
@@ -92,29 +99,25 @@ fn is_refused(alloc: Global, bytes: &[u8], setup: Setup, want: &str) -> Result<b
 #[test]
 fn another_file_is_left_as_it_is(rt: HostRuntime) -> Result<(), Fail> {
     let alloc = rt.alloc();
-    let foreign = "the file is no log of up";
-    assert!(rt; is_refused(alloc, b"no log", SETUP, foreign)?);
-    assert!(rt;
-        is_refused(
-            alloc,
-            b"\0, and behind it more than a heading takes",
-            SETUP,
-            foreign
-        )?
-    );
+    let long = b"\0, and behind it more than a heading takes".as_slice();
     let log = log_of(alloc, 1)?;
-    let lanes = Setup { lanes: 3, ..SETUP };
-    let want = "the log was made with 2 lanes, and is opened with 3";
-    assert!(rt; is_refused(alloc, &log, lanes, want)?);
-    let size = Setup {
-        max_size: 1001,
-        ..SETUP
-    };
-    let want = "the log was made for uploads of at most 1000 bytes, and is opened for 1001";
-    assert!(rt; is_refused(alloc, &log, size, want)?);
     let next = changed(&log, alloc, log.len(), 9, 2)?;
-    let want = "the log has version 2, and this program reads version 1";
-    assert!(rt; is_refused(alloc, &next, SETUP, want)?);
+    let foreign = "the file is no log of up";
+    let lanes = "the log was made with 2 lanes, and is opened with 3";
+    let size = "the log was made for uploads of at most 1000 bytes, and is opened for 1001";
+    let version = "the log has version 2, and this program reads version 1";
+    for (bytes, (lanes, max_size), want) in [
+        (b"no log".as_slice(), (2, 1000), foreign),
+        (long, (2, 1000), foreign),
+        (log.as_slice(), (3, 1000), lanes),
+        (log.as_slice(), (2, 1001), size),
+        (next.as_slice(), (2, 1000), version),
+    ] {
+        assert!(rt;
+            is_refused(alloc, bytes, Setup { lanes, max_size }, want)?,
+            "{want}"
+        );
+    }
     Ok(())
 }
 

@@ -4,6 +4,7 @@ use crate::same::expect_same;
 use sqlite_disk::Memory;
 use std::alloc::{AllocError, Global};
 use std::collections::BTreeSet;
+use std::process::Abort;
 use std::test::Fail;
 use up_compact::{LeftOut, Progress, Survey, catch_up};
 use up_events::{Id, Kind};
@@ -110,6 +111,37 @@ fn left_out(alloc: Global) -> Result<LeftOut, AllocError> {
     })
 }
 
+/// Writes to a shorter log what the log has after this place. Checks how many entries were read by then, and how many
+/// of them stayed.
+fn hold_reached<R: Abort>(
+    rt: &R,
+    alloc: Global,
+    log: &mut Log<Memory>,
+    shorter: &mut Log<Memory>,
+    since: Progress,
+    want: (u64, u64),
+) -> Result<Progress, Fail> {
+    let reached = catch_up(alloc, log, shorter, &left_out(alloc)?, since)?;
+    expect_same(rt, &(reached.count, reached.stayed), &want);
+    expect_same(rt, &reached.place, &log.end_place());
+    Ok(reached)
+}
+
+/// Checks the number of changes that a log defines, and the number of bytes of the uploads from 5 to 7.
+fn hold_book<R: Abort>(
+    rt: &R,
+    alloc: Global,
+    log: Log<Memory>,
+    changes: u64,
+    offsets: [Option<u64>; 3],
+) -> Result<(), Fail> {
+    let book = book_of(alloc, log)?;
+    expect_same(rt, &book.journal().accepted_count(), &changes);
+    let found = [offset(&book, 5), offset(&book, 6), offset(&book, 7)];
+    expect_same(rt, &found, &offsets);
+    Ok(())
+}
+
 #[test]
 fn a_shorter_log_has_what_stays(rt: HostRuntime) -> Result<(), Fail> {
     let alloc = rt.alloc();
@@ -117,25 +149,31 @@ fn a_shorter_log_has_what_stays(rt: HostRuntime) -> Result<(), Fail> {
     let second = [(What::Put, 6, 5), (What::Remove, 6, 0)];
     let mut log = log_of(alloc, &first, &second)?;
     let (mut shorter, _) = read(alloc, Memory::new(alloc))?;
-    let left_out = left_out(alloc)?;
     let start = Progress::start::<Memory>();
-    let reached = catch_up(alloc, &mut log, &mut shorter, &left_out, start)?;
-    expect_same(&rt, &(reached.count, reached.stayed), &(5, 1));
-    expect_same(&rt, &reached.place, &log.end_place());
+    let reached = hold_reached(&rt, alloc, &mut log, &mut shorter, start, (5, 1))?;
     // Entries that are appended to the log meanwhile are then appended to the shorter log.
-    log.append(
-        &mut Vec::new(alloc),
-        &spelled_of(alloc, &[(What::Put, 5, 3), (What::Make, 7, 2)])?,
-    )?;
-    let reached = catch_up(alloc, &mut log, &mut shorter, &left_out, reached)?;
-    expect_same(&rt, &(reached.count, reached.stayed), &(7, 3));
+    let more = spelled_of(alloc, &[(What::Put, 5, 3), (What::Make, 7, 2)])?;
+    log.append(&mut Vec::new(alloc), &more)?;
+    hold_reached(&rt, alloc, &mut log, &mut shorter, reached, (7, 3))?;
     assert!(rt; shorter.end_place() < log.end_place());
-    let book = book_of(alloc, shorter)?;
-    expect_same(&rt, &book.journal().accepted_count(), &3);
-    expect_same(&rt, &offset(&book, 5), &Some(3));
-    expect_same(&rt, &offset(&book, 6), &None);
-    expect_same(&rt, &offset(&book, 7), &Some(0));
-    Ok(())
+    hold_book(&rt, alloc, shorter, 3, [Some(3), None, Some(0)])
+}
+
+/// Checks that a batch of this number of entries is at a place, and returns the place after it.
+fn hold_batch<R: Abort>(
+    rt: &R,
+    alloc: Global,
+    log: &mut Log<Memory>,
+    place: usize,
+    want: usize,
+) -> Result<usize, Fail> {
+    match log.batch_at(alloc, place)? {
+        Some((entries, next)) => {
+            expect_same(rt, &entries.len(), &want);
+            Ok(next)
+        }
+        None => Err("a batch".into()),
+    }
 }
 
 #[test]
@@ -144,17 +182,11 @@ fn an_open_log_is_read_from_its_places(rt: HostRuntime) -> Result<(), Fail> {
     let first = [(What::Make, 5, 4)];
     let second = [(What::Make, 6, 5), (What::Remove, 6, 0)];
     let mut log = log_of(alloc, &first, &second)?;
-    let mut place = Log::<Memory>::first_place();
-    for want in [1usize, 2] {
-        let Some((entries, next)) = log.batch_at(alloc, place)? else {
-            return Err(Fail::new("no batch"));
-        };
-        expect_same(&rt, &entries.len(), &want);
-        place = next;
-    }
+    let place = hold_batch(&rt, alloc, &mut log, Log::<Memory>::first_place(), 1)?;
+    let place = hold_batch(&rt, alloc, &mut log, place, 2)?;
     assert!(rt; log.batch_at(alloc, place)?.is_none());
     // Another batch can still be appended, and is then at this place.
     log.append(&mut Vec::new(alloc), &spelled_of(alloc, &first)?)?;
-    assert!(rt; log.batch_at(alloc, place)?.is_some());
+    hold_batch(&rt, alloc, &mut log, place, 1)?;
     Ok(())
 }

@@ -14,5 +14,6 @@ mod refusing;
 mod running;
 mod shorter;
 mod tally;
+mod tasks;
 mod together;
 mod voids;

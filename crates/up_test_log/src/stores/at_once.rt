@@ -4,8 +4,9 @@ ghost use Rattle.up_dispatch.specs.Parts.{IsNamed};
 
 use super::course::Course;
 use super::disks::{Files, files_of};
-use super::running::{Job, Look, Outcome, Seen, board_of, store_on, work};
+use super::running::{Job, Look, Outcome, Seen, store_on, work};
 use super::tally::{Again, Tally};
+use super::tasks::board_of;
 use sqlite_disk::Disk;
 use std::alloc::Global;
 use std::marker::{Brand, Send, Sync};
@@ -25,6 +26,15 @@ pub struct Ran<D: Disk> {
     pub outcomes: Vec<Outcome>,
     pub seen: Seen,
     pub logs: Files<D>,
+}
+
+/// The outcomes, if memory ran out for none.
+fn all_of(alloc: Global, given: Vec<Result<Outcome, NoMemory>>) -> Result<Vec<Outcome>, Fail> {
+    let mut outcomes = Vec::new(alloc);
+    for outcome in given {
+        outcomes.push(outcome?)?;
+    }
+    Ok(outcomes)
 }
 
 /// Does each job in a thread of its own, from a seat of its own, through a store whose logs are on these disks.
@@ -55,14 +65,11 @@ fn work_each<
             work(alloc, &mut Stored::new(rt, board, store, &mut seat), &job)
         },
     )?;
-    let mut outcomes = Vec::new(alloc);
-    for outcome in given {
-        outcomes.push(outcome?)?;
-    }
-    Ok(outcomes)
+    all_of(alloc, given)
 }
 
-/// Does each job in a thread of its own, from a seat of its own, through this store.
+/// Does each job in a thread of its own, from a seat of its own, through this store. Returns the results of each job,
+/// and the state of the board after them.
 fn do_each<
     B: Naming + Send + Sync,
     D: Again + Send + Drop,
@@ -73,19 +80,33 @@ fn do_each<
     rt: &R,
     alloc: Global,
     board: &Board<B>,
-    store: Store<D, &Tally, J, K>,
+    store: &Store<D, &Tally, J, K>,
     seat: &mut Seat<B>,
     jobs: Vec<Job>,
-) -> Result<Ran<D>, Fail>
+) -> Result<(Vec<Outcome>, Seen), Fail>
     requires same { J.history ≡ B.history }
 {
-    let outcomes = work_each(rt, alloc, board, &store, jobs)?;
-    let seen = Look.take(rt, alloc, board, &store, seat)?;
-    Ok(Ran {
-        outcomes,
-        seen,
-        logs: files_of(store).ok_or("a store that is open")?,
-    })
+    let outcomes = work_each(rt, alloc, board, store, jobs)?;
+    Ok((outcomes, Look.take(rt, alloc, board, store, seat)?))
+}
+
+/// What came of the jobs, with the logs of their store.
+fn ran_of<D: Disk>(
+    outcomes: Vec<Outcome>,
+    seen: Seen,
+    logs: Option<Files<D>>,
+) -> Result<Ran<D>, Fail>
+where
+    D: Drop,
+{
+    match logs {
+        Some(logs) => Ok(Ran {
+            outcomes,
+            seen,
+            logs,
+        }),
+        None => Err("a store that is open".into()),
+    }
 }
 
 /// Does each job in a thread of its own, from a seat of its own, through a store whose logs are on these disks. `None`
@@ -117,10 +138,11 @@ fn run_by<
     let opened: Result<Store<D, &Tally, J, K>, Unrestored> = store_on(
         rt, alloc, &board, &mut seat, disks, tally, histories,
     );
-    match opened {
-        Ok(store) => Ok(Some(do_each(rt, alloc, &board, store, &mut seat, jobs)?)),
-        Err(_) => Ok(None),
-    }
+    let Ok(store) = opened else {
+        return Ok(None);
+    };
+    let (outcomes, seen) = do_each(rt, alloc, &board, &store, &mut seat, jobs)?;
+    Ok(Some(ran_of(outcomes, seen, files_of(alloc, store)?)?))
 }
 
 /// Does each job in a thread of its own, through a store whose logs are on these disks. `None` if the logs are not
@@ -135,4 +157,15 @@ pub fn run_on<D: Again + Send + Drop, R: Threads + Wait + Sync>(
     let parts = BoardParts::new(alloc, 2, 4)?;
     let histories = Histories::new();
     run_by::<Brand, Brand, Brand, D, R>(rt, alloc, parts, disks, tally, jobs, histories)
+}
+
+/// The same, with logs that can be opened.
+pub fn ran_on<D: Again + Send + Drop, R: Threads + Wait + Sync>(
+    rt: &R,
+    alloc: Global,
+    disks: (D, D),
+    tally: &Tally,
+    jobs: Vec<Job>,
+) -> Result<Ran<D>, Fail> {
+    Ok(run_on(rt, alloc, disks, tally, jobs)?.ok_or("an open log")?)
 }

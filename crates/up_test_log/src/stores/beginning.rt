@@ -1,16 +1,15 @@
 //! Servers that begin over a store.
-ghost use Rattle.std.specs.Prelude.{◌≡◌, length};
-ghost use Rattle.up_dispatch.specs.Parts.{IsNamed};
+ghost use Rattle.std.specs.Prelude.{◌≡◌};
 
 use super::disks::reader_of;
-use super::running::board_of;
 use super::tally::Tally;
+use super::tasks::{Task, run};
 use sqlite_disk::Memory;
 use std::alloc::Global;
-use std::marker::{Brand, Send, Sync};
+use std::marker::{Send, Sync};
 use std::sync::Wait;
 use std::test::Fail;
-use up_dispatch::{BoardParts, Naming, Service};
+use up_dispatch::{Board, Naming, Seat, Service};
 use up_handed::{Counted, Permission};
 use up_history::Chronicle;
 use up_store::{Folder, Histories, Keeping, Shortening};
@@ -38,37 +37,38 @@ fn keeping_on<'a, F: Folder<Memory> + Drop, J: Site, K: Chronicle>(
     Ok(Keeping::new(alloc, changes, voids, histories, tally, shortening, counts)?)
 }
 
-fn begun_by<
-    B: Naming,
-    F: Folder<Memory> + Drop + Sync,
-    J: Site + Send,
-    K: Chronicle + Send,
-    R: Wait,
->(
-    rt: &R,
-    alloc: Global,
-    parts: BoardParts,
+/// A server that begins over a store on these disks, of whose lanes earlier runs counted these events.
+#[derive(Drop)]
+struct Beginning<F> {
     disks: (Memory, Memory),
     shortening: Shortening<Memory, F>,
     counts: Vec<Counted>,
-    histories: Histories,
-) -> Result<Begun, Fail>
-    requires named { IsNamed B.name B.parts B.queue B.lanes parts }
-    requires lanes { length parts.queues ≡ 2 }
-    requires sized { B.max_size ≡ 1000 }
-    requires written { histories.written ≡ J.history }
-    requires drawn { histories.drawn ≡ K.history }
-    requires nothing { J.premise → ⊥ }
-    requires same { J.history ≡ B.history }
-{
-    let (board, seat) = board_of::<B, R>(rt, alloc, parts)?;
-    let tally = Tally::new();
-    let keeping: Keeping<Memory, &Tally, F, J, K> = keeping_on(
-        alloc, disks, shortening, counts, &tally, histories,
-    )?;
-    let before = keeping.permit().is_given();
-    let (_seat, is_ready) = keeping.begin(rt, alloc, &board, seat);
-    Ok((before, is_ready, keeping.permit().is_given()))
+}
+
+impl<F: Folder<Memory> + Drop + Sync, R: Wait> Task<R> for Beginning<F> {
+    type Found = Begun;
+
+    fn run<B: Naming, J: Site + Send, K: Chronicle + Send>(
+        self,
+        rt: &R,
+        alloc: Global,
+        board: &Board<B>,
+        seat: Seat<B>,
+        histories: Histories,
+    ) -> Result<Begun, Fail> {
+        let Beginning {
+            disks,
+            shortening,
+            counts,
+        } = self;
+        let tally = Tally::new(alloc)?;
+        let keeping: Keeping<Memory, &Tally, F, J, K> = keeping_on(
+            alloc, disks, shortening, counts, &tally, histories,
+        )?;
+        let before = keeping.permit().is_given();
+        let (_seat, is_ready) = keeping.begin(rt, alloc, board, seat);
+        Ok((before, is_ready, keeping.permit().is_given()))
+    }
 }
 
 /// Begins over a store on these disks, of whose lanes earlier runs counted these events.
@@ -79,7 +79,10 @@ pub fn begun<F: Folder<Memory> + Drop + Sync, R: Wait>(
     shortening: Shortening<Memory, F>,
     counts: Vec<Counted>,
 ) -> Result<Begun, Fail> {
-    let parts = BoardParts::new(alloc, 2, 4)?;
-    let histories = Histories::new();
-    begun_by::<Brand, F, Brand, Brand, R>(rt, alloc, parts, disks, shortening, counts, histories)
+    let beginning = Beginning {
+        disks,
+        shortening,
+        counts,
+    };
+    run(rt, alloc, beginning)
 }

@@ -1,5 +1,5 @@
 //! Changes that reach a board after it was closed.
-use super::course::{Course, taken};
+use super::course::{Course, kept};
 use super::running::{CommitResult, change, hold_again};
 use super::tally::Tally;
 use crate::logs::What;
@@ -40,12 +40,10 @@ impl Course<Memory> for Closing {
 fn what_a_closed_board_refuses_does_not_come_back(rt: HostRuntime) -> Result<(), Fail> {
     let alloc = rt.alloc();
     let disks = (Memory::new(alloc), Memory::new(alloc));
-    let (told, logs) = taken(&rt, alloc, disks, &Tally::new(), &Closing)?;
+    let (told, logs) = kept(&rt, alloc, disks, &Tally::new(alloc)?, &Closing)?;
     for told in &told {
         expect_same(&rt, told, &Err(Refusal::Closed));
     }
     expect_same(&rt, &told.len(), &3);
-    let logs = logs.ok_or("a store that is open")?;
-    let disks = (logs.changes.into_device(), logs.voids.into_device());
-    hold_again(&rt, alloc, disks, &[(What::Make, 1, 4)])
+    hold_again(&rt, alloc, logs.into_disks(), &[(What::Make, 1, 4)])
 }

@@ -1,24 +1,24 @@
 //! Stores whose log has fewer events than earlier runs counted.
-ghost use Rattle.std.specs.Prelude.{◌≡◌, length};
-ghost use Rattle.up_dispatch.specs.Parts.{IsNamed};
+ghost use Rattle.std.specs.Prelude.{◌≡◌};
 
 use super::beginning::{Begun, begun};
 use super::disks::{file_of, reader_of};
-use super::running::{Unread, board_of, unread_on};
+use super::running::{NOTHING, Unread, unread_on};
 use super::tally::Tally;
+use super::tasks::{Task, run};
 use crate::logs::{Row, What, disk_of};
 use crate::same::expect_same;
-use sqlite_disk::Memory;
+use sqlite_disk::{Disk, Memory};
 use std::alloc::Global;
-use std::marker::Brand;
+use std::marker::Send;
 use std::sync::Wait;
 use std::test::Fail;
 use up_compact::Heads;
-use up_dispatch::{BoardParts, Naming};
+use up_dispatch::{Board, Naming, Seat};
 use up_handed::Counted;
 use up_history::Chronicle;
 use up_log::{LogFault, LogReader};
-use up_store::{Current, EndedUploads, Folder, Histories, Least, Shortening, Unrestored};
+use up_store::{Current, EndedUploads, Folder, Histories, Least, Logs, Shortening, Unrestored};
 use up_tie::Site;
 
 /// Three entries in two batches. Of the two lanes the first has one event, and the second has three.
@@ -48,41 +48,49 @@ fn files(alloc: Global) -> Result<(Memory, Memory), LogFault> {
     Ok((file_of(alloc, &[&FIRST, &SECOND])?, Memory::new(alloc)))
 }
 
-/// How many entries are carried out again from these files, or why they are not.
-fn restored_by<B: Naming, J: Site, K: Chronicle, R: Wait>(
-    rt: &R,
-    alloc: Global,
-    parts: BoardParts,
+/// How many entries are carried out again from a log.
+fn count_in<D: Disk + Drop, J: Site>(
+    logs: Result<Logs<D, J>, Unrestored>,
+) -> Result<u64, Unrestored> {
+    Ok(logs?.count)
+}
+
+/// A store on these files, which are to have so much.
+#[derive(Drop)]
+struct Restoring<'a> {
     files: (Memory, Memory),
-    least: &Least<'_>,
-    histories: Histories,
-) -> Result<Result<u64, Unrestored>, Fail>
-    requires named { IsNamed B.name B.parts B.queue B.lanes parts }
-    requires lanes { length parts.queues ≡ 2 }
-    requires sized { B.max_size ≡ 1000 }
-    requires written { histories.written ≡ J.history }
-    requires drawn { histories.drawn ≡ K.history }
-    requires nothing { J.premise → ⊥ }
-    requires same { J.history ≡ B.history }
-{
-    let (board, mut seat) = board_of::<B, R>(rt, alloc, parts)?;
-    let tally = Tally::new();
-    let (store, readers): Unread<'_, Memory, J, K> = unread_on(alloc, files, &tally, histories)?;
-    match store.restore(rt, alloc, &board, &mut seat, readers, least) {
-        Ok(logs) => Ok(Ok(logs.count)),
-        Err(why) => Ok(Err(why)),
+    least: &'a Least<'a>,
+}
+
+impl<R: Wait> Task<R> for Restoring<'_> {
+    type Found = Result<u64, Unrestored>;
+
+    fn run<B: Naming, J: Site + Send, K: Chronicle + Send>(
+        self,
+        rt: &R,
+        alloc: Global,
+        board: &Board<B>,
+        seat: Seat<B>,
+        histories: Histories,
+    ) -> Result<Result<u64, Unrestored>, Fail> {
+        let Restoring { files, least } = self;
+        let mut seat = seat;
+        let tally = Tally::new(alloc)?;
+        let (store, readers): Unread<'_, Memory, J, K> = unread_on(
+            alloc, files, &tally, histories,
+        )?;
+        Ok(count_in(store.restore(rt, alloc, board, &mut seat, readers, least)))
     }
 }
 
-/// The same, on a new board of two lanes.
+/// How many entries are carried out again from these files, or why they are not.
 fn restored<R: Wait>(
     rt: &R,
     alloc: Global,
     files: (Memory, Memory),
     least: &Least<'_>,
 ) -> Result<Result<u64, Unrestored>, Fail> {
-    let parts = BoardParts::new(alloc, 2, 4)?;
-    restored_by::<Brand, Brand, Brand, R>(rt, alloc, parts, files, least, Histories::new())
+    run(rt, alloc, Restoring { files, least })
 }
 
 /// What was counted of each of two lanes: how many events, and how many of these a shorter log leaves out.
@@ -132,21 +140,22 @@ fn a_log_has_what_was_counted(rt: HostRuntime) -> Result<(), Fail> {
     Ok(())
 }
 
+/// A log whose first batch is cut, though its gate is open.
+fn cut_log(alloc: Global) -> Result<Memory, LogFault> {
+    let (changes, _) = files(alloc)?;
+    let mut bytes = Vec::from_slice(alloc, changes.bytes())?;
+    bytes.truncate(60);
+    Ok(disk_of(alloc, &bytes)?)
+}
+
 #[test]
 fn the_reason_says_which_log_is_damaged(rt: HostRuntime) -> Result<(), Fail> {
     let alloc = rt.alloc();
-    let least = Least {
-        entries: 0,
-        events: &[],
-    };
-    let (changes, voids) = files(alloc)?;
-    // The gate of the first batch is open, and no batch of this length follows.
-    let mut bytes = Vec::from_slice(alloc, changes.bytes())?;
-    bytes.truncate(60);
-    let found = restored(&rt, alloc, (disk_of(alloc, &bytes)?, voids), &least)?;
+    let (_, voids) = files(alloc)?;
+    let found = restored(&rt, alloc, (cut_log(alloc)?, voids), &NOTHING)?;
     assert!(&rt; matches!(found, Err(Unrestored::Changes(_))));
     let (changes, _) = files(alloc)?;
-    let found = restored(&rt, alloc, (changes, disk_of(alloc, &bytes)?), &least)?;
+    let found = restored(&rt, alloc, (changes, cut_log(alloc)?), &NOTHING)?;
     assert!(&rt; matches!(found, Err(Unrestored::Voids(_))));
     Ok(())
 }

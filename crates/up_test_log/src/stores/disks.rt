@@ -2,10 +2,10 @@
 use super::tally::Tally;
 use crate::logs::{Row, SETUP, read, spelled_of};
 use sqlite_disk::{Disk, Memory};
-use std::alloc::Global;
+use std::alloc::{AllocError, Global};
 use up_history::Chronicle;
 use up_log::{Log, LogFault, LogReader};
-use up_store::{Logs, Store, Voids};
+use up_store::{Store, Voids};
 use up_tie::Site;
 
 /// The file of a log with these batches.
@@ -44,28 +44,61 @@ pub fn count_in(alloc: Global, file: Memory) -> Result<(u64, Memory), LogFault> 
     }
 }
 
-/// The open files of a store.
+#[derive(Drop)]
+struct OpenFiles<D: Disk> {
+    changes: Log<D>,
+    voids: Voids<D>,
+    /// The number of entries of the log of the changes.
+    count: u64,
+}
+
+/// The open files of a store. They are in a box, since the proof of a function takes longer if it has large values.
 #[derive(Drop)]
 pub struct Files<D: Disk> {
-    pub changes: Log<D>,
-    pub voids: Voids<D>,
+    open: Box<OpenFiles<D>, Global>,
+}
+
+impl<D: Disk> Files<D> {
     /// The number of entries of the log of the changes.
-    pub count: u64,
+    pub fn count(&self) -> u64 {
+        self.open.count
+    }
+
+    /// Notes that an entry was not carried out.
+    pub fn add_void(&mut self, place: u64) -> Result<(), LogFault>
+    where
+        D: Drop,
+    {
+        self.open.voids.add(place)
+    }
+
+    /// The disks on which the files are: that of the changes, and that of the voids.
+    pub fn into_disks(self) -> (D, D)
+    where
+        D: Drop,
+    {
+        let OpenFiles { changes, voids, .. } = Box::into_inner(self.open);
+        (changes.into_device(), voids.into_device())
+    }
 }
 
 /// The files of a store. `None` if it isn't open.
-pub fn files_of<D: Disk, J: Site, K: Chronicle>(store: Store<D, &Tally, J, K>) -> Option<Files<D>>
+pub fn files_of<D: Disk, J: Site, K: Chronicle>(
+    alloc: Global,
+    store: Store<D, &Tally, J, K>,
+) -> Result<Option<Files<D>>, AllocError>
 where
     D: Drop,
 {
-    let Logs {
-        changes,
-        voids,
-        count,
-    } = store.into_logs()?;
-    Some(Files {
-        changes: changes.into_log(),
-        voids,
-        count,
-    })
+    let Some(logs) = store.into_logs() else {
+        return Ok(None);
+    };
+    let open = OpenFiles {
+        changes: logs.changes.into_log(),
+        voids: logs.voids,
+        count: logs.count,
+    };
+    Ok(Some(Files {
+        open: Box::new(alloc, open)?,
+    }))
 }

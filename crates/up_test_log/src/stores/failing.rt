@@ -1,7 +1,7 @@
 //! Stores on disks that fail, for good or for one call.
-use super::at_once::{Ran, run_on};
+use super::at_once::{Ran, ran_on, run_on};
 use super::disks::Files;
-use super::running::{CommitResult, Job, Outcome, Seen, plainly, restored};
+use super::running::{CommitResult, Outcome, Seen, hold_again, job_of, restored, standing};
 use super::tally::{Again, Tally};
 use super::together::{jobs_of, jobs_that_keep, shared_file, told_plainly};
 use crate::full_once::FullOnce;
@@ -26,15 +26,6 @@ const ROWS: [Row; 6] = [
     (What::Remove, 1, 0),
 ];
 
-/// The job with only these rows.
-fn job_of(alloc: Global, rows: &[Row]) -> Result<Job, AllocError> {
-    Ok(Job {
-        rows: Vec::from_slice(alloc, rows)?,
-        byte: 0,
-        times: 0,
-    })
-}
-
 /// The number of results before the first `NoMemory`, and of all results without `NoMemory`.
 fn made(told: &[CommitResult]) -> (usize, usize) {
     let mut first: usize = 0;
@@ -54,9 +45,8 @@ fn made(told: &[CommitResult]) -> (usize, usize) {
 }
 
 /// The state of a plain board after the first `count` rows.
-fn standing<R: Wait>(rt: &R, alloc: Global, count: usize) -> Result<Seen, Fail> {
-    let job = job_of(alloc, &ROWS[..count.min(6)])?;
-    Ok(plainly(rt, alloc, &job)?.1)
+fn after<R: Wait>(rt: &R, alloc: Global, count: usize) -> Result<Seen, Fail> {
+    standing(rt, alloc, &ROWS[..count.min(6)])
 }
 
 /// The state of a board that is restored from logs.
@@ -98,9 +88,9 @@ fn hold_left<R: Wait + Abort>(
     let (mut changes, voids) = disks;
     changes.crash();
     let seen = seen_again(rt, alloc, (changes, voids))?;
-    let is_next = seen == standing(rt, alloc, all.saturating_add(1))?;
+    let is_next = seen == after(rt, alloc, all.saturating_add(1))?;
     assert!(rt;
-        is_next || seen == standing(rt, alloc, all)?,
+        is_next || seen == after(rt, alloc, all)?,
         "after {all} rows"
     );
     Ok(())
@@ -113,7 +103,7 @@ fn left<R: Threads + Wait + Abort + Sync>(
     alloc: Global,
     calls: u64,
 ) -> Result<Option<usize>, Fail> {
-    let tally = Tally::new();
+    let tally = Tally::new(alloc)?;
     let disks = (
         Fuse::new(Memory::new(alloc), calls),
         Fuse::new(Memory::new(alloc), u64::MAX),
@@ -124,8 +114,7 @@ fn left<R: Threads + Wait + Abort + Sync>(
     let (first, all) = made(&told);
     expect_same(rt, &(first, told.len()), &(all, 6));
     expect_same(rt, &tally.counts(), &[u64::from(all < 6), 0, 0]);
-    let disks = (logs.changes.into_device(), logs.voids.into_device());
-    hold_left(rt, alloc, disks, all)?;
+    hold_left(rt, alloc, logs.into_disks(), all)?;
     Ok(Some(all))
 }
 
@@ -168,6 +157,21 @@ fn hold_cut_off<R: Wait + Abort>(
     Ok(())
 }
 
+/// Checks that a crash of the disk of the changes leaves this state. The disk failed at this call.
+fn hold_crash<D: Again + Crash + Drop, R: Wait + Abort>(
+    rt: &R,
+    alloc: Global,
+    disks: (D, D),
+    seen: &Seen,
+    calls: u64,
+) -> Result<(), Fail> {
+    let (mut changes, voids) = disks;
+    changes.crash();
+    let again = seen_again(rt, alloc, (changes, voids))?;
+    assert!(rt; again == *seen, "at the call {calls}");
+    Ok(())
+}
+
 /// Checks that three seats of a board whose disk fails from some call on get true results: a crash leaves what
 /// succeeded, in the same order.
 fn hold_at_once<R: Threads + Wait + Abort + Sync>(
@@ -175,27 +179,16 @@ fn hold_at_once<R: Threads + Wait + Abort + Sync>(
     alloc: Global,
     calls: u64,
 ) -> Result<(), Fail> {
-    let tally = Tally::new();
+    let tally = Tally::new(alloc)?;
     let disks = (
         Fuse::new(shared_file(alloc)?, calls),
         Fuse::new(Memory::new(alloc), u64::MAX),
     );
-    let run = run_on(rt, alloc, disks, &tally, jobs_of(alloc)?)?;
-    let Ran {
-        outcomes,
-        seen,
-        logs,
-    } = run.ok_or("an open log")?;
+    let ran = ran_on(rt, alloc, disks, &tally, jobs_of(alloc)?)?;
     expect_same(rt, &tally.counts(), &[1, 0, 0]);
-    hold_cut_off(rt, alloc, &outcomes, calls)?;
-    drop(outcomes);
-    let (mut changes, voids) = (logs.changes.into_device(), logs.voids.into_device());
-    changes.crash();
-    assert!(rt;
-        seen_again(rt, alloc, (changes, voids))? == seen,
-        "after {calls} calls"
-    );
-    Ok(())
+    hold_cut_off(rt, alloc, &ran.outcomes, calls)?;
+    let Ran { seen, logs, .. } = ran;
+    hold_crash(rt, alloc, logs.into_disks(), &seen, calls)
 }
 
 #[test]
@@ -236,10 +229,7 @@ fn hold_taken<R: Wait + Abort>(
 ) -> Result<(), Fail> {
     let mut file = file;
     file.crash();
-    let seen = seen_again(rt, alloc, (file, Memory::new(alloc)))?;
-    let job = job_of(alloc, &taken(alloc, told)?)?;
-    assert!(rt; seen == plainly(rt, alloc, &job)?.1);
-    Ok(())
+    hold_again(rt, alloc, (file, Memory::new(alloc)), &taken(alloc, told)?)
 }
 
 /// The number of creations that succeed in a store with a disk of which one call fails: before that call, and in all.
@@ -249,7 +239,7 @@ fn full_at<R: Threads + Wait + Abort + Sync>(
     alloc: Global,
     calls: u64,
 ) -> Result<Option<(usize, usize)>, Fail> {
-    let tally = Tally::new();
+    let tally = Tally::new(alloc)?;
     let disks = (
         FullOnce::new(Memory::new(alloc), calls),
         FullOnce::new(Memory::new(alloc), 0),
@@ -263,8 +253,9 @@ fn full_at<R: Threads + Wait + Abort + Sync>(
         &tally.counts(),
         &[u64::from(all < 6), u64::from(first < all), 0],
     );
-    expect_same(rt, &logs.count, &(all as u64));
-    hold_taken(rt, alloc, logs.changes.into_device().into_inner(), &told)?;
+    expect_same(rt, &logs.count(), &(all as u64));
+    let (file, _) = logs.into_disks();
+    hold_taken(rt, alloc, file.into_inner(), &told)?;
     Ok(Some((first, all)))
 }
 
@@ -296,19 +287,21 @@ fn told_at_once<R: Threads + Wait + Abort + Sync>(
     alloc: Global,
     calls: u64,
 ) -> Result<[u64; 3], Fail> {
-    let tally = Tally::new();
+    let tally = Tally::new(alloc)?;
     let disks = (
         FullOnce::new(shared_file(alloc)?, calls),
         FullOnce::new(Memory::new(alloc), 0),
     );
-    let Some(Ran { seen, logs, .. }) = run_on(rt, alloc, disks, &tally, jobs_that_keep(alloc)?)?
-    else {
-        return Err("an open log".into());
-    };
-    let mut file = logs.changes.into_device().into_inner();
-    file.crash();
-    let again = seen_again(rt, alloc, (file, Memory::new(alloc)))?;
-    assert!(rt; again == seen, "at the call {calls}");
+    let ran = ran_on(rt, alloc, disks, &tally, jobs_that_keep(alloc)?)?;
+    let Ran { seen, logs, .. } = ran;
+    let (file, _) = logs.into_disks();
+    hold_crash(
+        rt,
+        alloc,
+        (file.into_inner(), Memory::new(alloc)),
+        &seen,
+        calls,
+    )?;
     Ok(tally.counts())
 }
 

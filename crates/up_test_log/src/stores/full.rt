@@ -1,9 +1,9 @@
 //! Stores on a full disk, which has room for removals alone.
-use super::at_once::{Ran, run_on};
-use super::course::{Course, taken};
-use super::disks::file_of;
+use super::at_once::{Ran, ran_on};
+use super::course::{Course, kept};
+use super::disks::{Files, file_of};
 use super::running::{CommitResult, Job, Outcome, change, hold_again, restored};
-use super::tally::Tally;
+use super::tally::{Again, Tally};
 use crate::logs::{Row, What};
 use crate::same::expect_same;
 use crate::scarce::Scarce;
@@ -15,7 +15,8 @@ use std::sync::Wait;
 use std::sync::atomic::Ordering;
 use std::test::Fail;
 use std::thread::Threads;
-use up_dispatch::{Board, Naming, Seat};
+use up_dispatch::{Board, Keeper, Naming, Seat};
+use up_events::NoMemory;
 use up_history::Chronicle;
 use up_machine::Refusal;
 use up_store::{Store, Stored};
@@ -65,9 +66,15 @@ fn rows_of(alloc: Global, step: Step) -> Result<Vec<Row>, AllocError> {
 /// after it.
 type Told = (usize, usize, u64);
 
-fn told_of(tally: &Tally, told: &[CommitResult]) -> Told {
-    let (made, refused) = count(told);
-    (made, refused, tally.room().load(Ordering::SeqCst))
+fn told_of<K: Keeper>(
+    alloc: Global,
+    keeper: &mut K,
+    tally: &Tally,
+    step: Step,
+) -> Result<Told, NoMemory> {
+    let told = change(alloc, keeper, &rows_of(alloc, step)?)?;
+    let (made, refused) = count(&told);
+    Ok((made, refused, tally.room().load(Ordering::SeqCst)))
 }
 
 /// How many of these changes were made, and how many were refused without a decision.
@@ -82,6 +89,24 @@ fn count(told: &[CommitResult]) -> (usize, usize) {
         }
     }
     (made, refused)
+}
+
+/// What a step does to the disk and the store, beside its changes.
+fn prepare<D: Again + Drop, J: Site, K: Chronicle, R: Wait>(
+    rt: &R,
+    tally: &Tally,
+    store: &Store<D, &Tally, J, K>,
+    step: Step,
+) {
+    match step {
+        Step::Fill(spare) => tally.fill(0, spare),
+        Step::Enlarge => tally.enlarge(),
+        Step::Start => store.begin(rt, 4),
+        Step::Look => {
+            store.make_up_room(rt);
+        }
+        Step::Begin | Step::Others | Step::Remove(_) => {}
+    }
 }
 
 /// These steps, of a store whose disks have the tally's room.
@@ -105,17 +130,8 @@ impl Course<Scarce<'_, Memory>> for Steps<'_> {
         let mut keeper = Stored::new(rt, board, store, seat);
         let mut found = Vec::new(alloc);
         for (step, _) in self.steps {
-            match step {
-                Step::Fill(spare) => self.tally.fill(0, *spare),
-                Step::Enlarge => self.tally.enlarge(),
-                Step::Start => store.begin(rt, 4),
-                Step::Look => {
-                    store.make_up_room(rt);
-                }
-                _ => {}
-            }
-            let told = change(alloc, &mut keeper, &rows_of(alloc, *step)?)?;
-            found.push(told_of(self.tally, &told))?;
+            prepare(rt, self.tally, store, *step);
+            found.push(told_of(alloc, &mut keeper, self.tally, *step)?)?;
         }
         Ok(found)
     }
@@ -126,7 +142,13 @@ fn scarce(alloc: Global, tally: &Tally) -> Scarce<'_, Memory> {
     Scarce::new(Memory::new(alloc), tally.room())
 }
 
-/// What comes of these steps, and the files of the logs.
+/// The disks of these files, with room.
+fn whole(files: Files<Scarce<'_, Memory>>) -> (Memory, Memory) {
+    let (changes, voids) = files.into_disks();
+    (changes.into_inner(), voids.into_inner())
+}
+
+/// What comes of these steps, and the disks of the logs.
 fn stepped<R: Wait>(
     rt: &R,
     alloc: Global,
@@ -134,10 +156,8 @@ fn stepped<R: Wait>(
     steps: &[(Step, Told)],
 ) -> Result<(Vec<Told>, (Memory, Memory)), Fail> {
     let disks = (scarce(alloc, tally), scarce(alloc, tally));
-    let (found, logs) = taken(rt, alloc, disks, tally, &Steps { tally, steps })?;
-    let logs = logs.ok_or("a store that is open")?;
-    let changes = logs.changes.into_device().into_inner();
-    Ok((found, (changes, logs.voids.into_device().into_inner())))
+    let (found, logs) = kept(rt, alloc, disks, tally, &Steps { tally, steps })?;
+    Ok((found, whole(logs)))
 }
 
 /// Checks what comes of these steps, how often it is reported that changes are refused and are stored again, and that
@@ -149,7 +169,7 @@ fn hold<R: Wait + Abort>(
     reports: u64,
     rows: &[Row],
 ) -> Result<(), Fail> {
-    let tally = Tally::new();
+    let tally = Tally::new(alloc)?;
     let (found, disks) = stepped(rt, alloc, &tally, steps)?;
     for (place, (found, (_, want))) in found.iter().zip(steps).enumerate() {
         expect_same(rt, &(place, *found), &(place, *want));
@@ -248,10 +268,10 @@ fn jobs_of(alloc: Global) -> Result<Vec<Job>, AllocError> {
 }
 
 /// The files of a store with the uploads that these jobs remove, on disks that have the tally's room.
-fn scarce_files<'a>(
+fn scarce_files(
     alloc: Global,
-    tally: &'a Tally,
-) -> Result<(Scarce<'a, Memory>, Scarce<'a, Memory>), Fail> {
+    tally: &Tally,
+) -> Result<(Scarce<'_, Memory>, Scarce<'_, Memory>), Fail> {
     let first = rows_from(alloc, What::Make, 0)?;
     let second = rows_from(alloc, What::Make, EACH)?;
     let changes = file_of(alloc, &[first.as_slice(), second.as_slice()])?;
@@ -282,21 +302,14 @@ fn hold_at_once<R: Threads + Wait + Abort + Sync>(
     alloc: Global,
     room: u64,
 ) -> Result<(), Fail> {
-    let tally = Tally::new();
+    let tally = Tally::new(alloc)?;
     tally.fill(room, 1000);
     let disks = scarce_files(alloc, &tally)?;
-    let run = run_on(rt, alloc, disks, &tally, jobs_of(alloc)?)?;
-    let Ran {
-        outcomes,
-        seen,
-        logs,
-    } = run.ok_or("an open log")?;
-    hold_outcomes(rt, &outcomes, room)?;
+    let ran = ran_on(rt, alloc, disks, &tally, jobs_of(alloc)?)?;
+    hold_outcomes(rt, &ran.outcomes, room)?;
     expect_same(rt, &tally.counts(), &[1, 0, 0]);
-    drop(outcomes);
-    let changes = logs.changes.into_device().into_inner();
-    let disks = (changes, logs.voids.into_device().into_inner());
-    let (again, _) = restored(rt, alloc, disks)?;
+    let Ran { seen, logs, .. } = ran;
+    let (again, _) = restored(rt, alloc, whole(logs))?;
     assert!(rt; again == seen, "with room for {room} writes");
     Ok(())
 }

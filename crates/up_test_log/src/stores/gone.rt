@@ -47,10 +47,11 @@ impl Course<Memory> for TakingAway<'_> {
 
 #[test]
 fn no_change_is_made_without_the_file(rt: HostRuntime) -> Result<(), Fail> {
-    let tally = Tally::new();
-    let disks = (Memory::new(rt.alloc()), Memory::new(rt.alloc()));
+    let alloc = rt.alloc();
+    let tally = Tally::new(alloc)?;
+    let disks = (Memory::new(alloc), Memory::new(alloc));
     let course = TakingAway { tally: &tally };
-    let (found, _) = taken(&rt, rt.alloc(), disks, &tally, &course)?;
+    let (found, _) = taken(&rt, alloc, disks, &tally, &course)?;
     let (gone, [made, refused]) = found;
     expect_same(&rt, &(gone, tally.gone()), &([false, true, true], 1));
     for told in made.iter() {

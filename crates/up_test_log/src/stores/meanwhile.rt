@@ -1,21 +1,21 @@
 //! Stores whose log is made shorter while changes are made, on disks of which a call fails.
-ghost use Rattle.std.specs.Prelude.{◌≡◌, length};
-ghost use Rattle.up_dispatch.specs.Parts.{IsNamed};
+ghost use Rattle.std.specs.Prelude.{◌≡◌};
 
 use super::disks::reader_of;
-use super::running::{NOTHING, board_of, change, unread_on};
+use super::running::{change, store_on};
 use super::tally::Tally;
+use super::tasks::{Task, run};
 use crate::full_once::FullOnce;
 use crate::logs::{Row, What};
 use crate::same::expect_same;
 use sqlite_disk::Memory;
 use std::alloc::Global;
-use std::marker::Brand;
+use std::marker::Send;
 use std::sync::Wait;
 use std::sync::atomic::{AtomicU64, Ordering};
 use std::test::Fail;
 use up_compact::{Head, Heads};
-use up_dispatch::{Board, BoardParts, Naming, Seat};
+use up_dispatch::{Board, Naming, Seat};
 use up_events::Id;
 use up_handed::EndedUpload;
 use up_history::Chronicle;
@@ -76,16 +76,24 @@ struct Meanwhile<'a, B: Naming, J: Site, K: Chronicle, R> {
     ghost same: { J.history ≡ B.history },
 }
 
-impl<B: Naming, J: Site, K: Chronicle, R: Wait> Folder<File> for Meanwhile<'_, B, J, K, R> {
-    fn make(&self, _generation: u64) -> Result<(LogReader<File>, LogReader<File>), LogFault> {
+impl<B: Naming, J: Site, K: Chronicle, R: Wait> Meanwhile<'_, B, J, K, R> {
+    /// Makes the changes. The error is that memory ran out, or seats.
+    fn change(&self) -> Result<(), LogFault> {
         let Some(mut seat) = self.board.seat(self.rt) else {
             return Err(LogFault::NotRead);
         };
         let mut keeper = Stored::new(self.rt, self.board, self.store, &mut seat);
-        if self.count.fetch_add(1, Ordering::SeqCst) == 0
-            && change(self.alloc, &mut keeper, &MEANWHILE).is_err()
-        {
-            return Err(LogFault::Memory);
+        match change(self.alloc, &mut keeper, &MEANWHILE) {
+            Ok(_) => Ok(()),
+            Err(_) => Err(LogFault::Memory),
+        }
+    }
+}
+
+impl<B: Naming, J: Site, K: Chronicle, R: Wait> Folder<File> for Meanwhile<'_, B, J, K, R> {
+    fn make(&self, _generation: u64) -> Result<(LogReader<File>, LogReader<File>), LogFault> {
+        if self.count.fetch_add(1, Ordering::SeqCst) == 0 {
+            self.change()?;
         }
         let changes = reader_of(self.alloc, disk(self.alloc, (self.calls, 0)))?;
         let voids = reader_of(self.alloc, disk(self.alloc, (0, 0)))?;
@@ -107,27 +115,6 @@ fn current(alloc: Global, calls: (u64, u64)) -> Result<Current<File>, LogFault> 
     };
     heads.add(alloc, &head)?;
     Ok(Current { heads, head })
-}
-
-/// A store on these disks, whose changes are made again on a board.
-fn opened<'a, B: Naming, J: Site, K: Chronicle, R: Wait>(
-    rt: &R,
-    alloc: Global,
-    board: &Board<B>,
-    seat: &mut Seat<B>,
-    disks: (File, File),
-    tally: &'a Tally,
-    histories: Histories,
-) -> Result<Store<File, &'a Tally, J, K>, Unrestored>
-    requires written { histories.written ≡ J.history }
-    requires drawn { histories.drawn ≡ K.history }
-    requires nothing { J.premise → ⊥ }
-    requires same { J.history ≡ B.history }
-{
-    let (store, readers) = unread_on(alloc, disks, tally, histories).map_err(Unrestored::Changes)?;
-    let logs = store.restore(rt, alloc, board, seat, readers, &NOTHING)?;
-    store.open(rt, logs, FIRST);
-    Ok(store)
 }
 
 /// How often logs were made or removed by the end of each of two tries to make a log shorter.
@@ -165,37 +152,43 @@ fn try_twice<'x, B: Naming, J: Site, K: Chronicle, R: Wait>(
     Ok((first, count.load(Ordering::SeqCst)))
 }
 
-/// Tries twice to make the log of a new store shorter. `None` if the heads or the log can't be opened.
-fn run_by<B: Naming, J: Site, K: Chronicle, R: Wait>(
-    rt: &R,
-    alloc: Global,
-    parts: BoardParts,
-    calls: Calls,
-    tally: &Tally,
-    histories: Histories,
-) -> Result<Option<Counts>, Fail>
-    requires named { IsNamed B.name B.parts B.queue B.lanes parts }
-    requires lanes { length parts.queues ≡ 2 }
-    requires sized { B.max_size ≡ 1000 }
-    requires written { histories.written ≡ J.history }
-    requires drawn { histories.drawn ≡ K.history }
-    requires nothing { J.premise → ⊥ }
-    requires same { J.history ≡ B.history }
-{
-    let Ok(current) = current(alloc, calls.heads) else {
-        return Ok(None);
-    };
-    let (board, mut seat) = board_of::<B, R>(rt, alloc, parts)?;
-    let disks = (disk(alloc, (calls.log, 0)), disk(alloc, (0, 0)));
-    let opened: Result<Store<File, &Tally, J, K>, Unrestored> = opened(
-        rt, alloc, &board, &mut seat, disks, tally, histories,
-    );
-    let Ok(store) = opened else {
-        return Ok(None);
-    };
-    let shorter = calls.shorter;
-    let counts = try_twice(rt, alloc, &board, &mut seat, &store, current, shorter)?;
-    Ok(Some(counts))
+/// Two tries to make the log of a new store shorter, on these disks and with these heads. This call of a shorter log
+/// fails.
+#[derive(Drop)]
+struct TwoTries<'a> {
+    disks: (File, File),
+    current: Current<File>,
+    shorter: u64,
+    tally: &'a Tally,
+}
+
+impl<R: Wait> Task<R> for TwoTries<'_> {
+    type Found = Option<Counts>;
+
+    fn run<B: Naming, J: Site + Send, K: Chronicle + Send>(
+        self,
+        rt: &R,
+        alloc: Global,
+        board: &Board<B>,
+        seat: Seat<B>,
+        histories: Histories,
+    ) -> Result<Option<Counts>, Fail> {
+        let TwoTries {
+            disks,
+            current,
+            shorter,
+            tally,
+        } = self;
+        let mut seat = seat;
+        let opened: Result<Store<File, &Tally, J, K>, Unrestored> = store_on(
+            rt, alloc, board, &mut seat, disks, tally, histories,
+        );
+        let Ok(store) = opened else {
+            return Ok(None);
+        };
+        let counts = try_twice(rt, alloc, board, &mut seat, &store, current, shorter)?;
+        Ok(Some(counts))
+    }
 }
 
 /// The upload 1, which has ended.
@@ -212,22 +205,30 @@ fn ended<R: Wait>(rt: &R, alloc: Global) -> EndedUploads {
     ended
 }
 
-fn run<R: Wait>(
+/// Tries twice to make the log of a new store shorter. `None` if the heads or the log can't be opened.
+fn tried<R: Wait>(
     rt: &R,
     alloc: Global,
     calls: Calls,
     tally: &Tally,
 ) -> Result<Option<Counts>, Fail> {
-    let parts = BoardParts::new(alloc, 2, 4)?;
-    let histories = Histories::new();
-    run_by::<Brand, Brand, Brand, R>(rt, alloc, parts, calls, tally, histories)
+    let Ok(current) = current(alloc, calls.heads) else {
+        return Ok(None);
+    };
+    let two_tries = TwoTries {
+        disks: (disk(alloc, (calls.log, 0)), disk(alloc, (0, 0))),
+        current,
+        shorter: calls.shorter,
+        tally,
+    };
+    run(rt, alloc, two_tries)
 }
 
 /// The generations whose files are asked for when calls of one log fail, one call in each run.
 fn asked<R: Wait>(rt: &R, alloc: Global, is_shorter: bool) -> Result<Vec<(u64, u64)>, Fail> {
     let mut asked = Vec::new(alloc);
     for call in 1..60 {
-        let tally = Tally::new();
+        let tally = Tally::at(alloc, FIRST)?;
         let calls = if is_shorter {
             Calls {
                 shorter: call,
@@ -236,7 +237,7 @@ fn asked<R: Wait>(rt: &R, alloc: Global, is_shorter: bool) -> Result<Vec<(u64, u
         } else {
             Calls { log: call, ..NONE }
         };
-        run(rt, alloc, calls, &tally)?;
+        tried(rt, alloc, calls, &tally)?;
         if let Some(generations) = tally.generations() {
             asked.push(generations)?;
         }
@@ -262,8 +263,8 @@ type Ending = (u64, [u64; 2], Counts);
 
 /// What happens if these calls of the heads fail. `None` if the heads can't be opened.
 fn ending<R: Wait>(rt: &R, alloc: Global, heads: (u64, u64)) -> Result<Option<Ending>, Fail> {
-    let tally = Tally::new();
-    let Some(counts) = run(rt, alloc, Calls { heads, ..NONE }, &tally)? else {
+    let tally = Tally::at(alloc, FIRST)?;
+    let Some(counts) = tried(rt, alloc, Calls { heads, ..NONE }, &tally)? else {
         return Ok(None);
     };
     Ok(Some((tally.counts()[2], tally.switches(), counts)))

@@ -3,10 +3,11 @@ ghost use Rattle.std.specs.Prelude.{◌≡◌, length};
 ghost use Rattle.up_dispatch.specs.Free.{no_history};
 ghost use Rattle.up_dispatch.specs.Parts.{IsNamed};
 
-use super::course::{Course, taken};
+use super::course::{Course, kept};
 use super::disks::count_in;
-use super::running::{CommitResult, board_of, change, result_of};
+use super::running::{CommitResult, change, result_of};
 use super::tally::Tally;
+use super::tasks::board_of;
 use crate::logs::{What, entries_of};
 use crate::same::expect_same;
 use sqlite_disk::Memory;
@@ -88,9 +89,8 @@ fn refused_by_store<R: Wait>(
     refused: &Asked,
 ) -> Result<(Vec<CommitResult>, u64), Fail> {
     let disks = (Memory::new(alloc), Memory::new(alloc));
-    let (told, logs) = taken(rt, alloc, disks, &Tally::new(), &Refusing { refused })?;
-    let logs = logs.ok_or("a store that is open")?;
-    let (count, _) = count_in(alloc, logs.changes.into_device())?;
+    let (told, logs) = kept(rt, alloc, disks, &Tally::new(alloc)?, &Refusing { refused })?;
+    let (count, _) = count_in(alloc, logs.into_disks().0)?;
     Ok((told, count))
 }
 

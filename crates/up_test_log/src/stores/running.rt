@@ -5,12 +5,13 @@ ghost use Rattle.up_dispatch.specs.Parts.{IsNamed};
 ghost use Rattle.up_events.specs.declared.limits.TheConstants.{MAX_UPLOAD_BYTES};
 ghost use Rattle.up_headers.specs.Table.{FitsWithin};
 
-use super::course::{Course, taken};
+use super::course::{Course, kept};
 use super::disks::{Files, reader_of};
 use super::tally::{Again, Tally};
+use super::tasks::board_of;
 use crate::logs::{Row, entries_of};
 use sqlite_disk::{Disk, Memory};
-use std::alloc::Global;
+use std::alloc::{AllocError, Global};
 use std::marker::Brand;
 use std::process::Abort;
 use std::sync::Wait;
@@ -100,6 +101,15 @@ pub struct Job {
     pub times: u64,
 }
 
+/// The job with only these rows.
+pub fn job_of(alloc: Global, rows: &[Row]) -> Result<Job, AllocError> {
+    Ok(Job {
+        rows: Vec::from_slice(alloc, rows)?,
+        byte: 0,
+        times: 0,
+    })
+}
+
 /// The results of the rows of a job, and the number of attempts for its bytes.
 pub type Outcome = (Vec<CommitResult>, u64);
 
@@ -142,23 +152,6 @@ pub fn seen<B: Naming, K: Keeper, R: Wait>(
         write_answer(alloc, keeper, Request::Get(id), id, &mut sink)?;
     }
     Ok((board.counts(rt), sink.into_inner()))
-}
-
-/// A new board of two lanes, which do not run, and a seat.
-pub fn board_of<B: Naming, R: Wait>(
-    rt: &R,
-    alloc: Global,
-    parts: BoardParts,
-) -> Result<(Board<B>, Seat<B>), Fail>
-    requires named { IsNamed B.name B.parts B.queue B.lanes parts }
-    requires lanes { length parts.queues ≡ 2 }
-    requires sized { B.max_size ≡ 1000 }
-{
-    let (board, _takes) = Board::<B>::new(alloc, parts, 1000)?;
-    match board.seat(rt) {
-        Some(seat) => Ok((board, seat)),
-        None => Err("a seat".into()),
-    }
 }
 
 /// The results of a job on a plain board with these parts, and the state of the board after it.
@@ -207,7 +200,7 @@ pub const NOTHING: Least<'static> = Least {
     events: &[],
 };
 
-/// A store on these disks, whose changes are made again on a board. Its log is the first one.
+/// A store on these disks, whose changes are made again on a board.
 pub fn store_on<'a, B: Naming, D: Disk, J: Site, K: Chronicle, R: Wait>(
     rt: &R,
     alloc: Global,
@@ -226,7 +219,7 @@ where
 {
     let (store, readers) = unread_on(alloc, disks, tally, histories).map_err(Unrestored::Changes)?;
     let logs = store.restore(rt, alloc, board, seat, readers, &NOTHING)?;
-    store.open(rt, logs, 0);
+    store.open(rt, logs, tally.first());
     Ok(store)
 }
 
@@ -254,14 +247,18 @@ pub fn plainly<R: Wait>(rt: &R, alloc: Global, job: &Job) -> Result<(Outcome, Se
     plain_of::<Brand, R>(rt, alloc, parts, job)
 }
 
+/// The state of a plain board after these changes.
+pub fn standing<R: Wait>(rt: &R, alloc: Global, rows: &[Row]) -> Result<Seen, Fail> {
+    Ok(plainly(rt, alloc, &job_of(alloc, rows)?)?.1)
+}
+
 /// The state of a board that is restored from the logs on these disks, and the logs.
 pub fn restored<D: Again + Drop, R: Wait>(
     rt: &R,
     alloc: Global,
     disks: (D, D),
 ) -> Result<(Seen, Files<D>), Fail> {
-    let (seen, logs) = taken(rt, alloc, disks, &Tally::new(), &Look)?;
-    Ok((seen, logs.ok_or("a store that is open")?))
+    kept(rt, alloc, disks, &Tally::new(alloc)?, &Look)
 }
 
 /// Checks that these changes are there after a restart.
@@ -271,12 +268,7 @@ pub fn hold_again<R: Wait + Abort>(
     disks: (Memory, Memory),
     rows: &[Row],
 ) -> Result<(), Fail> {
-    let job = Job {
-        rows: Vec::from_slice(alloc, rows)?,
-        byte: 0,
-        times: 0,
-    };
     let (seen, _) = restored(rt, alloc, disks)?;
-    assert!(rt; seen == plainly(rt, alloc, &job)?.1);
+    assert!(rt; seen == standing(rt, alloc, rows)?);
     Ok(())
 }

@@ -1,5 +1,5 @@
 //! Stores whose log is made shorter.
-use super::course::{Course, taken};
+use super::course::{Course, kept};
 use super::disks::{Files, reader_of};
 use super::running::{CommitResult, change, restored, seen};
 use super::tally::Tally;
@@ -11,7 +11,7 @@ use std::process::Abort;
 use std::sync::Wait;
 use std::test::Fail;
 use up_compact::{Head, Heads};
-use up_dispatch::{Board, Naming, Seat};
+use up_dispatch::{Board, Keeper, Naming, Seat};
 use up_events::Id;
 use up_handed::EndedUpload;
 use up_history::Chronicle;
@@ -97,6 +97,31 @@ fn current(alloc: Global, calls: u64) -> Result<Current<File>, LogFault> {
     Ok(Current { heads, head })
 }
 
+/// What makes a log of the first generation shorter.
+fn shortening_of<R: Wait>(
+    rt: &R,
+    alloc: Global,
+    calls: Calls,
+) -> Result<Shortening<File, Disks>, LogFault> {
+    let folder = Disks {
+        alloc,
+        calls: calls.shorter,
+    };
+    let current = current(alloc, calls.heads)?;
+    Ok(Shortening::new(current, ended(rt, alloc), folder, 2, 0))
+}
+
+/// The results of the last changes, and the responses of the board about each upload after them.
+fn second<B: Naming, K: Keeper, R: Wait>(
+    rt: &R,
+    alloc: Global,
+    board: &Board<B>,
+    keeper: &mut K,
+) -> Result<(Vec<CommitResult>, Vec<u8>), Fail> {
+    let told = change(alloc, keeper, &SECOND)?;
+    Ok((told, seen(rt, alloc, board, keeper)?.1))
+}
+
 /// Changes are made, the log is made shorter, and more changes follow.
 #[derive(Drop)]
 struct MadeShorter {
@@ -104,9 +129,9 @@ struct MadeShorter {
 }
 
 impl Course<File> for MadeShorter {
-    /// The results of the changes after that, the responses of the board about each upload, and which log is the
-    /// current one.
-    type Found = (Vec<CommitResult>, Vec<u8>, Current<File>);
+    /// The results of the changes after that, the responses of the board about each upload, and what knows which log is
+    /// the current one.
+    type Found = (Vec<CommitResult>, Vec<u8>, Shortening<File, Disks>);
 
     fn take<B: Naming, J: Site, K: Chronicle, R: Wait>(
         &self,
@@ -116,32 +141,27 @@ impl Course<File> for MadeShorter {
         store: &Store<File, &Tally, J, K>,
         seat: &mut Seat<B>,
     ) -> Result<Self::Found, Fail> {
+        let shortening = shortening_of(rt, alloc, self.calls)?;
         let mut keeper = Stored::new(rt, board, store, seat);
         change(alloc, &mut keeper, &FIRST)?;
-        let ended = ended(rt, alloc);
-        let folder = Disks {
-            alloc,
-            calls: self.calls.shorter,
-        };
-        let shortening = Shortening::new(current(alloc, self.calls.heads)?, ended, folder, 2, 0);
         shortening.shorten(rt, alloc, store);
-        let told = change(alloc, &mut keeper, &SECOND)?;
-        let seen = seen(rt, alloc, board, &mut keeper)?.1;
-        let Some(current) = shortening.into_current() else {
-            return Err("a store that is open".into());
-        };
-        Ok((told, seen, current))
+        let (told, seen) = second(rt, alloc, board, &mut keeper)?;
+        Ok((told, seen, shortening))
     }
 }
 
 /// The state after the log of a new store was made shorter, or could not be.
 fn shorten<R: Wait>(rt: &R, alloc: Global, calls: Calls, tally: &Tally) -> Result<After, Fail> {
     let disks = (disk(alloc, u64::MAX), disk(alloc, u64::MAX));
-    let ((told, seen, current), logs) = taken(rt, alloc, disks, tally, &MadeShorter { calls })?;
+    let (found, logs) = kept(rt, alloc, disks, tally, &MadeShorter { calls })?;
+    let (told, seen, shortening) = found;
+    let current = shortening
+        .into_current()
+        .ok_or("which log is the current one")?;
     Ok(After {
         told,
         seen,
-        logs: logs.ok_or("a store that is open")?,
+        logs,
         current,
     })
 }
@@ -153,45 +173,67 @@ fn head_left(alloc: Global, heads: Heads<File>) -> Result<Head, LogFault> {
     Ok(Heads::read(alloc, reader_of(alloc, device)?)?.1)
 }
 
-/// The responses about each upload of a board that is restored from these logs after a crash, and the number of entries
-/// of the logs.
-fn left<R: Wait>(rt: &R, alloc: Global, logs: Files<File>) -> Result<(Vec<u8>, u64), Fail> {
-    let (mut changes, mut voids) = (logs.changes.into_device(), logs.voids.into_device());
+/// Checks that a crash leaves logs from which the responses about each upload come back, and returns their number of
+/// entries.
+fn hold_left<R: Wait + Abort>(
+    rt: &R,
+    alloc: Global,
+    logs: Files<File>,
+    before: &[u8],
+) -> Result<u64, Fail> {
+    let (mut changes, mut voids) = logs.into_disks();
     changes.crash();
     voids.crash();
     let (seen, logs) = restored(rt, alloc, (changes, voids))?;
-    Ok((seen.1, logs.count))
+    assert!(rt; seen.1.as_slice() == before);
+    Ok(logs.count())
 }
 
 #[test]
 fn a_shorter_log_takes_the_place(rt: HostRuntime) -> Result<(), Fail> {
     let alloc = rt.alloc();
-    let tally = Tally::new();
+    let tally = Tally::new(alloc)?;
     let calls = Calls {
         heads: u64::MAX,
         shorter: u64::MAX,
     };
-    let After {
-        told,
-        seen: before,
-        logs,
-        current,
-    } = shorten(&rt, alloc, calls, &tally)?;
+    let after = shorten(&rt, alloc, calls, &tally)?;
     expect_same(&rt, &(tally.switches(), tally.counts()), &([1, 0], [0; 3]));
-    for told in told.iter() {
+    for told in after.told.iter() {
         assert!(rt; told.is_ok());
     }
     // Two of the entries stayed, and three were appended after them.
-    expect_same(&rt, &logs.count, &5);
-    let Current { heads, .. } = current;
-    let head = head_left(alloc, heads)?;
+    expect_same(&rt, &after.logs.count(), &5);
+    let After {
+        seen,
+        logs,
+        current,
+        ..
+    } = after;
+    let head = head_left(alloc, current.heads)?;
     expect_same(&rt, &(head.generation, head.entries), &(1, 2));
     let left_out = [4u64, 4];
     expect_same(&rt, &head.left_out.as_slice(), &left_out.as_slice());
-    let (seen, count) = left(&rt, alloc, logs)?;
-    expect_same(&rt, &count, &5);
-    assert!(rt; seen == before);
+    expect_same(&rt, &hold_left(&rt, alloc, logs, &seen)?, &5);
     Ok(())
+}
+
+/// Checks that the current log is of this generation, and that a crash leaves its head if changes are still made.
+/// Returns how many entries it has at least.
+fn hold_head<R: Abort>(
+    rt: &R,
+    alloc: Global,
+    current: Current<File>,
+    generation: u64,
+    goes_on: bool,
+) -> Result<u64, Fail> {
+    let Current { heads, head: held } = current;
+    let head = head_left(alloc, heads)?;
+    expect_same(rt, &held.generation, &generation);
+    if goes_on {
+        expect_same(rt, &head.generation, &generation);
+    }
+    Ok(held.entries)
 }
 
 /// Checks that, whether the log was made shorter or not, changes are then made in the log that a crash leaves, or none
@@ -201,31 +243,26 @@ fn hold<R: Wait + Abort>(
     alloc: Global,
     calls: Calls,
 ) -> Result<Option<(bool, bool)>, Fail> {
-    let tally = Tally::new();
+    let tally = Tally::new(alloc)?;
     if current(alloc, calls.heads).is_err() {
         return Ok(None);
     }
+    let after = shorten(rt, alloc, calls, &tally)?;
+    let [shorter, _] = tally.switches();
+    let goes_on = tally.counts()[2] == 0;
+    expect_same(rt, &after.told.len(), &3);
+    for told in after.told.iter() {
+        expect_same(rt, &told.is_ok(), &goes_on);
+    }
     let After {
-        told,
-        seen: before,
+        seen,
         logs,
         current,
-    } = shorten(rt, alloc, calls, &tally)?;
-    let [shorter, _] = tally.switches();
-    let [_, _, stops] = tally.counts();
-    let Current { heads, head: held } = current;
-    expect_same(rt, &(held.generation, told.len()), &(shorter, 3));
-    let head = head_left(alloc, heads)?;
-    for told in told.iter() {
-        expect_same(rt, &told.is_ok(), &(stops == 0));
-    }
-    if stops == 0 {
-        expect_same(rt, &head.generation, &held.generation);
-    }
-    let (seen, count) = left(rt, alloc, logs)?;
-    assert!(rt; count >= held.entries);
-    assert!(rt; seen == before);
-    Ok(Some((shorter == 1, stops == 0)))
+        ..
+    } = after;
+    let entries = hold_head(rt, alloc, current, shorter, goes_on)?;
+    assert!(rt; hold_left(rt, alloc, logs, &seen)? >= entries);
+    Ok(Some((shorter == 1, goes_on)))
 }
 
 #[test]

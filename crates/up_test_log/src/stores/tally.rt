@@ -4,6 +4,7 @@ ghost use Rattle.std.specs.Prelude.{IfOk, ⊤};
 use crate::full_once::FullOnce;
 use crate::scarce::Scarce;
 use sqlite_disk::{Disk, Fuse, Memory};
+use std::alloc::{AllocError, Global};
 use std::io;
 use std::sync::Wait;
 use std::sync::atomic::{AtomicBool, AtomicU64, Ordering};
@@ -16,7 +17,9 @@ use up_tie::Batch;
 /// and that a log was made shorter, and that it could not be. And which files it asked for, and the room of a disk, as
 /// a number of writes.
 #[derive(Drop)]
-pub struct Tally {
+struct Counts {
+    /// The generation of the log with which the store begins.
+    first: u64,
     fails: AtomicU64,
     works: AtomicU64,
     stops: AtomicU64,
@@ -36,9 +39,22 @@ pub struct Tally {
     keeps: AtomicBool,
 }
 
+/// What is counted of a store, in a box, as the files of a store are.
+#[derive(Drop)]
+pub struct Tally {
+    counts: Box<Counts, Global>,
+}
+
 impl Tally {
-    pub fn new() -> Tally {
-        Tally {
+    /// The store begins with its first log.
+    pub fn new(alloc: Global) -> Result<Tally, AllocError> {
+        Tally::at(alloc, 0)
+    }
+
+    /// The store begins with the log of this generation.
+    pub fn at(alloc: Global, first: u64) -> Result<Tally, AllocError> {
+        let counts = Counts {
+            first,
             fails: AtomicU64::new(0),
             works: AtomicU64::new(0),
             stops: AtomicU64::new(0),
@@ -51,23 +67,31 @@ impl Tally {
             room: AtomicU64::new(u64::MAX),
             spare: AtomicU64::new(0),
             keeps: AtomicBool::new(true),
-        }
+        };
+        Ok(Tally {
+            counts: Box::new(alloc, counts)?,
+        })
+    }
+
+    /// The generation of the log with which the store begins.
+    pub fn first(&self) -> u64 {
+        self.counts.first
     }
 
     /// Takes the file of the log away.
     pub fn take_away(&self) {
-        self.is_away.store(true, Ordering::SeqCst);
+        self.counts.is_away.store(true, Ordering::SeqCst);
     }
 
     /// How often the store reported that its file is gone.
     pub fn gone(&self) -> u64 {
-        self.gone.load(Ordering::SeqCst)
+        self.counts.gone.load(Ordering::SeqCst)
     }
 
     /// The least and the greatest generation whose file was to be opened again. `None` if no file was.
     pub fn generations(&self) -> Option<(u64, u64)> {
-        let least = self.least.load(Ordering::SeqCst);
-        let greatest = self.greatest.load(Ordering::SeqCst);
+        let least = self.counts.least.load(Ordering::SeqCst);
+        let greatest = self.counts.greatest.load(Ordering::SeqCst);
         if least > greatest {
             return None;
         }
@@ -76,46 +100,46 @@ impl Tally {
 
     /// The room that a disk has.
     pub fn room(&self) -> &AtomicU64 {
-        &self.room
+        &self.counts.room
     }
 
     /// The disk has this room left, and what is kept for removals.
     pub fn fill(&self, room: u64, spare: u64) {
-        self.room.store(room, Ordering::SeqCst);
-        self.spare.store(spare, Ordering::SeqCst);
-        self.keeps.store(false, Ordering::SeqCst);
+        self.counts.room.store(room, Ordering::SeqCst);
+        self.counts.spare.store(spare, Ordering::SeqCst);
+        self.counts.keeps.store(false, Ordering::SeqCst);
     }
 
     /// The disk has room again.
     pub fn enlarge(&self) {
-        self.room.store(u64::MAX, Ordering::SeqCst);
-        self.keeps.store(true, Ordering::SeqCst);
+        self.counts.room.store(u64::MAX, Ordering::SeqCst);
+        self.counts.keeps.store(true, Ordering::SeqCst);
     }
 
     /// How often a log was made shorter, and how often it could not be.
     pub fn switches(&self) -> [u64; 2] {
         [
-            self.shorter.load(Ordering::SeqCst),
-            self.not_shorter.load(Ordering::SeqCst),
+            self.counts.shorter.load(Ordering::SeqCst),
+            self.counts.not_shorter.load(Ordering::SeqCst),
         ]
     }
 
     pub fn counts(&self) -> [u64; 3] {
         [
-            self.fails.load(Ordering::SeqCst),
-            self.works.load(Ordering::SeqCst),
-            self.stops.load(Ordering::SeqCst),
+            self.counts.fails.load(Ordering::SeqCst),
+            self.counts.works.load(Ordering::SeqCst),
+            self.counts.stops.load(Ordering::SeqCst),
         ]
     }
 }
 
 impl StoreNotices for &Tally {
     fn fails(&self, _fault: LogFault) {
-        self.fails.fetch_add(1, Ordering::SeqCst);
+        self.counts.fails.fetch_add(1, Ordering::SeqCst);
     }
 
     fn works(&self) {
-        self.works.fetch_add(1, Ordering::SeqCst);
+        self.counts.works.fetch_add(1, Ordering::SeqCst);
     }
 
     fn is_restored(&self, _entries: u64) {}
@@ -123,36 +147,36 @@ impl StoreNotices for &Tally {
     fn is_not_restored(&self, _generation: u64, _why: Unrestored) {}
 
     fn stops(&self, _fault: LogFault) {
-        self.stops.fetch_add(1, Ordering::SeqCst);
+        self.counts.stops.fetch_add(1, Ordering::SeqCst);
     }
 
     fn is_gone(&self) {
-        self.gone.fetch_add(1, Ordering::SeqCst);
+        self.counts.gone.fetch_add(1, Ordering::SeqCst);
     }
 
     fn is_shorter(&self, _before: u64, _now: u64) {
-        self.shorter.fetch_add(1, Ordering::SeqCst);
+        self.counts.shorter.fetch_add(1, Ordering::SeqCst);
     }
 
     fn is_not_shorter(&self, _fault: LogFault) {
-        self.not_shorter.fetch_add(1, Ordering::SeqCst);
+        self.counts.not_shorter.fetch_add(1, Ordering::SeqCst);
     }
 
     fn is_later(&self) {}
 
     fn keeps_room(&self, _for_others: bool) -> Result<(), LogFault> {
-        if self.keeps.load(Ordering::SeqCst) {
+        if self.counts.keeps.load(Ordering::SeqCst) {
             return Ok(());
         }
         Err(LogFault::Disk(io::Error::other("no room to keep")))
     }
 
     fn makes_room<K: Chronicle>(&self, _batch: &Batch<K>) -> bool {
-        let spare = self.spare.swap(0, Ordering::SeqCst);
+        let spare = self.counts.spare.swap(0, Ordering::SeqCst);
         if spare == 0 {
             return false;
         }
-        self.room.store(spare, Ordering::SeqCst);
+        self.counts.room.store(spare, Ordering::SeqCst);
         true
     }
 }
@@ -193,8 +217,8 @@ impl<D: Again> LogFile<D> for &Tally {
     fn open_again(&self, generation: u64, failed: Option<D>) -> Result<D, LogFault>
         ensures { IfOk result (λ _. ⊤) }
     {
-        self.least.fetch_min(generation, Ordering::SeqCst);
-        self.greatest.fetch_max(generation, Ordering::SeqCst);
+        self.counts.least.fetch_min(generation, Ordering::SeqCst);
+        self.counts.greatest.fetch_max(generation, Ordering::SeqCst);
         match failed {
             Some(disk) => Ok(disk.again()),
             None => Err(LogFault::Busy),
@@ -202,6 +226,6 @@ impl<D: Again> LogFile<D> for &Tally {
     }
 
     fn is_there<R: Wait>(&self, _rt: &R, _generation: u64) -> bool {
-        !self.is_away.load(Ordering::SeqCst)
+        !self.counts.is_away.load(Ordering::SeqCst)
     }
 }

@@ -1,5 +1,5 @@
 //! Changes from several seats at once.
-use super::at_once::{Ran, run_on};
+use super::at_once::{Ran, ran_on};
 use super::disks::{count_in, file_of};
 use super::running::{Job, Outcome, Seen, plainly, restored};
 use super::tally::Tally;
@@ -101,7 +101,7 @@ fn hold_seen<R: Wait + Abort>(
     let (entries, file) = count_in(alloc, disks.0)?;
     expect_same(rt, &entries, &count);
     let (again, logs) = restored(rt, alloc, (file, disks.1))?;
-    expect_same(rt, &(again.0, logs.count), &(seen.0, count));
+    expect_same(rt, &(again.0, logs.count()), &(seen.0, count));
     expect_same(rt, &again.1.as_slice(), &seen.1.as_slice());
     Ok(())
 }
@@ -109,25 +109,23 @@ fn hold_seen<R: Wait + Abort>(
 #[test]
 fn changes_made_at_once_come_back(rt: HostRuntime) -> Result<(), Fail> {
     let alloc = rt.alloc();
-    let tally = Tally::new();
+    let tally = Tally::new(alloc)?;
     let disks = (shared_file(alloc)?, Memory::new(alloc));
-    let run = run_on(&rt, alloc, disks, &tally, jobs_of(alloc)?)?;
-    let Ran {
-        outcomes,
-        seen,
-        logs,
-    } = run.ok_or("an open log")?;
+    let ran = ran_on(&rt, alloc, disks, &tally, jobs_of(alloc)?)?;
     // The upload 0 was created before these. A third of the rows is refused, and half of the removals.
-    let count = count_of(&rt, alloc, &outcomes)?.saturating_add(1);
-    drop(outcomes);
-    let counts = seen.0;
+    let count = count_of(&rt, alloc, &ran.outcomes)?.saturating_add(1);
+    let counts = ran.seen.0;
     let made = 1 + 3 * (30 + 30 + 10 + 60);
     expect_same(
         &rt,
         &(counts.changes, counts.uploads, counts.bytes),
         &(made, 61, 300),
     );
-    expect_same(&rt, &(tally.counts(), logs.count), &([0, 0, 0], count));
-    let disks = (logs.changes.into_device(), logs.voids.into_device());
-    hold_seen(&rt, alloc, disks, &seen, count)
+    expect_same(
+        &rt,
+        &(tally.counts(), ran.logs.count()),
+        &([0, 0, 0], count),
+    );
+    let Ran { seen, logs, .. } = ran;
+    hold_seen(&rt, alloc, logs.into_disks(), &seen, count)
 }

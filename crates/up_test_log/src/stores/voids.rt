@@ -1,11 +1,11 @@
 //! Entries that are on the disk and were not carried out.
-use super::disks::file_of;
-use super::running::{Job, Seen, plainly, restored};
+use super::disks::{Files, file_of};
+use super::running::{restored, standing};
 use crate::logs::{Row, SETUP, What, read};
 use crate::same::expect_same;
 use sqlite_disk::Memory;
 use sqlite_std_file::{FileFrom, Unknown};
-use std::alloc::Global;
+use std::alloc::{AllocError, Global};
 use std::collections::BTreeSet;
 use std::fs;
 use std::process::Abort;
@@ -16,18 +16,23 @@ use up_headers::Request;
 use up_log::{Consent, Entry, LogFault, Spelled, open_file};
 use up_store::Voids;
 
+/// The batch that says that a place is void.
+fn void_of(alloc: Global, place: u128) -> Result<Vec<Spelled>, AllocError> {
+    let entry = Entry {
+        id: Id::new(place),
+        consent: Consent::Skipped,
+        request: Request::Options,
+    };
+    let mut batch = Vec::new(alloc);
+    batch.push(Spelled::new(alloc, &entry)?)?;
+    Ok(batch)
+}
+
 /// The file of a log that says that each of these places is void.
 fn void_file(alloc: Global, places: &[u128]) -> Result<Memory, LogFault> {
     let (mut log, _) = read(alloc, Memory::new(alloc))?;
     for place in places {
-        let entry = Entry {
-            id: Id::new(*place),
-            consent: Consent::Skipped,
-            request: Request::Options,
-        };
-        let mut batch = Vec::new(alloc);
-        batch.push(Spelled::new(alloc, &entry)?)?;
-        log.append(&mut Vec::new(alloc), &batch)?;
+        log.append(&mut Vec::new(alloc), &void_of(alloc, *place)?)?;
     }
     Ok(log.into_device())
 }
@@ -36,6 +41,22 @@ fn void_file(alloc: Global, places: &[u128]) -> Result<Memory, LogFault> {
 const FIRST: [Row; 2] = [(What::Make, 5, 4), (What::Put, 5, 3)];
 
 const SECOND: [Row; 2] = [(What::Put, 5, 2), (What::Make, 6, 1)];
+
+/// Checks that a board which is restored from these disks has only these changes, and returns its logs.
+fn hold_rows<R: Wait + Abort>(
+    rt: &R,
+    alloc: Global,
+    disks: (Memory, Memory),
+    rows: &[Row],
+) -> Result<Files<Memory>, Fail> {
+    let (seen, logs) = restored(rt, alloc, disks)?;
+    assert!(rt;
+        seen == standing(rt, alloc, rows)?,
+        "{count} changes",
+        count = rows.len()
+    );
+    Ok(logs)
+}
 
 /// Checks that the board has only these changes if these places are void, and that one more place can then become void.
 fn hold<R: Wait + Abort>(
@@ -49,28 +70,11 @@ fn hold<R: Wait + Abort>(
         file_of(alloc, &[&FIRST, &SECOND])?,
         void_file(alloc, places)?,
     );
-    let (seen, logs) = restored(rt, alloc, disks)?;
-    assert!(rt; seen == standing(rt, alloc, rows)?, "{places:?}");
-    expect_same(rt, &logs.count, &4);
-    let mut voids = logs.voids;
-    voids.add(more.0)?;
-    let disks = (logs.changes.into_device(), voids.into_device());
-    let (seen, _) = restored(rt, alloc, disks)?;
-    assert!(rt;
-        seen == standing(rt, alloc, more.1)?,
-        "{places:?}, and more"
-    );
+    let mut logs = hold_rows(rt, alloc, disks, rows)?;
+    expect_same(rt, &logs.count(), &4);
+    logs.add_void(more.0)?;
+    hold_rows(rt, alloc, logs.into_disks(), more.1)?;
     Ok(())
-}
-
-/// The state of a plain board after these changes.
-fn standing<R: Wait>(rt: &R, alloc: Global, rows: &[Row]) -> Result<Seen, Fail> {
-    let job = Job {
-        rows: Vec::from_slice(alloc, rows)?,
-        byte: 0,
-        times: 0,
-    };
-    Ok(plainly(rt, alloc, &job)?.1)
 }
 
 #[test]
