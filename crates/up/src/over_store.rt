@@ -19,7 +19,7 @@ use std::time::Clock;
 use up_events::Event;
 use up_handed::{Opened, continue_each, counted_each, withhold_each};
 use up_history::Chronicle;
-use up_hooks::{Outcome, PostHook, Teller, new_tellers};
+use up_hooks::{Outcome, new_tellers};
 use up_server::{ServerFault, Shown};
 use up_store::{EndedUploads, Folder, Histories, Keeping, LogFile, Shortening, StoreNotices};
 use up_tie::Site;
@@ -76,30 +76,30 @@ fn after_unread(served: Result<(), Fault>) -> Result<(), Fault> {
     }
 }
 
-/// Serves what the listener accepts, over a store. The post-hooks continue where earlier runs ended.
+/// Serves what the listener accepts, over a store. Once the log was read, the post-hooks continue where earlier runs
+/// ended.
 fn run_continued<
     'x,
     J: Site + Send + 'x,
     K: Chronicle + Send + 'x,
-    F: Fn(&Event) -> Outcome + Send + Drop,
+    H: Shown + Drop,
     R: Print + Eprint + AllocGlobal + Clock + RandomSource + Threads + Wait + Sync,
 >(
     rt: &R,
     beside: &'x Beside<'x, R>,
     arrivals: Arrivals,
-    tellers: Vec<Teller<F>>,
+    post_hooks: Vec<H>,
     counts: Vec<Opened<StoreFile>>,
     keeping: &'x Keeping<StoreFile, &'x StoreLines<'x, R>, StoreFolder<'x>, J, K>,
 ) -> Result<(), Fault>
-    requires one_for_each { length tellers.items ≡ beside.now.settings.lanes }
+    requires one_for_each { length post_hooks.items ≡ beside.now.settings.lanes }
     requires one_each { vec_len counts ≡ beside.now.settings.lanes }
-    requires new { All (λ t. ⟦<Teller<F> as PostHook>⟧.is_sound t
-        × (⟦<Teller<F> as PostHook>⟧.handed t ≡ [])) tellers.items }
+    requires new { All (λ h. H.is_sound h × (H.handed h ≡ [])) post_hooks.items }
 {
-    let withheld = withhold_each(rt.alloc(), tellers, keeping.permit())?;
+    let withheld = withhold_each(rt.alloc(), post_hooks, keeping.permit())?;
     let notes = EndedNotes::new(rt, keeping.ended());
     match continue_each(rt.alloc(), withheld, counts, notes) {
-        Ok(post_hooks) => run_kept(rt, beside, arrivals, post_hooks, keeping),
+        Ok(continued) => run_kept(rt, beside, arrivals, continued, keeping),
         Err(_) => Err(Fault::Server(ServerFault::Memory)),
     }
 }
@@ -109,13 +109,13 @@ fn run_named<
     'x,
     J: Site + Send + 'x,
     K: Chronicle + Send + 'x,
-    F: Fn(&Event) -> Outcome + Send + Drop,
+    H: Shown + Drop,
     R: Print + Eprint + AllocGlobal + Clock + RandomSource + Threads + Wait + Sync,
 >(
     rt: &R,
     beside: &'x Beside<'x, R>,
     arrivals: Arrivals,
-    tellers: Vec<Teller<F>>,
+    post_hooks: Vec<H>,
     store: OpenStore<'x>,
     lines: &'x StoreLines<'x, R>,
     histories: Histories,
@@ -124,10 +124,9 @@ fn run_named<
     requires drawn { histories.drawn ≡ K.history }
     requires reader { J.premise → (batches : List (List Logged))
         × IsReaderAt ⟦<StoreFile as Disk>⟧ store.files.changes J.setup [] batches }
-    requires one_for_each { length tellers.items ≡ beside.now.settings.lanes }
+    requires one_for_each { length post_hooks.items ≡ beside.now.settings.lanes }
     requires same { store.files.settings.lanes ≡ beside.now.settings.lanes }
-    requires new { All (λ t. ⟦<Teller<F> as PostHook>⟧.is_sound t
-        × (⟦<Teller<F> as PostHook>⟧.handed t ≡ [])) tellers.items }
+    requires new { All (λ h. H.is_sound h × (H.handed h ≡ [])) post_hooks.items }
 {
     let OpenStore { folder, files } = store;
     let StoreFiles {
@@ -149,7 +148,7 @@ fn run_named<
         shortening,
         counted,
     )?;
-    run_continued(rt, beside, arrivals, tellers, counts, &keeping)
+    run_continued(rt, beside, arrivals, post_hooks, counts, &keeping)
 }
 
 /// Serves what the listener accepts, over a store. The post-hooks return what `answer` does.
