@@ -3,7 +3,6 @@ use crate::logs::{PAIR, read, spelled_of};
 use crate::same::expect_same;
 use sqlite_disk::{Crash, Fuse, Memory};
 use std::alloc::Global;
-use std::test::Fail;
 use up_log::{Log, LogFault, Spelled};
 
 /// A log on a disk that fails from some call on; `None` if it fails before the log is open.
@@ -34,19 +33,18 @@ fn left(alloc: Global, log: Log<Fuse<Memory>>) -> Result<u64, LogFault> {
 }
 
 #[test]
-fn a_batch_is_whole_or_not_there(rt: HostRuntime) -> Result<(), Fail> {
+fn a_batch_is_whole_or_not_there(rt: HostRuntime) {
     let alloc = rt.alloc();
-    let entries = spelled_of(alloc, &PAIR)?;
+    let entries = spelled_of(alloc, &PAIR).expect(&rt, "memory");
     let mut is_any = false;
     for calls in 0..30 {
         let Some(mut log) = opened(alloc, calls) else {
             continue;
         };
         let added = is_added(alloc, &mut log, &entries);
-        let count = left(alloc, log)?;
+        let count = left(alloc, log).expect(&rt, "the log again");
         expect_same(&rt, &(calls, Some(count > 0)), &(calls, added));
         is_any = is_any || count > 0;
     }
     assert!(rt; is_any);
-    Ok(())
 }

@@ -5,15 +5,17 @@ use sqlite_std_file::Unknown;
 use std::alloc::Global;
 use std::fs;
 use std::process::Abort;
-use std::test::Fail;
 use up_log::{Log, LogFault, LogReader, Setup, open_file};
 
 /// The number of batches of a file, before and after one more is appended.
-fn counts(alloc: Global, bytes: &[u8]) -> Result<(u64, u64), LogFault> {
-    let (mut log, count) = read(alloc, disk_of(alloc, bytes)?)?;
-    log.append(&mut Vec::new(alloc), &spelled_of(alloc, &PAIR)?)?;
-    let (_, again) = read(alloc, log.into_device())?;
-    Ok((count, again))
+fn counts<R: Abort>(rt: &R, alloc: Global, bytes: &[u8]) -> (u64, u64) {
+    let disk = disk_of(alloc, bytes).expect(rt, "a file");
+    let (mut log, count) = read(alloc, disk).expect(rt, "a log");
+    let entries = spelled_of(alloc, &PAIR).expect(rt, "memory");
+    log.append(&mut Vec::new(alloc), &entries)
+        .expect(rt, "another batch");
+    let (_, again) = read(alloc, log.into_device()).expect(rt, "the log again");
+    (count, again)
 }
 
 /// The first `left` of the bytes, with one of them changed.
@@ -36,26 +38,25 @@ fn changed(
 type Torn = (usize, usize, u8, u64);
 
 /// Checks the number of batches that are left of these bytes, and that one more can be appended.
-fn hold_left<R: Abort>(rt: &R, alloc: Global, bytes: &[u8], torn: Torn) -> Result<(), Fail> {
+fn hold_left<R: Abort>(rt: &R, alloc: Global, bytes: &[u8], torn: Torn) {
     let (left, place, byte, want) = torn;
-    let found = counts(alloc, &changed(bytes, alloc, left, place, byte)?)?;
+    let copy = changed(bytes, alloc, left, place, byte).expect(rt, "memory");
+    let found = counts(rt, alloc, &copy);
     expect_same(
         rt,
         &(left, byte, place, found),
         &(left, byte, place, (want, want.saturating_add(1))),
     );
-    Ok(())
 }
 
 #[test]
-fn a_crash_leaves_whole_batches(rt: HostRuntime) -> Result<(), Fail> {
+fn a_crash_leaves_whole_batches(rt: HostRuntime) {
     let alloc = rt.alloc();
-    let three = log_of(alloc, 3)?;
-    let two = log_of(alloc, 2)?.len();
+    let none = log_of(alloc, 0).expect(&rt, "a log");
+    let three = log_of(alloc, 3).expect(&rt, "a log");
+    let two = log_of(alloc, 2).expect(&rt, "a log").len();
     let end = three.len();
-    if two == 0 || end == 0 {
-        return Err(Fail::new("no log"));
-    }
+    assert!(rt; two > 0 && end > 0, "no log");
     let gate = two - 1;
     for torn in [
         (end, end - 1, 0, 3u64),
@@ -70,38 +71,39 @@ fn a_crash_leaves_whole_batches(rt: HostRuntime) -> Result<(), Fail> {
         (1, 0, 9, 0),
         (0, 0, 9, 0),
     ] {
-        hold_left(&rt, alloc, &three, torn)?;
+        hold_left(&rt, alloc, &three, torn);
     }
-    hold_left(&rt, alloc, &log_of(alloc, 0)?, (34, 0, 7, 0))
+    hold_left(&rt, alloc, &none, (34, 0, 7, 0));
 }
 
 /// Why a file is refused, if it is and is unchanged.
-fn refusal(alloc: Global, bytes: &[u8], setup: Setup) -> Result<Option<LogFault>, LogFault> {
-    match LogReader::open(alloc, disk_of(alloc, bytes)?, setup) {
-        Ok(_) => Ok(None),
+fn refusal<R: Abort>(rt: &R, alloc: Global, bytes: &[u8], setup: Setup) -> Option<LogFault> {
+    let disk = disk_of(alloc, bytes).expect(rt, "a file");
+    match LogReader::open(alloc, disk, setup) {
+        Ok(_) => None,
         Err(refused) => {
             if refused.device.bytes() != bytes {
-                return Ok(None);
+                return None;
             }
-            Ok(Some(refused.fault))
+            Some(refused.fault)
         }
     }
 }
 
 /// Whether a file is refused with this message, and is unchanged.
-fn is_refused(alloc: Global, bytes: &[u8], setup: Setup, want: &str) -> Result<bool, LogFault> {
-    match refusal(alloc, bytes, setup)? {
-        Some(fault) => Ok(format!(in alloc; "{fault}")?.as_str() == want),
-        None => Ok(false),
+fn is_refused<R: Abort>(rt: &R, alloc: Global, bytes: &[u8], setup: Setup, want: &str) -> bool {
+    match refusal(rt, alloc, bytes, setup) {
+        Some(fault) => format!(in alloc; "{fault}").expect(rt, "memory").as_str() == want,
+        None => false,
     }
 }
 
 #[test]
-fn another_file_is_left_as_it_is(rt: HostRuntime) -> Result<(), Fail> {
+fn another_file_is_left_as_it_is(rt: HostRuntime) {
     let alloc = rt.alloc();
     let long = b"\0, and behind it more than a heading takes".as_slice();
-    let log = log_of(alloc, 1)?;
-    let next = changed(&log, alloc, log.len(), 9, 2)?;
+    let log = log_of(alloc, 1).expect(&rt, "a log");
+    let next = changed(&log, alloc, log.len(), 9, 2).expect(&rt, "memory");
     let foreign = "the file is no log of up";
     let lanes = "the log was made with 2 lanes, and is opened with 3";
     let size = "the log was made for uploads of at most 1000 bytes, and is opened for 1001";
@@ -114,48 +116,45 @@ fn another_file_is_left_as_it_is(rt: HostRuntime) -> Result<(), Fail> {
         (next.as_slice(), (2, 1000), version),
     ] {
         assert!(rt;
-            is_refused(alloc, bytes, Setup { lanes, max_size }, want)?,
+            is_refused(&rt, alloc, bytes, Setup { lanes, max_size }, want),
             "{want}"
         );
     }
-    Ok(())
 }
 
 /// The text of the fault of a call that must fail.
-fn text_of<T: Drop>(alloc: Global, called: Result<T, LogFault>) -> Result<String, Fail> {
-    match called {
-        Ok(_) => Err("a fault".into()),
-        Err(fault) => Ok(format!(in alloc; "{fault}")?),
-    }
+fn text_of<T: Drop, R: Abort>(rt: &R, alloc: Global, called: Result<T, LogFault>) -> String {
+    let fault = called.err().expect(rt, "a fault");
+    format!(in alloc; "{fault}").expect(rt, "memory")
 }
 
 #[test]
-fn damage_has_its_place(rt: HostRuntime) -> Result<(), Fail> {
+fn damage_has_its_place(rt: HostRuntime) {
     let alloc = rt.alloc();
-    let (one, two) = (log_of(alloc, 1)?, log_of(alloc, 2)?);
-    if one.is_empty() {
-        return Err(Fail::new("no log"));
-    }
+    let one = log_of(alloc, 1).expect(&rt, "a log");
+    let two = log_of(alloc, 2).expect(&rt, "a log");
+    assert!(rt; !one.is_empty(), "no log");
     // The second block begins with the last byte of a log of one batch. The length after it becomes too large.
     let gate = one.len() - 1;
-    let damaged = changed(&two, alloc, two.len(), gate.saturating_add(8), 255)?;
-    let found = text_of(alloc, read(alloc, disk_of(alloc, &damaged)?))?;
-    let wanted = format!(in alloc; "the log is damaged at byte {gate}")?;
-    expect_same(&rt, &found, &wanted);
-    Ok(())
+    let damaged = changed(&two, alloc, two.len(), gate.saturating_add(8), 255);
+    let disk = disk_of(alloc, &damaged.expect(&rt, "memory")).expect(&rt, "a file");
+    let found = text_of(&rt, alloc, read(alloc, disk));
+    let wanted = format!(in alloc; "the log is damaged at byte {gate}");
+    expect_same(&rt, &found, &wanted.expect(&rt, "memory"));
 }
 
 #[test]
-fn a_file_that_became_shorter_is_not_resumed(rt: HostRuntime) -> Result<(), Fail> {
+fn a_file_that_became_shorter_is_not_resumed(rt: HostRuntime) {
     let alloc = rt.alloc();
-    let log = log_of(alloc, 1)?;
-    let (_, result) = Log::resume(disk_of(alloc, b"short")?, log.len());
+    let log = log_of(alloc, 1).expect(&rt, "a log");
+    let disk = disk_of(alloc, b"short").expect(&rt, "a file");
+    let (_, result) = Log::resume(disk, log.len());
     let wanted = format!(in alloc;
         "the log has 5 bytes, and {len} were written to it",
         len = log.len()
-    )?;
-    expect_same(&rt, &text_of(alloc, result)?, &wanted);
-    Ok(())
+    );
+    let found = text_of(&rt, alloc, result);
+    expect_same(&rt, &found, &wanted.expect(&rt, "memory"));
 }
 
 /// Writes a log of one batch to a file, and returns whether the file is `Busy` until the log is dropped.
@@ -176,15 +175,17 @@ fn count_of(rt: &HostRuntime, path: &str) -> Result<u64, LogFault> {
 }
 
 #[test]
-fn a_file_is_open_once(rt: HostRuntime) -> Result<(), Fail> {
+fn a_file_is_open_once(rt: HostRuntime) {
     let path = "up_log_tests_file/log";
     let _ = fs::remove_dir_all(&rt, "up_log_tests_file");
-    fs::create_dir(&rt, "up_log_tests_file")?;
-    assert!(rt; is_busy(&rt, path)?);
-    expect_same(&rt, &count_of(&rt, path)?, &1);
-    fs::write(&rt, path, b"no log".as_slice())?;
+    fs::create_dir(&rt, "up_log_tests_file").expect(&rt, "a folder");
+    assert!(rt; is_busy(&rt, path).expect(&rt, "a log"));
+    let count = count_of(&rt, path).expect(&rt, "a count");
+    expect_same(&rt, &count, &1);
+    let foreign = b"no log".as_slice();
+    fs::write(&rt, path, foreign).expect(&rt, "a file");
     assert!(rt; matches!(count_of(&rt, path), Err(LogFault::Foreign)));
-    expect_same(&rt, &fs::read(&rt, path)?.as_slice(), &b"no log".as_slice());
-    fs::remove_dir_all(&rt, "up_log_tests_file")?;
-    Ok(())
+    let bytes = fs::read(&rt, path).expect(&rt, "the file");
+    expect_same(&rt, &bytes.as_slice(), &foreign);
+    fs::remove_dir_all(&rt, "up_log_tests_file").expect(&rt, "a removal");
 }

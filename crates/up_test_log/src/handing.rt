@@ -10,8 +10,8 @@ use sqlite_disk::{Disk, Fuse, Memory};
 use sqlite_std_file::Unknown;
 use std::alloc::Global;
 use std::fs;
+use std::process::Abort;
 use std::sync::atomic::{AtomicBool, Ordering};
-use std::test::Fail;
 use up_events::{Event, Hook, Id};
 use up_handed::{Continued, Handed, HandedFault, Permission, Withheld, open_handed, restart};
 use up_hooks::{Outcome, PostHook, Recorder};
@@ -105,7 +105,7 @@ fn left<F: Fn(&Event) -> Outcome + Send + Copy>(
 }
 
 #[test]
-fn what_earlier_runs_handed_over_is_passed_over(rt: HostRuntime) -> Result<(), Fail> {
+fn what_earlier_runs_handed_over_is_passed_over(rt: HostRuntime) {
     let alloc = rt.alloc();
     // The number of events that were handed over before, the number that the lane hands over, and what the post-hook is
     // handed.
@@ -118,8 +118,8 @@ fn what_earlier_runs_handed_over_is_passed_over(rt: HostRuntime) -> Result<(), F
         (4, 7, (5, 3)),
     ] {
         let answer = |_: &Event| Outcome::Done;
-        let device = left(alloc, answer, before)?;
-        let run = run_over(alloc, answer, device, events)?;
+        let device = left(alloc, answer, before).expect(&rt, "a count");
+        let run = run_over(alloc, answer, device, events).expect(&rt, "a run");
         expect_same(&rt, &run.before(), &before);
         expect_same(
             &rt,
@@ -129,7 +129,6 @@ fn what_earlier_runs_handed_over_is_passed_over(rt: HostRuntime) -> Result<(), F
         let (_, handed) = run.into_parts();
         expect_same(&rt, &handed.count(), &before.max(events));
     }
-    Ok(())
 }
 
 /// The number of events, out of three, that a run hands over if its disk fails from some call on, and the number of the
@@ -155,7 +154,7 @@ fn crashed<F: Fn(&Event) -> Outcome + Send + Copy>(
 }
 
 #[test]
-fn a_crash_repeats_one_event_at_most(rt: HostRuntime) -> Result<(), Fail> {
+fn a_crash_repeats_one_event_at_most(rt: HostRuntime) {
     let alloc = rt.alloc();
     // Opening takes two calls, and each event takes two: a write and a sync.
     for (calls, handed, next) in [
@@ -168,14 +167,13 @@ fn a_crash_repeats_one_event_at_most(rt: HostRuntime) -> Result<(), Fail> {
         (8, 3, 4),
         (9, 3, 4),
     ] {
-        let found = crashed(alloc, |_: &Event| Outcome::Done, calls)?;
+        let found = crashed(alloc, |_: &Event| Outcome::Done, calls).expect(&rt, "a count");
         expect_same(&rt, &(calls, found), &(calls, (handed, next)));
     }
-    Ok(())
 }
 
 #[test]
-fn a_lane_goes_on_when_the_disk_works_again(rt: HostRuntime) -> Result<(), Fail> {
+fn a_lane_goes_on_when_the_disk_works_again(rt: HostRuntime) {
     let alloc = rt.alloc();
     // The call that fails: one of the three writes, or a sync, after which the file must be opened again.
     for (calls, handed, next) in [
@@ -188,14 +186,13 @@ fn a_lane_goes_on_when_the_disk_works_again(rt: HostRuntime) -> Result<(), Fail>
         (9, 3, 4),
     ] {
         let device = FullOnce::new(Memory::new(alloc), calls);
-        let first = run_over(alloc, |_: &Event| Outcome::Done, device, 3)?;
+        let first = run_over(alloc, |_: &Event| Outcome::Done, device, 3).expect(&rt, "a run");
         expect_same(&rt, &(calls, told(first.hook())), &(calls, (1, handed)));
         let (_, count) = first.into_parts();
         let device = count.into_device().into_inner();
-        let second = run_over(alloc, |_: &Event| Outcome::Done, device, 4)?;
+        let second = run_over(alloc, |_: &Event| Outcome::Done, device, 4).expect(&rt, "a run");
         expect_same(&rt, &(calls, told(second.hook()).0), &(calls, next));
     }
-    Ok(())
 }
 
 /// The number in a file after a run that hands over one more event, and whether the file is `Busy` for others until the
@@ -218,17 +215,17 @@ fn one_more<F: Fn(&Event) -> Outcome + Send + Copy>(
 }
 
 #[test]
-fn a_count_outlives_its_run(rt: HostRuntime) -> Result<(), Fail> {
+fn a_count_outlives_its_run(rt: HostRuntime) {
     let path = "up_log_tests_handed/handed.0";
     let _ = fs::remove_dir_all(&rt, "up_log_tests_handed");
-    fs::create_dir(&rt, "up_log_tests_handed")?;
+    fs::create_dir(&rt, "up_log_tests_handed").expect(&rt, "a folder");
     for want in [1, 2, 3] {
-        let found = one_more(&rt, path, |_: &Event| Outcome::Done)?;
+        let found = one_more(&rt, path, |_: &Event| Outcome::Done).expect(&rt, "a count");
         expect_same(&rt, &found, &(want, true));
     }
-    expect_same(&rt, &fs::read(&rt, path)?.len(), &3);
-    fs::remove_dir_all(&rt, "up_log_tests_handed")?;
-    Ok(())
+    let bytes = fs::read(&rt, path).expect(&rt, "the file");
+    expect_same(&rt, &bytes.len(), &3);
+    fs::remove_dir_all(&rt, "up_log_tests_handed").expect(&rt, "a removal");
 }
 
 /// Whether events may be handed over.
@@ -255,15 +252,17 @@ fn hand_next<H: PostHook>(hook: &mut H, number: u64)
 
 /// What a post-hook that may not hand over events yet is handed of five events, of which earlier runs handed over
 /// three, and whether it says that it holds events back. Then the same once it may.
-fn held<F: Fn(&Event) -> Outcome + Send + Copy>(
+fn held<F: Fn(&Event) -> Outcome + Send + Copy, R: Abort>(
+    rt: &R,
     alloc: Global,
     answer: F,
-) -> Result<[((u64, usize), bool, u64); 2], HandedFault>
+) -> [((u64, usize), bool, u64); 2]
     requires callable { F.IsAlwaysCallable answer }
     requires codes { AnswersWithCodes F.Fn answer }
 {
     let is_given = AtomicBool::new(false);
-    let handed = opened(left(alloc, answer, 3)?)?;
+    let device = left(alloc, answer, 3).expect(rt, "a count");
+    let handed = opened(device).expect(rt, "the count again");
     let recorder = Recorder::new(alloc, answer);
     let mut run = Continued::new(Withheld::new(recorder, Flag(&is_given)), handed);
     hand_over(&mut run, 5);
@@ -272,12 +271,11 @@ fn held<F: Fn(&Event) -> Outcome + Send + Copy>(
     hand_next(&mut run, 4);
     hand_next(&mut run, 5);
     let after = (told(run.hook().hook()), run.holds_back(), run.count());
-    Ok([before, after])
+    [before, after]
 }
 
 #[test]
-fn events_are_held_back_until_they_may_be_handed_over(rt: HostRuntime) -> Result<(), Fail> {
-    let found = held(rt.alloc(), |_: &Event| Outcome::Done)?;
+fn events_are_held_back_until_they_may_be_handed_over(rt: HostRuntime) {
+    let found = held(&rt, rt.alloc(), |_: &Event| Outcome::Done);
     expect_same(&rt, &found, &[((0, 0), true, 3), ((4, 2), false, 5)]);
-    Ok(())
 }

@@ -8,7 +8,6 @@ use sqlite_disk::{Disk, Fuse, Memory};
 use std::alloc::Global;
 use std::marker::Send;
 use std::sync::atomic::{AtomicU64, Ordering};
-use std::test::Fail;
 use up_events::{Event, Hook, Id};
 use up_handed::{Continued, EndedUpload, Endings, HandedFault, Noting};
 use up_hooks::{Outcome, PostHook, Recorder};
@@ -61,13 +60,14 @@ fn removed_over<F: Fn(&Event) -> Outcome + Send + Copy + Drop, D: Disk + Send + 
 }
 
 #[test]
-fn an_upload_is_reported_once_its_last_event_is_counted(rt: HostRuntime) -> Result<(), Fail> {
+fn an_upload_is_reported_once_its_last_event_is_counted(rt: HostRuntime) {
     let alloc = rt.alloc();
     let answer = |_: &Event| Outcome::Done;
     // Opening takes two calls. The third writes the count. It fails once, or so do all that follow.
     let device = FullOnce::new(Memory::new(alloc), 3);
-    expect_same(&rt, &removed_over(alloc, answer, device)?, &(0, 3));
+    let found = removed_over(alloc, answer, device).expect(&rt, "a count");
+    expect_same(&rt, &found, &(0, 3));
     let device = Fuse::new(Memory::new(alloc), 2);
-    expect_same(&rt, &removed_over(alloc, answer, device)?, &(0, 0));
-    Ok(())
+    let found = removed_over(alloc, answer, device).expect(&rt, "a count");
+    expect_same(&rt, &found, &(0, 0));
 }

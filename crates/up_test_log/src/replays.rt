@@ -3,9 +3,9 @@ use crate::logs::{Row, SETUP, What, entries_of, read, spelled_of};
 use crate::same::expect_same;
 use sqlite_disk::Memory;
 use std::alloc::Global;
-use std::test::Fail;
+use std::process::Abort;
 use up_events::{Id, MAX_UPLOAD_BYTES};
-use up_log::{LogFault, LogReader};
+use up_log::LogReader;
 use up_machine::Book;
 use up_message::Sequence;
 use up_replay::{Unreplayed, Unrestored, replay, restore};
@@ -26,9 +26,9 @@ fn replay_rows(alloc: Global, book: &mut Book, rows: &[Row]) -> Result<(), Unrep
 }
 
 #[test]
-fn what_was_refused_changes_nothing(rt: HostRuntime) -> Result<(), Fail> {
+fn what_was_refused_changes_nothing(rt: HostRuntime) {
     let alloc = rt.alloc();
-    let mut book = Book::new(alloc, 2, 1000)?;
+    let mut book = Book::new(alloc, 2, 1000).expect(&rt, "memory");
     let rows = [
         (What::Make, 5, 3),
         // A second creation with the same id, a removal of an upload that does not exist, bytes for it, and too many
@@ -51,15 +51,18 @@ fn what_was_refused_changes_nothing(rt: HostRuntime) -> Result<(), Fail> {
         &Err(Unreplayed::TooLong),
     );
     expect_same(&rt, &book.journal().accepted_count(), &2);
-    Ok(())
 }
 
 /// The file of a log with these two batches.
-fn file_of(alloc: Global, first: &[Row], second: &[Row]) -> Result<Memory, LogFault> {
-    let (mut log, _) = read(alloc, Memory::new(alloc))?;
-    log.append(&mut Vec::new(alloc), &spelled_of(alloc, first)?)?;
-    log.append(&mut Vec::new(alloc), &spelled_of(alloc, second)?)?;
-    Ok(log.into_device())
+fn file_of<R: Abort>(rt: &R, alloc: Global, first: &[Row], second: &[Row]) -> Memory {
+    let first = spelled_of(alloc, first).expect(rt, "memory");
+    let second = spelled_of(alloc, second).expect(rt, "memory");
+    let (mut log, _) = read(alloc, Memory::new(alloc)).expect(rt, "a log");
+    log.append(&mut Vec::new(alloc), &first)
+        .expect(rt, "a batch");
+    log.append(&mut Vec::new(alloc), &second)
+        .expect(rt, "another batch");
+    log.into_device()
 }
 
 /// Restores a book from a file.
@@ -74,14 +77,14 @@ fn restore_file(alloc: Global, file: Memory, book: &mut Book) -> Result<(), Unre
 }
 
 #[test]
-fn a_book_comes_back(rt: HostRuntime) -> Result<(), Fail> {
+fn a_book_comes_back(rt: HostRuntime) {
     let alloc = rt.alloc();
     let first = [(What::Make, 5, 4), (What::Make, 6, 5)];
     let second = [(What::Put, 5, 3), (What::Remove, 6, 0)];
-    let mut book = Book::new(alloc, 2, 1000)?;
-    restore_file(alloc, file_of(alloc, &first, &second)?, &mut book)?;
+    let mut book = Book::new(alloc, 2, 1000).expect(&rt, "memory");
+    let file = file_of(&rt, alloc, &first, &second);
+    restore_file(alloc, file, &mut book).expect(&rt, "a book");
     expect_same(&rt, &book.journal().accepted_count(), &4);
     expect_same(&rt, &standing(&book, 5), &Some((3, Some(4))));
     expect_same(&rt, &standing(&book, 6), &None);
-    Ok(())
 }

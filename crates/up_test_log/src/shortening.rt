@@ -5,11 +5,10 @@ use sqlite_disk::Memory;
 use std::alloc::{AllocError, Global};
 use std::collections::BTreeSet;
 use std::process::Abort;
-use std::test::Fail;
 use up_compact::{LeftOut, Progress, Survey, catch_up};
 use up_events::{Id, Kind};
 use up_headers::{NewUpload, Request};
-use up_log::{Consent, Entry, Log, LogFault, LogReader};
+use up_log::{Consent, Entry, Log, LogReader};
 use up_machine::Book;
 use up_message::Sequence;
 use up_replay::restore;
@@ -44,18 +43,20 @@ fn joining(alloc: Global, id: u128, parts: &[u128]) -> Result<Entry, AllocError>
 
 /// A final upload of 1 and 2, one of 3, and one that was refused since it joins another final upload.
 fn joinings(alloc: Global) -> Result<Vec<Entry>, AllocError> {
+    let rows: [(u128, &[u128]); 3] = [(7, &[1, 2]), (8, &[3]), (9, &[7])];
     let mut entries = Vec::new(alloc);
-    entries.push(joining(alloc, 7, &[1, 2])?)?;
-    entries.push(joining(alloc, 8, &[3])?)?;
-    entries.push(joining(alloc, 9, &[7])?)?;
+    for (id, parts) in rows {
+        entries.push(joining(alloc, id, parts)?)?;
+    }
     Ok(entries)
 }
 
 #[test]
-fn parts_of_what_stays_stay(rt: HostRuntime) -> Result<(), Fail> {
+fn parts_of_what_stays_stay(rt: HostRuntime) {
     let alloc = rt.alloc();
     let mut survey = Survey::new(alloc);
-    survey.see(alloc, &joinings(alloc)?)?;
+    let entries = joinings(alloc).expect(&rt, "memory");
+    survey.see(alloc, &entries).expect(&rt, "memory");
     let made = [Id::new(7), Id::new(8), Id::new(9)];
     expect_same(&rt, &survey.uploads(), &made.as_slice());
     // The uploads that were removed, and those of them that can be left out.
@@ -67,29 +68,39 @@ fn parts_of_what_stays_stay(rt: HostRuntime) -> Result<(), Fail> {
         (&[1, 2, 3, 8, 9], &[3, 8, 9]),
     ];
     for (ended, want) in rows {
-        let found = survey.left_out(ids_of(alloc, ended)?);
-        expect_same(&rt, &found, &ids_of(alloc, want)?);
+        let ended = ids_of(alloc, ended).expect(&rt, "memory");
+        let want = ids_of(alloc, want).expect(&rt, "memory");
+        expect_same(&rt, &survey.left_out(ended), &want);
     }
-    Ok(())
+}
+
+/// Appends a batch of these entries.
+fn append<R: Abort>(rt: &R, alloc: Global, log: &mut Log<Memory>, rows: &[Row]) {
+    let entries = spelled_of(alloc, rows).expect(rt, "memory");
+    log.append(&mut Vec::new(alloc), &entries)
+        .expect(rt, "another batch");
 }
 
 /// The log with these batches.
-fn log_of(alloc: Global, first: &[Row], second: &[Row]) -> Result<Log<Memory>, LogFault> {
-    let (mut log, _) = read(alloc, Memory::new(alloc))?;
-    log.append(&mut Vec::new(alloc), &spelled_of(alloc, first)?)?;
-    log.append(&mut Vec::new(alloc), &spelled_of(alloc, second)?)?;
-    Ok(log)
+fn log_of<R: Abort>(rt: &R, alloc: Global, first: &[Row], second: &[Row]) -> Log<Memory> {
+    let (mut log, _) = read(alloc, Memory::new(alloc)).expect(rt, "a log");
+    append(rt, alloc, &mut log, first);
+    append(rt, alloc, &mut log, second);
+    log
 }
 
 /// The book that a log defines.
-fn book_of(alloc: Global, log: Log<Memory>) -> Result<Book, Fail> {
-    let mut book = Book::new(alloc, 2, 1000)?;
+fn book_of<R: Abort>(rt: &R, alloc: Global, log: Log<Memory>) -> Book {
+    let mut book = Book::new(alloc, 2, 1000).expect(rt, "memory");
     match LogReader::open(alloc, log.into_device(), SETUP) {
         Ok(reader) => {
-            restore(alloc, reader, &mut book)?;
-            Ok(book)
+            restore(alloc, reader, &mut book).expect(rt, "a book");
+            book
         }
-        Err(refused) => Err(Fail::from(refused.fault)),
+        Err(refused) => {
+            let fault = refused.fault;
+            panic!(rt; "a log: {fault:?}")
+        }
     }
 }
 
@@ -120,11 +131,12 @@ fn hold_reached<R: Abort>(
     shorter: &mut Log<Memory>,
     since: Progress,
     want: (u64, u64),
-) -> Result<Progress, Fail> {
-    let reached = catch_up(alloc, log, shorter, &left_out(alloc)?, since)?;
+) -> Progress {
+    let left_out = left_out(alloc).expect(rt, "memory");
+    let reached = catch_up(alloc, log, shorter, &left_out, since).expect(rt, "a shorter log");
     expect_same(rt, &(reached.count, reached.stayed), &want);
     expect_same(rt, &reached.place, &log.end_place());
-    Ok(reached)
+    reached
 }
 
 /// Checks the number of changes that a log defines, and the number of bytes of the uploads from 5 to 7.
@@ -134,29 +146,28 @@ fn hold_book<R: Abort>(
     log: Log<Memory>,
     changes: u64,
     offsets: [Option<u64>; 3],
-) -> Result<(), Fail> {
-    let book = book_of(alloc, log)?;
+) {
+    let book = book_of(rt, alloc, log);
     expect_same(rt, &book.journal().accepted_count(), &changes);
     let found = [offset(&book, 5), offset(&book, 6), offset(&book, 7)];
     expect_same(rt, &found, &offsets);
-    Ok(())
 }
 
 #[test]
-fn a_shorter_log_has_what_stays(rt: HostRuntime) -> Result<(), Fail> {
+fn a_shorter_log_has_what_stays(rt: HostRuntime) {
     let alloc = rt.alloc();
     let first = [(What::Make, 5, 4), (What::Make, 6, 5), (What::Remove, 5, 0)];
     let second = [(What::Put, 6, 5), (What::Remove, 6, 0)];
-    let mut log = log_of(alloc, &first, &second)?;
-    let (mut shorter, _) = read(alloc, Memory::new(alloc))?;
+    let mut log = log_of(&rt, alloc, &first, &second);
+    let (mut shorter, _) = read(alloc, Memory::new(alloc)).expect(&rt, "a log");
     let start = Progress::start::<Memory>();
-    let reached = hold_reached(&rt, alloc, &mut log, &mut shorter, start, (5, 1))?;
+    let reached = hold_reached(&rt, alloc, &mut log, &mut shorter, start, (5, 1));
     // Entries that are appended to the log meanwhile are then appended to the shorter log.
-    let more = spelled_of(alloc, &[(What::Put, 5, 3), (What::Make, 7, 2)])?;
-    log.append(&mut Vec::new(alloc), &more)?;
-    hold_reached(&rt, alloc, &mut log, &mut shorter, reached, (7, 3))?;
+    let more = [(What::Put, 5, 3), (What::Make, 7, 2)];
+    append(&rt, alloc, &mut log, &more);
+    hold_reached(&rt, alloc, &mut log, &mut shorter, reached, (7, 3));
     assert!(rt; shorter.end_place() < log.end_place());
-    hold_book(&rt, alloc, shorter, 3, [Some(3), None, Some(0)])
+    hold_book(&rt, alloc, shorter, 3, [Some(3), None, Some(0)]);
 }
 
 /// Checks that a batch of this number of entries is at a place, and returns the place after it.
@@ -166,27 +177,23 @@ fn hold_batch<R: Abort>(
     log: &mut Log<Memory>,
     place: usize,
     want: usize,
-) -> Result<usize, Fail> {
-    match log.batch_at(alloc, place)? {
-        Some((entries, next)) => {
-            expect_same(rt, &entries.len(), &want);
-            Ok(next)
-        }
-        None => Err("a batch".into()),
-    }
+) -> usize {
+    let found = log.batch_at(alloc, place).expect(rt, "a log");
+    let (entries, next) = found.expect(rt, "a batch");
+    expect_same(rt, &entries.len(), &want);
+    next
 }
 
 #[test]
-fn an_open_log_is_read_from_its_places(rt: HostRuntime) -> Result<(), Fail> {
+fn an_open_log_is_read_from_its_places(rt: HostRuntime) {
     let alloc = rt.alloc();
     let first = [(What::Make, 5, 4)];
     let second = [(What::Make, 6, 5), (What::Remove, 6, 0)];
-    let mut log = log_of(alloc, &first, &second)?;
-    let place = hold_batch(&rt, alloc, &mut log, Log::<Memory>::first_place(), 1)?;
-    let place = hold_batch(&rt, alloc, &mut log, place, 2)?;
-    assert!(rt; log.batch_at(alloc, place)?.is_none());
+    let mut log = log_of(&rt, alloc, &first, &second);
+    let place = hold_batch(&rt, alloc, &mut log, Log::<Memory>::first_place(), 1);
+    let place = hold_batch(&rt, alloc, &mut log, place, 2);
+    assert!(rt; log.batch_at(alloc, place).expect(&rt, "a log").is_none());
     // Another batch can still be appended, and is then at this place.
-    log.append(&mut Vec::new(alloc), &spelled_of(alloc, &first)?)?;
-    hold_batch(&rt, alloc, &mut log, place, 1)?;
-    Ok(())
+    append(&rt, alloc, &mut log, &first);
+    hold_batch(&rt, alloc, &mut log, place, 1);
 }

@@ -5,8 +5,8 @@ ghost use Rattle.up_dispatch.specs.Parts.{IsNamed};
 
 use std::alloc::{AllocError, Global};
 use std::marker::{Send, Sync};
+use std::process::Abort;
 use std::sync::Wait;
-use std::test::Fail;
 use std::thread;
 use std::thread::Threads;
 use up_dispatch::{Board, BoardParts, Naming, Report, Seat};
@@ -63,22 +63,23 @@ pub fn list_of<T: Drop>(alloc: Global, first: T, second: T) -> Result<Vec<T>, Al
 
 /// A new board with these parts, which have two queues, and a lane with a post-hook for each queue. The board keeps the
 /// accepted changes if `keeps`, and otherwise counts them.
-pub fn open_board<B: Naming, H: PostHook + Drop>(
+pub fn open_board<B: Naming, H: PostHook + Drop, R: Abort>(
+    rt: &R,
     alloc: Global,
     parts: BoardParts,
     hooks: (H, H),
     keeps: bool,
-) -> Result<(Board<B>, Vec<Lane<H>>), Fail>
+) -> (Board<B>, Vec<Lane<H>>)
     requires named { IsNamed B.name B.parts B.queue B.lanes parts }
     requires lanes { length parts.queues ≡ 2 }
     requires sized { B.max_size ≡ 1048576 }
     requires first { H.is_sound hooks.0 × (H.handed hooks.0 ≡ []) }
     requires second { H.is_sound hooks.1 × (H.handed hooks.1 ≡ []) }
-    ensures own { IfOk result (λ r. All (λ l. l.queue ≡ B.queue l.lane) r.1.items) }
+    ensures own { All (λ l. l.queue ≡ B.queue l.lane) result.1.items }
 {
-    let (board, takes) = new_board::<B>(alloc, parts, keeps)?;
+    let (board, takes) = new_board::<B>(alloc, parts, keeps).expect(rt, "memory");
     let (even, odd) = lanes_of::<B, H>(takes, hooks);
-    Ok((board, list_of(alloc, even, odd)?))
+    (board, list_of(alloc, even, odd).expect(rt, "memory"))
 }
 
 /// Runs each lane of a board to its end, in a thread of its own. The lanes call `refill`, which is the board itself or
@@ -110,20 +111,14 @@ pub fn run_each<B: Naming + Send + Sync, H: PostHook + Drop, R: Threads + Wait +
 pub fn run_beside<
     B: Naming + Send + Sync,
     H: PostHook + Drop,
-    R: Threads + Wait + Sync,
+    R: Threads + Wait + Abort + Sync,
     L: Refill,
-    F: FnOnce() -> Result<T, Fail> + Send,
+    F: FnOnce() -> T + Send,
     T: Send + Drop,
->(
-    rt: &R,
-    board: &Board<B>,
-    refill: &L,
-    lanes: Vec<Lane<H>>,
-    work: F,
-) -> Result<(T, Vec<LaneEnd<H>>), Fail>
+>(rt: &R, board: &Board<B>, refill: &L, lanes: Vec<Lane<H>>, work: F) -> (T, Vec<LaneEnd<H>>)
     requires callable { F.pre work }
     requires own { All (λ l. l.queue ≡ B.queue l.lane) lanes.items }
-    ensures own { IfOk result (λ r. All (λ e. e.take_end.queue ≡ B.queue e.lane) r.1.items) }
+    ensures own { All (λ e. e.take_end.queue ≡ B.queue e.lane) result.1.items }
 {
     let (done, ends) = thread::join(
         rt,
@@ -139,34 +134,36 @@ pub fn run_beside<
             ensures { IfOk result (λ v. All (λ e. e.take_end.queue ≡ B.queue e.lane) v.items) }
         { run_each(rt, board, refill, lanes) },
     );
-    Ok((done?, ends?))
+    (done, ends.expect(rt, "memory"))
 }
 
 /// The report of a board that is finished with all of its lanes, and with the seats from which it was changed.
-pub fn finished<B: Naming, H: PostHook + Drop>(
+pub fn finished<B: Naming, H: PostHook + Drop, R: Abort>(
+    rt: &R,
     alloc: Global,
     board: Board<B>,
     seats: Vec<Seat<B>>,
     ends: Vec<LaneEnd<H>>,
-) -> Result<Report<H>, Fail>
+) -> Report<H>
     requires own { All (λ e. e.take_end.queue ≡ B.queue e.lane) ends.items }
 {
     match board.finish(alloc, seats, ends) {
-        Ok(report) => Ok(report),
-        Err(_) => Err("all are back".into()),
+        Ok(report) => report,
+        Err(_) => rt.panic("a seat or a lane is out"),
     }
 }
 
 /// The report of such a board that was changed from one seat.
-pub fn finished_from<B: Naming, H: PostHook + Drop>(
+pub fn finished_from<B: Naming, H: PostHook + Drop, R: Abort>(
+    rt: &R,
     alloc: Global,
     board: Board<B>,
     seat: Seat<B>,
     ends: Vec<LaneEnd<H>>,
-) -> Result<Report<H>, Fail>
+) -> Report<H>
     requires own { All (λ e. e.take_end.queue ≡ B.queue e.lane) ends.items }
 {
     let mut seats = Vec::new(alloc);
-    seats.push(seat)?;
-    finished(alloc, board, seats, ends)
+    seats.push(seat).expect(rt, "memory");
+    finished(rt, alloc, board, seats, ends)
 }

@@ -10,9 +10,8 @@ use std::alloc::Global;
 use std::marker::{Brand, Send};
 use std::process::Abort;
 use std::sync::Wait;
-use std::test::Fail;
 use up_dispatch::{Board, BoardParts, Keeper, MAX_SEATS, Naming, Seat, Seated};
-use up_events::{Event, Id};
+use up_events::{Event, Id, NoMemory};
 use up_headers::Request;
 use up_hooks::{Outcome, PostHook, new_recorders};
 use up_lanes::{Lane, Refill, StepEnd};
@@ -69,7 +68,7 @@ fn stepped<B: Naming + Send, H: PostHook + Drop, R: Wait + Abort>(
     alloc: Global,
     parts: BoardParts,
     hooks: Vec<H>,
-) -> Result<(), Fail>
+) -> Result<(), NoMemory>
     requires named { IsNamed B.name B.parts B.queue B.lanes parts }
     requires lanes { length parts.queues ≡ 1 }
     requires sized { B.max_size ≡ 1048576 }
@@ -77,9 +76,7 @@ fn stepped<B: Naming + Send, H: PostHook + Drop, R: Wait + Abort>(
     requires free { B.history ≡ no_history }
 {
     let (board, takes) = Board::<B>::new(alloc, parts, 1_048_576)?;
-    let Some(mut seat) = board.seat(rt) else {
-        return Err("a seat".into());
-    };
+    let mut seat = board.seat(rt).expect(rt, "a seat");
     let mut keeper = Seated::new(rt, &board, &mut seat);
     let status = status_of(alloc, &mut keeper, creation(alloc, Some(0)), Id::new(1));
     expect_same(rt, &status, &201);
@@ -91,10 +88,10 @@ fn stepped<B: Naming + Send, H: PostHook + Drop, R: Wait + Abort>(
 }
 
 #[test]
-fn a_refill_moves_what_found_no_room(rt: HostRuntime) -> Result<(), Fail> {
-    let parts = BoardParts::new(rt.alloc(), 1, 1)?;
-    let hooks = new_recorders(rt.alloc(), 1, |_: &Event| Outcome::Done)?;
-    stepped::<Brand, _, _>(&rt, rt.alloc(), parts, hooks)
+fn a_refill_moves_what_found_no_room(rt: HostRuntime) {
+    let parts = BoardParts::new(rt.alloc(), 1, 1).expect(&rt, "memory");
+    let hooks = new_recorders(rt.alloc(), 1, |_: &Event| Outcome::Done).expect(&rt, "memory");
+    stepped::<Brand, _, _>(&rt, rt.alloc(), parts, hooks).expect(&rt, "memory");
 }
 
 /// The plan of a request: the status of its response, if there is one already, or why the request is refused.
@@ -117,10 +114,10 @@ fn says_that_it_is_closed<B: Naming, R: Wait + Abort>(
     alloc: Global,
     board: &Board<B>,
     seat: &mut Seat<B>,
-) -> Result<(), Fail>
+)
     requires free { B.history ≡ no_history }
 {
-    let append = append(alloc, Id::new(1), 0, b"abc")?;
+    let append = append(alloc, Id::new(1), 0, b"abc").expect(rt, "memory");
     let made = makes(rt, alloc, board, seat, 2, 3);
     let appended = planned(rt, alloc, board, seat, &append);
     let shown = planned(rt, alloc, board, seat, &Request::Head(Id::new(1)));
@@ -129,18 +126,16 @@ fn says_that_it_is_closed<B: Naming, R: Wait + Abort>(
         &(made, appended, shown),
         &(Some(Refusal::Closed), Err(Refusal::Closed), Ok(Some(200))),
     );
-    Ok(())
 }
 
 /// Checks that a closed board refuses requests to create another upload and to complete the upload 1, and still shows
 /// the upload.
-fn refuses<K: Keeper>(rt: &impl Abort, alloc: Global, keeper: &mut K) -> Result<(), Fail> {
-    let append = append(alloc, Id::new(1), 0, b"abc")?;
+fn refuses<K: Keeper>(rt: &impl Abort, alloc: Global, keeper: &mut K) {
+    let append = append(alloc, Id::new(1), 0, b"abc").expect(rt, "memory");
     let made = status_of(alloc, keeper, creation(alloc, Some(3)), Id::new(2));
     let appended = status_of(alloc, keeper, append, Id::new(0));
     let shown = status_of(alloc, keeper, Request::Head(Id::new(1)), Id::new(0));
     expect_same(rt, &[made, appended, shown], &[503, 503, 200]);
-    Ok(())
 }
 
 /// The number of seats that are left, if it is less than that of a board.
@@ -154,28 +149,25 @@ pub fn seats_left<B: Naming, R: Wait>(rt: &R, board: &Board<B>) -> u64 {
 }
 
 /// A board of two lanes that is closed when it has one upload, and all of its seats.
-fn closed<B: Naming, R: Wait + Abort>(rt: &R, alloc: Global, parts: BoardParts) -> Result<(), Fail>
+fn closed<B: Naming, R: Wait + Abort>(rt: &R, alloc: Global, parts: BoardParts)
     requires named { IsNamed B.name B.parts B.queue B.lanes parts }
     requires lanes { length parts.queues ≡ 2 }
     requires sized { B.max_size ≡ 3 }
     requires free { B.history ≡ no_history }
 {
-    let (board, takes) = Board::<B>::new(alloc, parts, 3)?;
+    let (board, takes) = Board::<B>::new(alloc, parts, 3).expect(rt, "memory");
     expect_same(rt, &takes.len(), &2);
-    let Some(mut seat) = board.seat(rt) else {
-        return Err("a seat".into());
-    };
+    let mut seat = board.seat(rt).expect(rt, "a seat");
     expect_same(rt, &makes(rt, alloc, &board, &mut seat, 1, 3), &None);
     board.close(rt);
-    says_that_it_is_closed(rt, alloc, &board, &mut seat)?;
-    refuses(rt, alloc, &mut Seated::new(rt, &board, &mut seat))?;
+    says_that_it_is_closed(rt, alloc, &board, &mut seat);
+    refuses(rt, alloc, &mut Seated::new(rt, &board, &mut seat));
     expect_same(rt, &seat.count(), &1);
     expect_same(rt, &seats_left(rt, &board), &65_535);
-    Ok(())
 }
 
 #[test]
-fn a_closed_board_answers_and_changes_nothing(rt: HostRuntime) -> Result<(), Fail> {
-    let parts = BoardParts::new(rt.alloc(), 2, 1)?;
-    closed::<Brand, _>(&rt, rt.alloc(), parts)
+fn a_closed_board_answers_and_changes_nothing(rt: HostRuntime) {
+    let parts = BoardParts::new(rt.alloc(), 2, 1).expect(&rt, "memory");
+    closed::<Brand, _>(&rt, rt.alloc(), parts);
 }

@@ -1,51 +1,49 @@
 //! Clients that use sockets of this machine.
 use std::alloc::Global;
 use std::io::{Read, Write};
-use std::net::{Shutdown, SocketAddr, TcpListener, TcpStream};
+use std::net::{Net, Shutdown, SocketAddr, TcpListener, TcpStream};
 use std::process::Abort;
-use std::test::Fail;
 
 /// Connects, sends the request, and sends no more. The response can then be read.
-fn ask(rt: &HostRuntime, address: SocketAddr, asked: &[u8]) -> Result<TcpStream, Fail> {
-    let mut stream = TcpStream::connect(rt, address)?;
-    stream.write_all(asked)?;
-    stream.shutdown(Shutdown::Write)?;
-    Ok(stream)
+fn ask<R: Net<Stream = TcpStream> + Abort>(rt: &R, address: SocketAddr, asked: &[u8]) -> TcpStream {
+    let mut stream = TcpStream::connect(rt, address).expect(rt, "a connection");
+    stream.write_all(asked).expect(rt, "a request");
+    stream.shutdown(Shutdown::Write).expect(rt, "its end");
+    stream
 }
 
 /// Connects once for each request, and sends it.
-fn ask_each(
-    rt: &HostRuntime,
+fn ask_each<R: Net<Stream = TcpStream> + Abort>(
+    rt: &R,
+    alloc: Global,
     address: SocketAddr,
     requests: &[&[u8]],
-) -> Result<Vec<TcpStream>, Fail> {
-    let mut clients = Vec::new(rt.alloc());
+) -> Vec<TcpStream> {
+    let mut clients = Vec::new(alloc);
     for asked in requests {
-        clients.push(ask(rt, address, asked)?)?;
+        clients.push(ask(rt, address, asked)).expect(rt, "memory");
     }
-    Ok(clients)
+    clients
 }
 
 /// A new listener, and the connections on which these requests were sent to it, each on one of its own.
-pub fn listen(rt: &HostRuntime, requests: &[&[u8]]) -> Result<(TcpListener, Vec<TcpStream>), Fail> {
-    let listener = TcpListener::bind(rt, "127.0.0.1:0")?;
-    let clients = ask_each(rt, listener.local_addr()?, requests)?;
-    Ok((listener, clients))
+pub fn listen<R: Net<Listener = TcpListener, Stream = TcpStream> + Abort>(
+    rt: &R,
+    alloc: Global,
+    requests: &[&[u8]],
+) -> (TcpListener, Vec<TcpStream>) {
+    let listener = TcpListener::bind(rt, "127.0.0.1:0").expect(rt, "a listener");
+    let address = listener.local_addr().expect(rt, "an address");
+    let clients = ask_each(rt, alloc, address, requests);
+    (listener, clients)
 }
 
 /// Reads the response to its end, and checks its start and its end.
-fn hold_answer(
-    rt: &impl Abort,
-    alloc: Global,
-    client: &mut TcpStream,
-    start: &[u8],
-    end: &[u8],
-) -> Result<(), Fail> {
+fn hold_answer(rt: &impl Abort, alloc: Global, client: &mut TcpStream, start: &[u8], end: &[u8]) {
     let mut answer = Vec::new(alloc);
-    client.read_to_end(&mut answer)?;
+    client.read_to_end(&mut answer).expect(rt, "a response");
     assert!(rt; answer.starts_with(start));
     assert!(rt; answer.ends_with(end));
-    Ok(())
 }
 
 /// Reads the response on each of the connections to its end, and checks its start and its end.
@@ -55,9 +53,8 @@ pub fn hold_answers(
     clients: &mut [TcpStream],
     start: &[u8],
     end: &[u8],
-) -> Result<(), Fail> {
+) {
     for client in clients {
-        hold_answer(rt, alloc, client, start, end)?;
+        hold_answer(rt, alloc, client, start, end);
     }
-    Ok(())
 }

@@ -8,7 +8,6 @@ use std::alloc::Global;
 use std::marker::Brand;
 use std::process::Abort;
 use std::sync::{Mutex, Wait};
-use std::test::Fail;
 use up_dispatch::{
     Board, BoardParts, Counting, Ended, Exchange, Ids, Keeper, Lent, Naming, Seat, Seated,
     SharedIds, converse,
@@ -76,11 +75,11 @@ fn hold<K: Keeper, I: Ids, R: Abort>(
     ids: &mut I,
     asked: &str,
     wanted: (Ended, &str),
-) -> Result<(), Fail> {
+) {
     let hooks = PreHooks::new(Vec::new(alloc));
     let (ended, written) = talk(alloc, keeper, &hooks, ids, asked.as_bytes());
-    expect_same(rt, &(ended, str::from_utf8(&written)?), &wanted);
-    Ok(())
+    let written = str::from_utf8(&written).expect(rt, "text");
+    expect_same(rt, &(ended, written), &wanted);
 }
 
 /// The same from a seat of a board, with these ids.
@@ -92,7 +91,7 @@ fn hold_from<B: Naming, R: Wait + Abort>(
     ids: &Mutex<Counting>,
     asked: &str,
     wanted: (Ended, &str),
-) -> Result<(), Fail>
+)
     requires free { B.history ≡ no_history }
 {
     let mut keeper = Seated::new(rt, board, seat);
@@ -103,21 +102,16 @@ fn hold_from<B: Naming, R: Wait + Abort>(
         &mut SharedIds { rt, ids },
         asked,
         wanted,
-    )
+    );
 }
 
 /// The upload is created from one seat and requested from the other, with one source of ids. The append gets no
 /// response, and the bytes that arrived before it broke off are there.
-fn talk_from_two_seats<B: Naming, R: Wait + Abort>(
-    rt: &R,
-    alloc: Global,
-    board: &Board<B>,
-) -> Result<(), Fail>
+fn talk_from_two_seats<B: Naming, R: Wait + Abort>(rt: &R, alloc: Global, board: &Board<B>)
     requires free { B.history ≡ no_history }
 {
-    let (Some(mut first), Some(mut second)) = (board.seat(rt), board.seat(rt)) else {
-        return Err("a seat".into());
-    };
+    let mut first = board.seat(rt).expect(rt, "a seat");
+    let mut second = board.seat(rt).expect(rt, "another seat");
     let ids = Mutex::new(Counting::new());
     hold_from(
         rt,
@@ -127,7 +121,7 @@ fn talk_from_two_seats<B: Naming, R: Wait + Abort>(
         &ids,
         CUT,
         (Ended::Cut, CREATED),
-    )?;
+    );
     hold_from(
         rt,
         alloc,
@@ -136,30 +130,25 @@ fn talk_from_two_seats<B: Naming, R: Wait + Abort>(
         &ids,
         HEAD,
         (Ended::Closed, FOUR),
-    )?;
+    );
     expect_same(rt, &(first.count(), second.count()), &(2, 0));
-    Ok(())
 }
 
 /// Two seats of a new board with these parts.
-fn two_seats<B: Naming, R: Wait + Abort>(
-    rt: &R,
-    alloc: Global,
-    parts: BoardParts,
-) -> Result<(), Fail>
+fn two_seats<B: Naming, R: Wait + Abort>(rt: &R, alloc: Global, parts: BoardParts)
     requires named { IsNamed B.name B.parts B.queue B.lanes parts }
     requires lanes { length parts.queues ≡ 2 }
     requires sized { B.max_size ≡ 1048576 }
     requires free { B.history ≡ no_history }
 {
-    let (board, _takes) = Board::<B>::new(alloc, parts, MAX_SIZE)?;
-    talk_from_two_seats(rt, alloc, &board)
+    let (board, _takes) = Board::<B>::new(alloc, parts, MAX_SIZE).expect(rt, "memory");
+    talk_from_two_seats(rt, alloc, &board);
 }
 
 #[test]
-fn shows_one_seat_what_another_did(rt: HostRuntime) -> Result<(), Fail> {
-    let parts = BoardParts::new(rt.alloc(), 2, 1)?;
-    two_seats::<Brand, _>(&rt, rt.alloc(), parts)
+fn shows_one_seat_what_another_did(rt: HostRuntime) {
+    let parts = BoardParts::new(rt.alloc(), 2, 1).expect(&rt, "memory");
+    two_seats::<Brand, _>(&rt, rt.alloc(), parts);
 }
 
 /// A source that has only one id.
@@ -177,8 +166,8 @@ impl Ids for Five {
 }
 
 #[test]
-fn never_gives_an_id_again(rt: HostRuntime) -> Result<(), Fail> {
-    let mut book = Book::new(rt.alloc(), 2, MAX_SIZE)?;
+fn never_gives_an_id_again(rt: HostRuntime) {
+    let mut book = Book::new(rt.alloc(), 2, MAX_SIZE).expect(&rt, "memory");
     let replies = "HTTP/1.1 201 Created\r\nTus-Resumable: 1.0.0\r\nCache-Control: no-store\r\n\
         Location: /files/00000000000000000000000000000005\r\nContent-Length: 0\r\n\r\n\
         HTTP/1.1 500 Internal Server Error\r\nTus-Resumable: 1.0.0\r\nCache-Control: no-store\r\n\
@@ -194,7 +183,7 @@ fn never_gives_an_id_again(rt: HostRuntime) -> Result<(), Fail> {
         &mut Five,
         CREATIONS,
         (Ended::Closed, replies),
-    )
+    );
 }
 
 #[test]

@@ -13,7 +13,6 @@ use std::alloc::Global;
 use std::marker::{Brand, Send, Sync};
 use std::process::Abort;
 use std::sync::Wait;
-use std::test::Fail;
 use std::thread::Threads;
 use up_dispatch::{Board, BoardParts, Keeper, LaneReport, Naming, Report, Seat, Seated, answer};
 use up_events::{Accepted, Event, Hook, Id, Kind};
@@ -29,7 +28,7 @@ pub fn status_of<K: Keeper>(alloc: Global, keeper: &mut K, request: Request, id:
 }
 
 /// Creates five uploads of two bytes, then appends a byte to each, and then the other byte to each.
-fn fifteen<K: Keeper, R: Abort>(rt: &R, alloc: Global, keeper: &mut K) -> Result<(), Fail> {
+fn fifteen<K: Keeper, R: Abort>(rt: &R, alloc: Global, keeper: &mut K) {
     for number in 1..6u8 {
         let id = Id::new(u128::from(number));
         let request = creation(alloc, Some(2));
@@ -37,26 +36,21 @@ fn fifteen<K: Keeper, R: Abort>(rt: &R, alloc: Global, keeper: &mut K) -> Result
     }
     for offset in 0..2u64 {
         for number in 1..6u8 {
-            let request = append(alloc, Id::new(u128::from(number)), offset, b"a")?;
+            let request = append(alloc, Id::new(u128::from(number)), offset, b"a").expect(
+                rt, "memory",
+            );
             expect_same(rt, &status_of(alloc, keeper, request, Id::new(0)), &204);
         }
     }
-    Ok(())
 }
 
 /// A seat of the board from which these requests were made.
-pub fn answered<B: Naming, R: Wait + Abort>(
-    rt: &R,
-    alloc: Global,
-    board: &Board<B>,
-) -> Result<Seat<B>, Fail>
+pub fn answered<B: Naming, R: Wait + Abort>(rt: &R, alloc: Global, board: &Board<B>) -> Seat<B>
     requires free { B.history ≡ no_history }
 {
-    let Some(mut seat) = board.seat(rt) else {
-        return Err("a seat".into());
-    };
-    fifteen(rt, alloc, &mut Seated::new(rt, board, &mut seat))?;
-    Ok(seat)
+    let mut seat = board.seat(rt).expect(rt, "a seat");
+    fifteen(rt, alloc, &mut Seated::new(rt, board, &mut seat));
+    seat
 }
 
 fn made(id: u128) -> Accepted {
@@ -143,7 +137,7 @@ fn crowded<B: Naming + Send + Sync, H: PostHook + Drop, R: Threads + Wait + Abor
     alloc: Global,
     parts: BoardParts,
     hooks: (H, H),
-) -> Result<Report<H>, Fail>
+) -> Report<H>
     requires named { IsNamed B.name B.parts B.queue B.lanes parts }
     requires lanes { length parts.queues ≡ 2 }
     requires sized { B.max_size ≡ 1048576 }
@@ -151,12 +145,12 @@ fn crowded<B: Naming + Send + Sync, H: PostHook + Drop, R: Threads + Wait + Abor
     requires second { H.is_sound hooks.1 × (H.handed hooks.1 ≡ []) }
     requires free { B.history ≡ no_history }
 {
-    let (board, lanes) = open_board::<B, _>(alloc, parts, hooks, true)?;
-    let seat = answered(rt, alloc, &board)?;
+    let (board, lanes) = open_board::<B, _, _>(rt, alloc, parts, hooks, true);
+    let seat = answered(rt, alloc, &board);
     board.close(rt);
     board.close(rt);
-    let ends = run_each(rt, &board, &board, lanes)?;
-    finished_from(alloc, board, seat, ends)
+    let ends = run_each(rt, &board, &board, lanes).expect(rt, "memory");
+    finished_from(rt, alloc, board, seat, ends)
 }
 
 /// Checks that a lane is drained, and that its post-hook was handed these events and returned `Done` for each.
@@ -173,24 +167,23 @@ fn hold_lane<F, R: Abort>(rt: &R, lane: &LaneReport<Recorder<F>>, number: u64, e
 }
 
 /// Checks that a report is that of the fifteen requests.
-fn hold<F, R: Abort>(rt: &R, report: &Report<Recorder<F>>) -> Result<(), Fail> {
+fn hold<F, R: Abort>(rt: &R, report: &Report<Recorder<F>>) {
     let (Some(accepted), [first, second]) = (report.accepted.list(), report.lanes.as_slice()) else {
-        return Err("changes that are kept, and two lanes".into());
+        rt.panic("no changes that are kept, or not two lanes");
     };
     expect_same(rt, &accepted, &changes().as_slice());
     hold_lane(rt, first, 0, &events_of_lane_0());
     hold_lane(rt, second, 1, &events_of_lane_1());
-    Ok(())
 }
 
 #[test]
-fn answers_before_any_lane_takes(rt: HostRuntime) -> Result<(), Fail> {
-    let parts = BoardParts::new(rt.alloc(), 2, 1)?;
+fn answers_before_any_lane_takes(rt: HostRuntime) {
+    let parts = BoardParts::new(rt.alloc(), 2, 1).expect(&rt, "memory");
     let done = |_: &Event| Outcome::Done;
     let hooks = (
         Recorder::new(rt.alloc(), done),
         Recorder::new(rt.alloc(), done),
     );
-    let report = crowded::<Brand, _, _>(&rt, rt.alloc(), parts, hooks)?;
-    hold(&rt, &report)
+    let report = crowded::<Brand, _, _>(&rt, rt.alloc(), parts, hooks);
+    hold(&rt, &report);
 }

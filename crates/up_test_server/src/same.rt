@@ -1,7 +1,6 @@
 //! The comparison of what a test finds with what it wants.
 use std::fmt::Debug;
 use std::process::Abort;
-use std::test::Fail;
 
 /// Checks that two values are the same. If they differ, shows both and ends the test.
 pub fn expect_same<T: Debug + PartialEq, R: Abort>(rt: &R, found: &T, wanted: &T) {
@@ -9,7 +8,6 @@ pub fn expect_same<T: Debug + PartialEq, R: Abort>(rt: &R, found: &T, wanted: &T
 }
 
 /// Checks that the bytes are this text.
-pub fn expect_text(rt: &impl Abort, found: &[u8], wanted: &str) -> Result<(), Fail> {
-    expect_same(rt, &str::from_utf8(found)?, &wanted);
-    Ok(())
+pub fn expect_text(rt: &impl Abort, found: &[u8], wanted: &str) {
+    expect_same(rt, &str::from_utf8(found).expect(rt, "text"), &wanted);
 }

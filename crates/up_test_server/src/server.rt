@@ -7,17 +7,10 @@ mod scarce;
 
 use crate::same::expect_same;
 use std::process::Abort;
-use std::test::Fail;
 use up_server::ServerFault;
 
 /// Checks a run that must end without an error and write this.
-fn hold(
-    rt: &impl Abort,
-    ended: Result<(), ServerFault>,
-    written: &[u8],
-    wanted: &str,
-) -> Result<(), Fail> {
-    let text = str::from_utf8(written)?;
+fn hold(rt: &impl Abort, ended: Result<(), ServerFault>, written: &[u8], wanted: &str) {
+    let text = str::from_utf8(written).expect(rt, "text");
     expect_same(rt, &(ended, text), &(Ok(()), wanted));
-    Ok(())
 }

@@ -4,7 +4,6 @@ use crate::same::expect_same;
 use std::alloc::Global;
 use std::io::{self, BufReader, Read};
 use std::process::Abort;
-use std::test::Fail;
 use up_dispatch::{Counting, Ended, converse_by_book};
 use up_events::Id;
 use up_hooks::PreHooks;
@@ -66,8 +65,8 @@ type Wanted<'a> = ([&'a str; 2], Left);
 const SERVED: Left = (Ended::Closed, 2, Some(11));
 
 /// Serves a conversation with a new book.
-fn serve<S: Source>(alloc: Global, source: &mut S, sink: &mut Slip) -> Result<Left, Fail> {
-    let mut book = Book::new(alloc, 2, MAX_SIZE)?;
+fn serve<S: Source>(rt: &impl Abort, alloc: Global, source: &mut S, sink: &mut Slip) -> Left {
+    let mut book = Book::new(alloc, 2, MAX_SIZE).expect(rt, "memory");
     let hooks = PreHooks::new(Vec::new(alloc));
     let mut ids = Counting::new();
     let ended = converse_by_book(alloc, &mut book, &hooks, &mut ids, MAX_SIZE, source, sink);
@@ -75,7 +74,7 @@ fn serve<S: Source>(alloc: Global, source: &mut S, sink: &mut Slip) -> Result<Le
         Some(view) => Some(view.offset),
         None => None,
     };
-    Ok((ended, book.journal().accepted().len(), offset))
+    (ended, book.journal().accepted().len(), offset)
 }
 
 /// Serves a conversation, and checks the replies and what it leaves. If they differ, `at` is reported.
@@ -86,13 +85,12 @@ fn hold<S: Source, R: Abort>(
     writes: u64,
     ([first, second], wanted): Wanted,
     at: u64,
-) -> Result<(), Fail> {
-    let mut sink = Slip::new(alloc, ROOM, writes)?;
-    let left = serve(alloc, source, &mut sink)?;
-    let text = format!(in alloc; "{first}{second}")?;
-    let written = str::from_utf8(sink.bytes())?;
+) {
+    let mut sink = Slip::new(alloc, ROOM, writes).expect(rt, "memory");
+    let left = serve(rt, alloc, source, &mut sink);
+    let text = format!(in alloc; "{first}{second}").expect(rt, "memory");
+    let written = str::from_utf8(sink.bytes()).expect(rt, "text");
     expect_same(rt, &(at, left, written), &(at, wanted, text.as_str()));
-    Ok(())
 }
 
 /// The expected result if the input ends after this number of bytes, or a read fails there.
@@ -112,13 +110,13 @@ fn wanted_after(count: u64, fails: bool) -> Wanted<'static> {
 }
 
 #[test]
-fn serves_what_came_before_any_break(rt: HostRuntime) -> Result<(), Fail> {
+fn serves_what_came_before_any_break(rt: HostRuntime) {
     expect_same(&rt, &INPUT.len(), &260);
     for fails in [false, true] {
         for count in 0..261usize {
             let mut source = Tape::new(&INPUT.as_bytes()[..count], 0, fails);
             let wanted = wanted_after(count as u64, fails);
-            hold(&rt, rt.alloc(), &mut source, 0, wanted, count as u64)?;
+            hold(&rt, rt.alloc(), &mut source, 0, wanted, count as u64);
         }
     }
     let wanted = (["", ""], (Ended::Closed, 0, None));
@@ -129,7 +127,7 @@ fn serves_what_came_before_any_break(rt: HostRuntime) -> Result<(), Fail> {
         0,
         wanted,
         2,
-    )
+    );
 }
 
 /// What is left if a write fails once this number of bytes is written.
@@ -142,26 +140,29 @@ fn left_after(count: usize) -> Left {
 }
 
 /// Checks what is written, and what is left, if there is only room for these replies.
-fn hold_room(rt: &impl Abort, alloc: Global, replies: &[u8]) -> Result<(), Fail> {
+fn hold_room(rt: &impl Abort, alloc: Global, replies: &[u8]) {
     let room = replies.len();
-    let mut sink = Slip::new(alloc, room, 0)?;
-    let left = serve(alloc, &mut Tape::new(INPUT.as_bytes(), 0, false), &mut sink)?;
+    let mut sink = Slip::new(alloc, room, 0).expect(rt, "memory");
+    let left = serve(
+        rt,
+        alloc,
+        &mut Tape::new(INPUT.as_bytes(), 0, false),
+        &mut sink,
+    );
     expect_same(
         rt,
         &(room, left, sink.bytes()),
         &(room, left_after(room), replies),
     );
-    Ok(())
 }
 
 #[test]
-fn stops_at_any_write_that_fails(rt: HostRuntime) -> Result<(), Fail> {
-    let replies = format!(in rt.alloc(); "{CREATED}{REACHED}")?;
+fn stops_at_any_write_that_fails(rt: HostRuntime) {
+    let replies = format!(in rt.alloc(); "{CREATED}{REACHED}").expect(&rt, "memory");
     expect_same(&rt, &(CREATED.len(), replies.len()), &(141, 234));
     for room in 0..235usize {
-        hold_room(&rt, rt.alloc(), &replies.as_bytes()[..room])?;
+        hold_room(&rt, rt.alloc(), &replies.as_bytes()[..room]);
     }
-    Ok(())
 }
 
 /// How often each read and each write is interrupted, whether the replies are written, and what is left.
@@ -181,26 +182,19 @@ static INTERRUPTED_WHILE_WAITING: [Row; 2] = [
 ];
 
 /// Serves the input once for each row, and checks the replies, or that there is none, and what is left.
-fn hold_rows(
-    rt: &impl Abort,
-    alloc: Global,
-    input: &str,
-    replies: [&str; 2],
-    rows: &[Row],
-) -> Result<(), Fail> {
+fn hold_rows(rt: &impl Abort, alloc: Global, input: &str, replies: [&str; 2], rows: &[Row]) {
     for (reads, writes, are_written, left) in rows {
         let replies = if *are_written { replies } else { ["", ""] };
         let mut source = Tape::new(input.as_bytes(), *reads, false);
-        hold(rt, alloc, &mut source, *writes, (replies, *left), *reads)?;
+        hold(rt, alloc, &mut source, *writes, (replies, *left), *reads);
     }
-    Ok(())
 }
 
 #[test]
-fn counts_the_interruptions_of_each_call(rt: HostRuntime) -> Result<(), Fail> {
+fn counts_the_interruptions_of_each_call(rt: HostRuntime) {
     let (both, told) = ([CREATED, REACHED], [CONTINUE, NOT_FOUND]);
-    hold_rows(&rt, rt.alloc(), INPUT, both, &INTERRUPTED)?;
-    hold_rows(&rt, rt.alloc(), WAITING, told, &INTERRUPTED_WHILE_WAITING)
+    hold_rows(&rt, rt.alloc(), INPUT, both, &INTERRUPTED);
+    hold_rows(&rt, rt.alloc(), WAITING, told, &INTERRUPTED_WHILE_WAITING);
 }
 
 /// A reader that returns one byte per call.
@@ -221,17 +215,18 @@ impl<'a> Read for Dripping<'a> {
 }
 
 /// Serves the input from three sources, of which the last returns one byte per call.
-fn hold_each(rt: &impl Abort, alloc: Global, input: &str, wanted: Wanted) -> Result<(), Fail> {
+fn hold_each(rt: &impl Abort, alloc: Global, input: &str, wanted: Wanted) {
     let bytes = input.as_bytes();
-    hold(rt, alloc, &mut Tape::new(bytes, 0, false), 0, wanted, 1)?;
-    hold(rt, alloc, &mut Input::new(bytes), 0, wanted, 2)?;
-    let mut drops = Input::new(BufReader::new(alloc, Dripping { bytes })?);
-    hold(rt, alloc, &mut drops, 0, wanted, 3)
+    hold(rt, alloc, &mut Tape::new(bytes, 0, false), 0, wanted, 1);
+    hold(rt, alloc, &mut Input::new(bytes), 0, wanted, 2);
+    let reader = BufReader::new(alloc, Dripping { bytes }).expect(rt, "memory");
+    let mut drops = Input::new(reader);
+    hold(rt, alloc, &mut drops, 0, wanted, 3);
 }
 
 #[test]
-fn takes_one_byte_at_a_time_as_all_at_once(rt: HostRuntime) -> Result<(), Fail> {
+fn takes_one_byte_at_a_time_as_all_at_once(rt: HostRuntime) {
     let wanted = ([CREATED, REACHED], SERVED);
-    hold_each(&rt, rt.alloc(), INPUT, wanted)?;
-    hold_each(&rt, rt.alloc(), IN_CHUNKS, wanted)
+    hold_each(&rt, rt.alloc(), INPUT, wanted);
+    hold_each(&rt, rt.alloc(), IN_CHUNKS, wanted);
 }

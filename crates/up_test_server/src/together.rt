@@ -10,7 +10,6 @@ use std::alloc::Global;
 use std::marker::{Brand, Send, Sync};
 use std::process::Abort;
 use std::sync::Wait;
-use std::test::Fail;
 use std::thread;
 use std::thread::Threads;
 use up_dispatch::{Board, BoardParts, Naming, Report, Seat};
@@ -71,7 +70,7 @@ fn change<B: Naming, R: Wait>(rt: &R, alloc: Global, board: &Board<B>, mut seat:
 }
 
 /// Every event of each upload was handed over: its creation, and then one more byte each time.
-fn tells_all<F, R: Abort>(rt: &R, report: &Report<Recorder<F>>) -> Result<(), Fail> {
+fn tells_all<F, R: Abort>(rt: &R, report: &Report<Recorder<F>>) {
     expect_same(
         rt,
         &report.accepted.len(),
@@ -100,47 +99,43 @@ fn tells_all<F, R: Abort>(rt: &R, report: &Report<Recorder<F>>) -> Result<(), Fa
         }
     }
     expect_same(rt, &counts, &[201; UPLOADS]);
-    Ok(())
 }
 
 /// A seat from which the uploads were created, and two others.
-fn seats_of<B: Naming, R: Wait>(
+fn seats_of<B: Naming, R: Wait + Abort>(
     rt: &R,
     alloc: Global,
     board: &Board<B>,
-) -> Result<(Seat<B>, Vec<Seat<B>>), Fail>
+) -> (Seat<B>, Vec<Seat<B>>)
     requires free { B.history ≡ no_history }
 {
-    let (Some(mut maker), Some(first), Some(second)) = (
-        board.seat(rt),
-        board.seat(rt),
-        board.seat(rt),
-    ) else {
-        return Err("three seats".into());
-    };
-    let others = list_of(alloc, first, second)?;
+    let mut maker = board.seat(rt).expect(rt, "a seat");
+    let first = board.seat(rt).expect(rt, "a second seat");
+    let second = board.seat(rt).expect(rt, "a third seat");
+    let others = list_of(alloc, first, second).expect(rt, "memory");
     for upload in 0..UPLOADS {
         make(rt, alloc, board, &mut maker, Id::new(upload as u128));
     }
-    Ok((maker, others))
+    (maker, others)
 }
 
 /// Makes the changes from each seat, in a thread of its own.
-fn change_each<B: Naming + Send + Sync, R: Threads + Wait + Sync>(
+fn change_each<B: Naming + Send + Sync, R: Threads + Wait + Abort + Sync>(
     rt: &R,
     alloc: Global,
     board: &Board<B>,
     seats: Vec<Seat<B>>,
-) -> Result<Vec<Seat<B>>, Fail>
+) -> Vec<Seat<B>>
     requires free { B.history ≡ no_history }
 {
-    Ok(thread::map_vec(
+    thread::map_vec(
         rt,
         seats,
         &|seat: Seat<B>| -> Seat<B>
             requires { B.history ≡ no_history }
         { change(rt, alloc, board, seat) },
-    )?)
+    )
+    .expect(rt, "memory")
 }
 
 /// The report of a board of two lanes whose uploads are changed from two seats at once.
@@ -150,7 +145,7 @@ fn changed_at_once<B: Naming + Send + Sync, H: PostHook + Drop, R: Threads + Wai
     parts: BoardParts,
     hooks: (H, H),
     keeps: bool,
-) -> Result<Report<H>, Fail>
+) -> Report<H>
     requires named { IsNamed B.name B.parts B.queue B.lanes parts }
     requires lanes { length parts.queues ≡ 2 }
     requires sized { B.max_size ≡ 1048576 }
@@ -158,39 +153,39 @@ fn changed_at_once<B: Naming + Send + Sync, H: PostHook + Drop, R: Threads + Wai
     requires second { H.is_sound hooks.1 × (H.handed hooks.1 ≡ []) }
     requires free { B.history ≡ no_history }
 {
-    let (board, lanes) = open_board::<B, _>(alloc, parts, hooks, keeps)?;
-    let (maker, others) = seats_of(rt, alloc, &board)?;
+    let (board, lanes) = open_board::<B, _, _>(rt, alloc, parts, hooks, keeps);
+    let (maker, others) = seats_of(rt, alloc, &board);
     let shared = &board;
     let (mut seats, ends) = run_beside(
         rt,
         shared,
         shared,
         lanes,
-        || -> Result<Vec<Seat<B>>, Fail>
+        || -> Vec<Seat<B>>
             requires { B.history ≡ no_history }
         { change_each(rt, alloc, shared, others) },
-    )?;
-    seats.push(maker)?;
-    finished(alloc, board, seats, ends)
+    );
+    seats.push(maker).expect(rt, "memory");
+    finished(rt, alloc, board, seats, ends)
 }
 
 /// Checks that everything is reported about a board that is changed from two seats at once. A board that counts its
 /// changes has no list of them. So only their number is compared, and each event that was handed over.
-fn hold<R: Threads + Wait + Abort + Sync>(rt: &R, alloc: Global, keeps: bool) -> Result<(), Fail> {
-    let parts = BoardParts::new(alloc, 2, 4)?;
+fn hold<R: Threads + Wait + Abort + Sync>(rt: &R, alloc: Global, keeps: bool) {
+    let parts = BoardParts::new(alloc, 2, 4).expect(rt, "memory");
     let done = |_: &Event| Outcome::Done;
     let hooks = (Recorder::new(alloc, done), Recorder::new(alloc, done));
-    let report = changed_at_once::<Brand, _, _>(rt, alloc, parts, hooks, keeps)?;
+    let report = changed_at_once::<Brand, _, _>(rt, alloc, parts, hooks, keeps);
     expect_same(rt, &report.accepted.list().is_some(), &keeps);
-    tells_all(rt, &report)
+    tells_all(rt, &report);
 }
 
 #[test]
-fn two_seats_at_once(rt: HostRuntime) -> Result<(), Fail> {
-    hold(&rt, rt.alloc(), true)
+fn two_seats_at_once(rt: HostRuntime) {
+    hold(&rt, rt.alloc(), true);
 }
 
 #[test]
-fn two_seats_of_a_board_that_counts(rt: HostRuntime) -> Result<(), Fail> {
-    hold(&rt, rt.alloc(), false)
+fn two_seats_of_a_board_that_counts(rt: HostRuntime) {
+    hold(&rt, rt.alloc(), false);
 }

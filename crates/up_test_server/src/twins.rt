@@ -9,11 +9,10 @@ ghost use Rattle.up_hooks.specs.Verdicts.{is_allowed_verdict};
 use crate::beside::{finished_from, open_board, run_beside};
 use crate::conversations::talk;
 use crate::same::expect_same;
-use std::alloc::{AllocError, Global};
+use std::alloc::Global;
 use std::marker::{Brand, Send, Sync};
 use std::process::Abort;
 use std::sync::Wait;
-use std::test::Fail;
 use std::thread::Threads;
 use up_dispatch::{Board, BoardParts, Counting, Ended, Lent, Naming, Report, Seat, Seated};
 use up_events::{Accepted, Changes, Event};
@@ -81,19 +80,19 @@ static RULED: &str =
 type Told = (Ended, Vec<u8>);
 
 /// Serves the conversation from a seat of the board.
-fn told_from<B: Naming, R: Wait>(
+fn told_from<B: Naming, R: Wait + Abort>(
     rt: &R,
     alloc: Global,
     board: &Board<B>,
     hooks: &PreHooks,
     asked: &[u8],
-) -> Result<(Seat<B>, Told), Fail>
+) -> (Seat<B>, Told)
     requires free { B.history ≡ no_history }
 {
-    let mut seat = board.seat(rt).ok_or("a seat")?;
+    let mut seat = board.seat(rt).expect(rt, "a seat");
     let mut keeper = Seated::new(rt, board, &mut seat);
     let told = talk(alloc, &mut keeper, hooks, &mut Counting::new(), asked);
-    Ok((seat, told))
+    (seat, told)
 }
 
 /// Serves the conversation from a seat of a new board whose two lanes run meanwhile.
@@ -105,7 +104,7 @@ fn on_board<B: Naming + Send + Sync, H: PostHook + Drop, R: Threads + Wait + Abo
     hooks: &PreHooks,
     asked: &[u8],
     keeps: bool,
-) -> Result<(Report<H>, Told), Fail>
+) -> (Report<H>, Told)
     requires named { IsNamed B.name B.parts B.queue B.lanes parts }
     requires lanes { length parts.queues ≡ 2 }
     requires sized { B.max_size ≡ 1048576 }
@@ -113,18 +112,18 @@ fn on_board<B: Naming + Send + Sync, H: PostHook + Drop, R: Threads + Wait + Abo
     requires second { H.is_sound recorders.1 × (H.handed recorders.1 ≡ []) }
     requires free { B.history ≡ no_history }
 {
-    let (board, lanes) = open_board::<B, _>(alloc, parts, recorders, keeps)?;
+    let (board, lanes) = open_board::<B, _, _>(rt, alloc, parts, recorders, keeps);
     let shared = &board;
     let ((seat, told), ends) = run_beside(
         rt,
         shared,
         shared,
         lanes,
-        || -> Result<(Seat<B>, Told), Fail>
+        || -> (Seat<B>, Told)
             requires { B.history ≡ no_history }
         { told_from(rt, alloc, shared, hooks, asked) },
-    )?;
-    Ok((finished_from(alloc, board, seat, ends)?, told))
+    );
+    (finished_from(rt, alloc, board, seat, ends), told)
 }
 
 /// Serves the conversation with a new board of two lanes, and returns its end and output, and the accepted changes.
@@ -134,12 +133,12 @@ fn reported<R: Threads + Wait + Abort + Sync>(
     hooks: &PreHooks,
     asked: &[u8],
     keeps: bool,
-) -> Result<(Told, Changes), Fail> {
-    let parts = BoardParts::new(alloc, 2, 1)?;
+) -> (Told, Changes) {
+    let parts = BoardParts::new(alloc, 2, 1).expect(rt, "memory");
     let done = |_: &Event| Outcome::Done;
     let recorders = (Recorder::new(alloc, done), Recorder::new(alloc, done));
-    let (report, told) = on_board::<Brand, _, _>(rt, alloc, parts, recorders, hooks, asked, keeps)?;
-    Ok((told, report.accepted))
+    let (report, told) = on_board::<Brand, _, _>(rt, alloc, parts, recorders, hooks, asked, keeps);
+    (told, report.accepted)
 }
 
 /// Checks that a board gives the responses that the book gave to a conversation, and that it accepts this number of
@@ -152,12 +151,11 @@ fn hold_board<R: Threads + Wait + Abort + Sync>(
     by_book: &Told,
     list: Option<&[Accepted]>,
     count: u64,
-) -> Result<(), Fail> {
-    let (by_board, accepted) = reported(rt, alloc, hooks, asked, list.is_some())?;
+) {
+    let (by_board, accepted) = reported(rt, alloc, hooks, asked, list.is_some());
     expect_same(rt, &by_board, by_book);
     expect_same(rt, &accepted.list(), &list);
     expect_same(rt, &accepted.len(), &count);
-    Ok(())
 }
 
 /// Checks that a book alone and boards of both kinds give the same responses to a conversation, and accept the same
@@ -169,13 +167,13 @@ fn hold<R: Threads + Wait + Abort + Sync>(
     hooks: &PreHooks,
     asked: &str,
     count: u64,
-) -> Result<(), Fail> {
-    let mut book = Book::new(alloc, 2, 1_048_576)?;
+) {
+    let mut book = Book::new(alloc, 2, 1_048_576).expect(rt, "memory");
     let asked = asked.as_bytes();
     let by_book = talked(alloc, &mut book, hooks, asked);
     let list = Some(book.journal().accepted());
-    hold_board(rt, alloc, hooks, asked, &by_book, list, count)?;
-    hold_board(rt, alloc, hooks, asked, &by_book, None, count)
+    hold_board(rt, alloc, hooks, asked, &by_book, list, count);
+    hold_board(rt, alloc, hooks, asked, &by_book, None, count);
 }
 
 /// Serves the conversation with the book alone.
@@ -185,9 +183,9 @@ fn talked(alloc: Global, book: &mut Book, hooks: &PreHooks, asked: &[u8]) -> Tol
 }
 
 #[test]
-fn a_book_and_a_board_answer_and_accept_the_same(rt: HostRuntime) -> Result<(), Fail> {
+fn a_book_and_a_board_answer_and_accept_the_same(rt: HostRuntime) {
     let hooks = PreHooks::new(Vec::new(rt.alloc()));
-    hold(&rt, rt.alloc(), &hooks, TALK, 15)
+    hold(&rt, rt.alloc(), &hooks, TALK, 15);
 }
 
 /// Refuses a new upload whose metadata does not have the key.
@@ -216,7 +214,7 @@ fn keeps() -> Verdict
 }
 
 /// These two rules.
-fn rules(alloc: Global) -> Result<PreHooks, AllocError> {
+fn rules(rt: &impl Abort, alloc: Global) -> PreHooks {
     let key = |ask: &Ask| -> Verdict
         ensures { IsTrue (is_allowed_verdict result) }
     { needs_a_key(ask) };
@@ -224,13 +222,19 @@ fn rules(alloc: Global) -> Result<PreHooks, AllocError> {
         ensures { IsTrue (is_allowed_verdict result) }
     { keeps() };
     let mut hooks = Vec::new(alloc);
-    hooks.push(PreHook::new(Point::Create, Box::new(alloc, key)?))?;
-    hooks.push(PreHook::new(Point::Terminate, Box::new(alloc, keep)?))?;
-    Ok(PreHooks::new(hooks))
+    let key = Box::new(alloc, key).expect(rt, "memory");
+    hooks
+        .push(PreHook::new(Point::Create, key))
+        .expect(rt, "memory");
+    let keep = Box::new(alloc, keep).expect(rt, "memory");
+    hooks
+        .push(PreHook::new(Point::Terminate, keep))
+        .expect(rt, "memory");
+    PreHooks::new(hooks)
 }
 
 #[test]
-fn a_book_and_a_board_keep_the_same_rules(rt: HostRuntime) -> Result<(), Fail> {
-    let hooks = rules(rt.alloc())?;
-    hold(&rt, rt.alloc(), &hooks, RULED, 1)
+fn a_book_and_a_board_keep_the_same_rules(rt: HostRuntime) {
+    let hooks = rules(&rt, rt.alloc());
+    hold(&rt, rt.alloc(), &hooks, RULED, 1);
 }

@@ -102,11 +102,11 @@ fn wakes<B: Naming, R: Wait + Abort>(
     alloc: Global,
     watched: &Watched<B>,
     mut seat: Seat<B>,
-) -> Result<Seat<B>, Fail>
+) -> Seat<B>
     requires free { B.history ≡ no_history }
 {
     expect_same(rt, &watched.settled(rt, (2, 0)), &(2, 0));
-    let request = append(alloc, Id::new(1), 0, b"a")?;
+    let request = append(alloc, Id::new(1), 0, b"a").expect(rt, "memory");
     let mut keeper = Seated::new(rt, &watched.board, &mut seat);
     expect_same(
         rt,
@@ -114,7 +114,7 @@ fn wakes<B: Naming, R: Wait + Abort>(
         &204,
     );
     expect_same(rt, &watched.settled(rt, (3, 1)), &(3, 1));
-    Ok(seat)
+    seat
 }
 
 /// A board that is returned because a seat is out.
@@ -143,12 +143,12 @@ fn both_back<B: Naming, H: PostHook + Drop, R: Wait + Abort>(
     first: Seat<B>,
     second: Seat<B>,
     ends: Vec<LaneEnd<H>>,
-) -> Result<Report<H>, Fail>
+) -> Report<H>
     requires own { All (λ e. e.take_end.queue ≡ B.queue e.lane) ends.items }
 {
     expect_same(rt, &seats_left(rt, &board), &65_534);
-    let seats = list_of(alloc, first, second)?;
-    finished(alloc, board, seats, ends)
+    let seats = list_of(alloc, first, second).expect(rt, "memory");
+    finished(rt, alloc, board, seats, ends)
 }
 
 /// The report of a board with one seat out, whose lanes run until they were woken by a change from another seat.
@@ -158,11 +158,11 @@ fn woken<B: Naming + Send + Sync, H: PostHook + Drop, R: Threads + Wait + Abort 
     board: Board<B>,
     first: Seat<B>,
     lanes: Vec<Lane<H>>,
-) -> Result<Report<H>, Fail>
+) -> Report<H>
     requires own { All (λ l. l.queue ≡ B.queue l.lane) lanes.items }
     requires free { B.history ≡ no_history }
 {
-    let second = board.seat(rt).ok_or("another seat")?;
+    let second = board.seat(rt).expect(rt, "another seat");
     let watched = Watched::new(board);
     let shared = &watched;
     let (second, ends) = run_beside(
@@ -170,10 +170,10 @@ fn woken<B: Naming + Send + Sync, H: PostHook + Drop, R: Threads + Wait + Abort 
         &shared.board,
         shared,
         lanes,
-        || -> Result<Seat<B>, Fail>
+        || -> Seat<B>
             requires { B.history ≡ no_history }
         { wakes(rt, alloc, shared, second) },
-    )?;
+    );
     both_back(rt, alloc, watched.board, first, second, ends)
 }
 
@@ -192,11 +192,11 @@ fn came_back<B: Naming + Send + Sync, H: PostHook + Drop, R: Threads + Wait + Ab
     requires second { H.is_sound hooks.1 × (H.handed hooks.1 ≡ []) }
     requires free { B.history ≡ no_history }
 {
-    let (board, lanes) = open_board::<B, H>(alloc, parts, hooks, true)?;
-    let mut first = board.seat(rt).ok_or("a seat")?;
+    let (board, lanes) = open_board::<B, H, R>(rt, alloc, parts, hooks, true);
+    let mut first = board.seat(rt).expect(rt, "a seat");
     expect_same(rt, &makes(rt, alloc, &board, &mut first, 1, 1), &None);
     let board = returned::<B, H, R>(rt, alloc, board)?;
-    woken(rt, alloc, board, first, lanes)
+    Ok(woken(rt, alloc, board, first, lanes))
 }
 
 /// The lane, how it ended, the number of events left, and the number handed over.
@@ -206,31 +206,26 @@ fn told<F>(lane: &LaneReport<Recorder<F>>) -> (u64, How, u64, usize) {
 
 /// Checks that this number of changes was accepted, and that the lanes are drained after they handed over these numbers
 /// of events.
-fn hold<F>(
-    rt: &impl Abort,
-    report: &Report<Recorder<F>>,
-    accepted: u64,
-    handed: [usize; 2],
-) -> Result<(), Fail> {
+fn hold<F>(rt: &impl Abort, report: &Report<Recorder<F>>, accepted: u64, handed: [usize; 2]) {
     let [first, second] = report.lanes.as_slice() else {
-        return Err("two lanes".into());
+        rt.panic("not two lanes");
     };
     expect_same(rt, &report.accepted.len(), &accepted);
     expect_same(rt, &told(first), &(0, How::Drained, 0, handed[0]));
     expect_same(rt, &told(second), &(1, How::Drained, 0, handed[1]));
-    Ok(())
 }
 
 #[test]
 fn a_board_that_came_back_wakes_its_lanes(rt: HostRuntime) -> Result<(), Fail> {
-    let parts = BoardParts::new(rt.alloc(), 2, 1)?;
+    let parts = BoardParts::new(rt.alloc(), 2, 1).expect(&rt, "memory");
     let done = |_: &Event| Outcome::Done;
     let hooks = (
         Recorder::new(rt.alloc(), done),
         Recorder::new(rt.alloc(), done),
     );
     let report = came_back::<Brand, _, _>(&rt, rt.alloc(), parts, hooks)?;
-    hold(&rt, &report, 2, [0, 3])
+    hold(&rt, &report, 2, [0, 3]);
+    Ok(())
 }
 
 /// The report of a board that comes back if the second of its two lanes is missing.
@@ -249,7 +244,7 @@ fn two_lanes<B: Naming, H: PostHook + Drop, R: Abort>(
     let mut back = refused(rt, alloc, board, seats, ends, FinishFault::LanesOut)?;
     expect_same(rt, &(back.seats.len(), back.lanes.len()), &(2, 1));
     back.lanes.push(missing)?;
-    finished(alloc, back.board, back.seats, back.lanes)
+    Ok(finished(rt, alloc, back.board, back.seats, back.lanes))
 }
 
 /// The report of a board on which an upload was created from each of two seats, and that comes back if the second seat
@@ -275,17 +270,16 @@ fn makers<B: Naming, R: Wait + Abort>(
     rt: &R,
     alloc: Global,
     board: &Board<B>,
-) -> Result<(Seat<B>, Vec<Seat<B>>), Fail>
+) -> (Seat<B>, Vec<Seat<B>>)
     requires free { B.history ≡ no_history }
 {
-    let (Some(mut first), Some(mut second)) = (board.seat(rt), board.seat(rt)) else {
-        return Err("two seats".into());
-    };
+    let mut first = board.seat(rt).expect(rt, "a seat");
+    let mut second = board.seat(rt).expect(rt, "another seat");
     expect_same(rt, &makes(rt, alloc, board, &mut first, 1, 1), &None);
     expect_same(rt, &makes(rt, alloc, board, &mut second, 2, 1), &None);
     let mut seats = Vec::new(alloc);
-    seats.push(first)?;
-    Ok((second, seats))
+    seats.push(first).expect(rt, "memory");
+    (second, seats)
 }
 
 /// That report if the lanes run after the board was closed.
@@ -302,21 +296,22 @@ fn each_missing<B: Naming + Send + Sync, H: PostHook + Drop, R: Threads + Wait +
     requires second { H.is_sound hooks.1 × (H.handed hooks.1 ≡ []) }
     requires free { B.history ≡ no_history }
 {
-    let (board, lanes) = open_board::<B, _>(alloc, parts, hooks, true)?;
-    let (second, seats) = makers(rt, alloc, &board)?;
+    let (board, lanes) = open_board::<B, _, _>(rt, alloc, parts, hooks, true);
+    let (second, seats) = makers(rt, alloc, &board);
     board.close(rt);
-    let ends = run_each(rt, &board, &board, lanes)?;
+    let ends = run_each(rt, &board, &board, lanes).expect(rt, "memory");
     two_seats(rt, alloc, board, second, seats, ends)
 }
 
 #[test]
 fn all_comes_back_where_a_seat_or_a_lane_is_missing(rt: HostRuntime) -> Result<(), Fail> {
-    let parts = BoardParts::new(rt.alloc(), 2, 1)?;
+    let parts = BoardParts::new(rt.alloc(), 2, 1).expect(&rt, "memory");
     let done = |_: &Event| Outcome::Done;
     let hooks = (
         Recorder::new(rt.alloc(), done),
         Recorder::new(rt.alloc(), done),
     );
     let report = each_missing::<Brand, _, _>(&rt, rt.alloc(), parts, hooks)?;
-    hold(&rt, &report, 2, [1, 1])
+    hold(&rt, &report, 2, [1, 1]);
+    Ok(())
 }

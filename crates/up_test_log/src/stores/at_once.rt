@@ -2,16 +2,15 @@
 ghost use Rattle.std.specs.Prelude.{◌≡◌, length};
 ghost use Rattle.up_dispatch.specs.Parts.{IsNamed};
 
-use super::course::Course;
 use super::disks::{Files, files_of};
-use super::running::{Job, Look, Outcome, Seen, store_on, work};
+use super::running::{Boxed, Job, Outcome, Seen, seen, store_on, work};
 use super::tally::{Again, Tally};
 use super::tasks::board_of;
 use sqlite_disk::Disk;
 use std::alloc::Global;
 use std::marker::{Brand, Send, Sync};
+use std::process::Abort;
 use std::sync::Wait;
-use std::test::Fail;
 use std::thread;
 use std::thread::Threads;
 use up_dispatch::{Board, BoardParts, Naming, Seat};
@@ -29,7 +28,7 @@ pub struct Ran<D: Disk> {
 }
 
 /// The outcomes, if memory ran out for none.
-fn all_of(alloc: Global, given: Vec<Result<Outcome, NoMemory>>) -> Result<Vec<Outcome>, Fail> {
+fn all_of(alloc: Global, given: Vec<Result<Outcome, NoMemory>>) -> Result<Vec<Outcome>, NoMemory> {
     let mut outcomes = Vec::new(alloc);
     for outcome in given {
         outcomes.push(outcome?)?;
@@ -43,14 +42,14 @@ fn work_each<
     D: Again + Send + Drop,
     J: Site + Send,
     K: Chronicle + Send,
-    R: Threads + Wait + Sync,
+    R: Threads + Wait + Abort + Sync,
 >(
     rt: &R,
     alloc: Global,
     board: &Board<B>,
     store: &Store<D, &Tally, J, K>,
     jobs: Vec<Job>,
-) -> Result<Vec<Outcome>, Fail>
+) -> Vec<Outcome>
     requires same { J.history ≡ B.history }
 {
     let given = thread::map_vec(
@@ -64,8 +63,9 @@ fn work_each<
             };
             work(alloc, &mut Stored::new(rt, board, store, &mut seat), &job)
         },
-    )?;
-    all_of(alloc, given)
+    )
+    .expect(rt, "threads");
+    all_of(alloc, given).expect(rt, "memory")
 }
 
 /// Does each job in a thread of its own, from a seat of its own, through this store. Returns the results of each job,
@@ -75,7 +75,7 @@ fn do_each<
     D: Again + Send + Drop,
     J: Site + Send,
     K: Chronicle + Send,
-    R: Threads + Wait + Sync,
+    R: Threads + Wait + Abort + Sync,
 >(
     rt: &R,
     alloc: Global,
@@ -83,49 +83,72 @@ fn do_each<
     store: &Store<D, &Tally, J, K>,
     seat: &mut Seat<B>,
     jobs: Vec<Job>,
-) -> Result<(Vec<Outcome>, Seen), Fail>
+) -> (Vec<Outcome>, Seen)
     requires same { J.history ≡ B.history }
 {
-    let outcomes = work_each(rt, alloc, board, store, jobs)?;
-    Ok((outcomes, Look.take(rt, alloc, board, store, seat)?))
+    let outcomes = work_each(rt, alloc, board, store, jobs);
+    let mut keeper = Stored::new(rt, board, store, seat);
+    (outcomes, seen(rt, alloc, board, &mut keeper))
 }
 
-/// What came of the jobs, with the logs of their store.
-fn ran_of<D: Disk>(
-    outcomes: Vec<Outcome>,
-    seen: Seen,
-    logs: Option<Files<D>>,
-) -> Result<Ran<D>, Fail>
-where
-    D: Drop,
+/// Jobs, and a store whose logs are on these disks.
+#[derive(Drop)]
+struct Given<'a, D> {
+    disks: (D, D),
+    tally: &'a Tally,
+    jobs: Vec<Job>,
+}
+
+/// Does each job on this board, in a thread of its own, from a seat of its own. `None` if the logs are not opened.
+fn run_from<
+    B: Naming + Send + Sync,
+    J: Site + Send,
+    K: Chronicle + Send,
+    D: Again + Send + Drop,
+    R: Threads + Wait + Abort + Sync,
+>(
+    rt: &R,
+    alloc: Global,
+    board: &Board<B>,
+    seat: &mut Seat<B>,
+    given: Given<'_, D>,
+    histories: Histories,
+) -> Option<Ran<D>>
+    requires written { histories.written ≡ J.history }
+    requires drawn { histories.drawn ≡ K.history }
+    requires nothing { J.premise → ⊥ }
+    requires same { J.history ≡ B.history }
 {
-    match logs {
-        Some(logs) => Ok(Ran {
-            outcomes,
-            seen,
-            logs,
-        }),
-        None => Err("a store that is open".into()),
-    }
+    let Given { disks, tally, jobs } = given;
+    let opened: Result<Boxed<'_, D, J, K>, Unrestored> = store_on(
+        rt, alloc, board, seat, disks, tally, histories,
+    );
+    let Ok(store) = opened else {
+        return None;
+    };
+    let (outcomes, seen) = do_each(rt, alloc, board, &store, seat, jobs);
+    let logs = files_of(alloc, store).expect(rt, "memory");
+    Some(Ran {
+        outcomes,
+        seen,
+        logs: logs.expect(rt, "a store that is open"),
+    })
 }
 
-/// Does each job in a thread of its own, from a seat of its own, through a store whose logs are on these disks. `None`
-/// if the logs are not opened.
+/// The same, on a new board with these parts.
 fn run_by<
     B: Naming + Send + Sync,
     J: Site + Send,
     K: Chronicle + Send,
     D: Again + Send + Drop,
-    R: Threads + Wait + Sync,
+    R: Threads + Wait + Abort + Sync,
 >(
     rt: &R,
     alloc: Global,
     parts: BoardParts,
-    disks: (D, D),
-    tally: &Tally,
-    jobs: Vec<Job>,
+    given: Given<'_, D>,
     histories: Histories,
-) -> Result<Option<Ran<D>>, Fail>
+) -> Option<Ran<D>>
     requires named { IsNamed B.name B.parts B.queue B.lanes parts }
     requires lanes { length parts.queues ≡ 2 }
     requires sized { B.max_size ≡ 1000 }
@@ -134,38 +157,32 @@ fn run_by<
     requires nothing { J.premise → ⊥ }
     requires same { J.history ≡ B.history }
 {
-    let (board, mut seat) = board_of::<B, R>(rt, alloc, parts)?;
-    let opened: Result<Store<D, &Tally, J, K>, Unrestored> = store_on(
-        rt, alloc, &board, &mut seat, disks, tally, histories,
-    );
-    let Ok(store) = opened else {
-        return Ok(None);
-    };
-    let (outcomes, seen) = do_each(rt, alloc, &board, &store, &mut seat, jobs)?;
-    Ok(Some(ran_of(outcomes, seen, files_of(alloc, store)?)?))
+    let (board, mut seat) = board_of::<B, R>(rt, alloc, parts);
+    run_from::<B, J, K, D, R>(rt, alloc, &board, &mut seat, given, histories)
 }
 
 /// Does each job in a thread of its own, through a store whose logs are on these disks. `None` if the logs are not
 /// opened.
-pub fn run_on<D: Again + Send + Drop, R: Threads + Wait + Sync>(
+pub fn run_on<D: Again + Send + Drop, R: Threads + Wait + Abort + Sync>(
     rt: &R,
     alloc: Global,
     disks: (D, D),
     tally: &Tally,
     jobs: Vec<Job>,
-) -> Result<Option<Ran<D>>, Fail> {
-    let parts = BoardParts::new(alloc, 2, 4)?;
+) -> Option<Ran<D>> {
+    let parts = BoardParts::new(alloc, 2, 4).expect(rt, "memory");
     let histories = Histories::new();
-    run_by::<Brand, Brand, Brand, D, R>(rt, alloc, parts, disks, tally, jobs, histories)
+    let given = Given { disks, tally, jobs };
+    run_by::<Brand, Brand, Brand, D, R>(rt, alloc, parts, given, histories)
 }
 
 /// The same, with logs that can be opened.
-pub fn ran_on<D: Again + Send + Drop, R: Threads + Wait + Sync>(
+pub fn ran_on<D: Again + Send + Drop, R: Threads + Wait + Abort + Sync>(
     rt: &R,
     alloc: Global,
     disks: (D, D),
     tally: &Tally,
     jobs: Vec<Job>,
-) -> Result<Ran<D>, Fail> {
-    Ok(run_on(rt, alloc, disks, tally, jobs)?.ok_or("an open log")?)
+) -> Ran<D> {
+    run_on(rt, alloc, disks, tally, jobs).expect(rt, "an open log")
 }

@@ -11,8 +11,8 @@ use crate::same::expect_same;
 use sqlite_disk::{Disk, Memory};
 use std::alloc::Global;
 use std::marker::Send;
+use std::process::Abort;
 use std::sync::Wait;
-use std::test::Fail;
 use up_compact::Heads;
 use up_dispatch::{Board, Naming, Seat};
 use up_handed::Counted;
@@ -62,7 +62,7 @@ struct Restoring<'a> {
     least: &'a Least<'a>,
 }
 
-impl<R: Wait> Task<R> for Restoring<'_> {
+impl<R: Wait + Abort> Task<R> for Restoring<'_> {
     type Found = Result<u64, Unrestored>;
 
     fn run<B: Naming, J: Site + Send, K: Chronicle + Send>(
@@ -72,24 +72,24 @@ impl<R: Wait> Task<R> for Restoring<'_> {
         board: &Board<B>,
         seat: Seat<B>,
         histories: Histories,
-    ) -> Result<Result<u64, Unrestored>, Fail> {
+    ) -> Result<u64, Unrestored> {
         let Restoring { files, least } = self;
         let mut seat = seat;
-        let tally = Tally::new(alloc)?;
+        let tally = Tally::new(alloc).expect(rt, "memory");
         let (store, readers): Unread<'_, Memory, J, K> = unread_on(
             alloc, files, &tally, histories,
-        )?;
-        Ok(count_in(store.restore(rt, alloc, board, &mut seat, readers, least)))
+        ).expect(rt, "logs");
+        count_in(store.restore(rt, alloc, board, &mut seat, readers, least))
     }
 }
 
 /// How many entries are carried out again from these files, or why they are not.
-fn restored<R: Wait>(
+fn restored<R: Wait + Abort>(
     rt: &R,
     alloc: Global,
     files: (Memory, Memory),
     least: &Least<'_>,
-) -> Result<Result<u64, Unrestored>, Fail> {
+) -> Result<u64, Unrestored> {
     run(rt, alloc, Restoring { files, least })
 }
 
@@ -97,7 +97,7 @@ fn restored<R: Wait>(
 type Counts = [(u64, u64); 2];
 
 /// Why these files are refused if a head counts so many entries; an empty text if they aren't.
-fn refusal<R: Wait>(rt: &R, alloc: Global, entries: u64, counts: Counts) -> Result<String, Fail> {
+fn refusal<R: Wait + Abort>(rt: &R, alloc: Global, entries: u64, counts: Counts) -> String {
     let events = [
         counted(counts[0].0, counts[0].1),
         counted(counts[1].0, counts[1].1),
@@ -106,14 +106,15 @@ fn refusal<R: Wait>(rt: &R, alloc: Global, entries: u64, counts: Counts) -> Resu
         entries,
         events: &events,
     };
-    match restored(rt, alloc, files(alloc)?, &least)? {
-        Ok(_) => Ok(String::new(alloc)),
-        Err(why) => Ok(format!(in alloc; "{why}")?),
+    let files = files(alloc).expect(rt, "logs");
+    match restored(rt, alloc, files, &least) {
+        Ok(_) => String::new(alloc),
+        Err(why) => format!(in alloc; "{why}").expect(rt, "memory"),
     }
 }
 
 #[test]
-fn a_log_has_what_was_counted(rt: HostRuntime) -> Result<(), Fail> {
+fn a_log_has_what_was_counted(rt: HostRuntime) {
     let alloc = rt.alloc();
     let no_entries = "the log has 3 entries, and heads counts 4";
     let no_events = "handed.0 counts 2 events, and the log has 1 of lane 0";
@@ -130,14 +131,13 @@ fn a_log_has_what_was_counted(rt: HostRuntime) -> Result<(), Fail> {
         (0, [(1, 0), (30, 0)], fewer_events),
         (0, [(1, 0), (11, 7)], fewer_left_out),
     ] {
-        let found = refusal(&rt, alloc, entries, counts)?;
+        let found = refusal(&rt, alloc, entries, counts);
         expect_same(
             &rt,
             &(entries, counts, found.as_str()),
             &(entries, counts, want),
         );
     }
-    Ok(())
 }
 
 /// A log whose first batch is cut, though its gate is open.
@@ -149,33 +149,34 @@ fn cut_log(alloc: Global) -> Result<Memory, LogFault> {
 }
 
 #[test]
-fn the_reason_says_which_log_is_damaged(rt: HostRuntime) -> Result<(), Fail> {
+fn the_reason_says_which_log_is_damaged(rt: HostRuntime) {
     let alloc = rt.alloc();
-    let (_, voids) = files(alloc)?;
-    let found = restored(&rt, alloc, (cut_log(alloc)?, voids), &NOTHING)?;
+    let (_, voids) = files(alloc).expect(&rt, "logs");
+    let cut = cut_log(alloc).expect(&rt, "a log");
+    let found = restored(&rt, alloc, (cut, voids), &NOTHING);
     assert!(&rt; matches!(found, Err(Unrestored::Changes(_))));
-    let (changes, _) = files(alloc)?;
-    let found = restored(&rt, alloc, (changes, cut_log(alloc)?), &NOTHING)?;
+    let (changes, _) = files(alloc).expect(&rt, "logs");
+    let cut = cut_log(alloc).expect(&rt, "a log");
+    let found = restored(&rt, alloc, (changes, cut), &NOTHING);
     assert!(&rt; matches!(found, Err(Unrestored::Voids(_))));
-    Ok(())
 }
 
 /// Begins over these files, of which so many events of the second lane were counted.
-fn begun_after<R: Wait>(rt: &R, alloc: Global, count: u64) -> Result<Begun, Fail> {
-    let mut counts = Vec::new(alloc);
-    counts.push(counted(1, 0))?;
-    counts.push(counted(count, 0))?;
-    let (heads, head) = Heads::read(alloc, reader_of(alloc, Memory::new(alloc))?)?;
+fn begun_after<R: Wait + Abort>(rt: &R, alloc: Global, count: u64) -> Begun {
+    let counts = [counted(1, 0), counted(count, 0)];
+    let counts = Vec::from_slice(alloc, &counts).expect(rt, "memory");
+    let reader = reader_of(alloc, Memory::new(alloc)).expect(rt, "a log");
+    let (heads, head) = Heads::read(alloc, reader).expect(rt, "heads");
     let current = Current { heads, head };
     let shortening = Shortening::new(current, EndedUploads::new(alloc), NoFolder, 2, 0);
-    begun(rt, alloc, files(alloc)?, shortening, counts)
+    let files = files(alloc).expect(rt, "logs");
+    begun(rt, alloc, files, shortening, counts)
 }
 
 #[test]
-fn events_are_handed_over_if_the_log_has_what_was_counted(rt: HostRuntime) -> Result<(), Fail> {
+fn events_are_handed_over_if_the_log_has_what_was_counted(rt: HostRuntime) {
     for (count, fits) in [(2, true), (3, true), (4, false)] {
-        let found = begun_after(&rt, rt.alloc(), count)?;
+        let found = begun_after(&rt, rt.alloc(), count);
         expect_same(&rt, &(count, found), &(count, (false, fits, fits)));
     }
-    Ok(())
 }

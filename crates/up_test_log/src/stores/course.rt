@@ -2,16 +2,16 @@
 ghost use Rattle.std.specs.Prelude.{◌≡◌};
 
 use super::disks::{Files, files_of};
-use super::running::store_on;
+use super::running::{Boxed, store_on};
 use super::tally::{Again, Tally};
 use super::tasks::{Task, run};
 use std::alloc::Global;
 use std::marker::Send;
+use std::process::Abort;
 use std::sync::Wait;
-use std::test::Fail;
-use up_dispatch::{Board, Naming, Seat};
+use up_dispatch::{Board, Keeper, Naming, Seat};
 use up_history::Chronicle;
-use up_store::{Histories, Store};
+use up_store::{Histories, Store, Stored};
 use up_tie::Site;
 
 /// What is done through a store.
@@ -19,16 +19,30 @@ pub trait Course<D: Again + Drop> {
     /// What comes of it.
     type Found: Drop;
 
-    /// Does it, from a seat of the board.
-    fn take<B: Naming, J: Site, K: Chronicle, R: Wait>(
+    /// Does it, with a keeper whose changes are written to the store before the board makes them.
+    fn take<B: Naming, J: Site, K: Chronicle, P: Keeper, R: Wait + Abort>(
         &self,
         rt: &R,
         alloc: Global,
         board: &Board<B>,
         store: &Store<D, &Tally, J, K>,
-        seat: &mut Seat<B>,
-    ) -> Result<Self::Found, Fail>
-        requires same { J.history ≡ B.history };
+        keeper: &mut P,
+    ) -> Self::Found;
+}
+
+/// What comes of a course through this store, from this seat.
+fn found_through<B: Naming, D: Again + Drop, J: Site, K: Chronicle, C: Course<D>, R: Wait + Abort>(
+    rt: &R,
+    alloc: Global,
+    board: &Board<B>,
+    store: &Store<D, &Tally, J, K>,
+    seat: &mut Seat<B>,
+    course: &C,
+) -> C::Found
+    requires same { J.history ≡ B.history }
+{
+    let mut keeper = Stored::new(rt, board, store, seat);
+    course.take(rt, alloc, board, store, &mut keeper)
 }
 
 /// A course through a store whose logs are on these disks.
@@ -39,7 +53,7 @@ struct Through<'a, D, C> {
     course: &'a C,
 }
 
-impl<D: Again + Drop, C: Course<D>, R: Wait> Task<R> for Through<'_, D, C> {
+impl<D: Again + Drop, C: Course<D>, R: Wait + Abort> Task<R> for Through<'_, D, C> {
     type Found = (C::Found, Option<Files<D>>);
 
     fn run<B: Naming, J: Site + Send, K: Chronicle + Send>(
@@ -49,30 +63,30 @@ impl<D: Again + Drop, C: Course<D>, R: Wait> Task<R> for Through<'_, D, C> {
         board: &Board<B>,
         seat: Seat<B>,
         histories: Histories,
-    ) -> Result<Self::Found, Fail> {
+    ) -> Self::Found {
         let Through {
             disks,
             tally,
             course,
         } = self;
         let mut seat = seat;
-        let store: Store<D, &Tally, J, K> = store_on(
+        let store: Boxed<'_, D, J, K> = store_on(
             rt, alloc, board, &mut seat, disks, tally, histories,
-        )?;
-        let found = course.take(rt, alloc, board, &store, &mut seat)?;
-        Ok((found, files_of(alloc, store)?))
+        ).expect(rt, "a store");
+        let found = found_through(rt, alloc, board, &store, &mut seat, course);
+        (found, files_of(alloc, store).expect(rt, "memory"))
     }
 }
 
 /// What comes of a course through a store whose logs are on these disks, and the files of the logs, if the store is
 /// still open.
-pub fn taken<D: Again + Drop, C: Course<D>, R: Wait>(
+pub fn taken<D: Again + Drop, C: Course<D>, R: Wait + Abort>(
     rt: &R,
     alloc: Global,
     disks: (D, D),
     tally: &Tally,
     course: &C,
-) -> Result<(C::Found, Option<Files<D>>), Fail> {
+) -> (C::Found, Option<Files<D>>) {
     let through = Through {
         disks,
         tally,
@@ -82,15 +96,13 @@ pub fn taken<D: Again + Drop, C: Course<D>, R: Wait>(
 }
 
 /// The same, of a course after which the store is still open.
-pub fn kept<D: Again + Drop, C: Course<D>, R: Wait>(
+pub fn kept<D: Again + Drop, C: Course<D>, R: Wait + Abort>(
     rt: &R,
     alloc: Global,
     disks: (D, D),
     tally: &Tally,
     course: &C,
-) -> Result<(C::Found, Files<D>), Fail> {
-    match taken(rt, alloc, disks, tally, course)? {
-        (found, Some(logs)) => Ok((found, logs)),
-        _ => Err("a store that is open".into()),
-    }
+) -> (C::Found, Files<D>) {
+    let (found, logs) = taken(rt, alloc, disks, tally, course);
+    (found, logs.expect(rt, "a store that is open"))
 }

@@ -1,11 +1,11 @@
 //! The logs of a store: made on disks in memory, read, and taken out of a store.
-use super::tally::Tally;
+use super::running::Boxed;
 use crate::logs::{Row, SETUP, read, spelled_of};
 use sqlite_disk::{Disk, Memory};
 use std::alloc::{AllocError, Global};
 use up_history::Chronicle;
 use up_log::{Log, LogFault, LogReader};
-use up_store::{Store, Voids};
+use up_store::Voids;
 use up_tie::Site;
 
 /// The file of a log with these batches.
@@ -85,12 +85,12 @@ impl<D: Disk> Files<D> {
 /// The files of a store. `None` if it isn't open.
 pub fn files_of<D: Disk, J: Site, K: Chronicle>(
     alloc: Global,
-    store: Store<D, &Tally, J, K>,
+    store: Boxed<'_, D, J, K>,
 ) -> Result<Option<Files<D>>, AllocError>
 where
     D: Drop,
 {
-    let Some(logs) = store.into_logs() else {
+    let Some(logs) = Box::into_inner(store).into_logs() else {
         return Ok(None);
     };
     let open = OpenFiles {

@@ -1,7 +1,7 @@
 //! Stores on disks that fail, for good or for one call.
 use super::at_once::{Ran, ran_on, run_on};
 use super::disks::Files;
-use super::running::{CommitResult, Outcome, Seen, hold_again, job_of, restored, standing};
+use super::running::{CommitResult, Job, Outcome, Seen, hold_again, job_of, restored, standing};
 use super::tally::{Again, Tally};
 use super::together::{jobs_of, jobs_that_keep, shared_file, told_plainly};
 use crate::full_once::FullOnce;
@@ -12,7 +12,6 @@ use std::alloc::{AllocError, Global};
 use std::marker::Send;
 use std::process::Abort;
 use std::sync::Wait;
-use std::test::Fail;
 use std::thread::Threads;
 use up_machine::Refusal;
 
@@ -45,37 +44,35 @@ fn made(told: &[CommitResult]) -> (usize, usize) {
 }
 
 /// The state of a plain board after the first `count` rows.
-fn after<R: Wait>(rt: &R, alloc: Global, count: usize) -> Result<Seen, Fail> {
+fn after<R: Wait + Abort>(rt: &R, alloc: Global, count: usize) -> Seen {
     standing(rt, alloc, &ROWS[..count.min(6)])
 }
 
 /// The state of a board that is restored from logs.
-fn seen_again<D: Again + Drop, R: Wait>(
-    rt: &R,
-    alloc: Global,
-    disks: (D, D),
-) -> Result<Seen, Fail> {
-    Ok(restored(rt, alloc, disks)?.0)
+fn seen_again<D: Again + Drop, R: Wait + Abort>(rt: &R, alloc: Global, disks: (D, D)) -> Seen {
+    restored(rt, alloc, disks).0
+}
+
+/// The one job that does these rows.
+fn jobs_with(alloc: Global, rows: &[Row]) -> Result<Vec<Job>, AllocError> {
+    let mut jobs = Vec::new(alloc);
+    jobs.push(job_of(alloc, rows)?)?;
+    Ok(jobs)
 }
 
 /// The results of these rows in a store on these disks, and its logs. `None` if the logs are not opened.
-fn made_on<D: Again + Send + Drop, R: Threads + Wait + Sync>(
+fn made_on<D: Again + Send + Drop, R: Threads + Wait + Abort + Sync>(
     rt: &R,
     alloc: Global,
     disks: (D, D),
     tally: &Tally,
     rows: &[Row],
-) -> Result<Option<(Vec<CommitResult>, Files<D>)>, Fail> {
-    let mut jobs = Vec::new(alloc);
-    jobs.push(job_of(alloc, rows)?)?;
-    let Some(Ran { outcomes, logs, .. }) = run_on(rt, alloc, disks, tally, jobs)? else {
-        return Ok(None);
-    };
+) -> Option<(Vec<CommitResult>, Files<D>)> {
+    let jobs = jobs_with(alloc, rows).expect(rt, "memory");
+    let Ran { outcomes, logs, .. } = run_on(rt, alloc, disks, tally, jobs)?;
     let mut outcomes = outcomes;
-    match outcomes.pop() {
-        Some((told, _)) => Ok(Some((told, logs))),
-        None => Err("one job".into()),
-    }
+    let (told, _) = outcomes.pop().expect(rt, "one job");
+    Some((told, logs))
 }
 
 /// Checks that a crash leaves this many rows, or one more.
@@ -84,46 +81,39 @@ fn hold_left<R: Wait + Abort>(
     alloc: Global,
     disks: (Fuse<Memory>, Fuse<Memory>),
     all: usize,
-) -> Result<(), Fail> {
+) {
     let (mut changes, voids) = disks;
     changes.crash();
-    let seen = seen_again(rt, alloc, (changes, voids))?;
-    let is_next = seen == after(rt, alloc, all.saturating_add(1))?;
+    let seen = seen_again(rt, alloc, (changes, voids));
+    let is_next = seen == after(rt, alloc, all.saturating_add(1));
     assert!(rt;
-        is_next || seen == after(rt, alloc, all)?,
+        is_next || seen == after(rt, alloc, all),
         "after {all} rows"
     );
-    Ok(())
 }
 
 /// The number of rows that succeed in a store whose disk fails from some call on. Checks that a crash leaves these, and
 /// perhaps the next one. `None` if the logs are not opened.
-fn left<R: Threads + Wait + Abort + Sync>(
-    rt: &R,
-    alloc: Global,
-    calls: u64,
-) -> Result<Option<usize>, Fail> {
-    let tally = Tally::new(alloc)?;
+fn left<R: Threads + Wait + Abort + Sync>(rt: &R, alloc: Global, calls: u64) -> Option<usize> {
+    let tally = Tally::new(alloc).expect(rt, "memory");
     let disks = (
         Fuse::new(Memory::new(alloc), calls),
         Fuse::new(Memory::new(alloc), u64::MAX),
     );
-    let Some((told, logs)) = made_on(rt, alloc, disks, &tally, &ROWS)? else {
-        return Ok(None);
-    };
+    let (told, logs) = made_on(rt, alloc, disks, &tally, &ROWS)?;
     let (first, all) = made(&told);
     expect_same(rt, &(first, told.len()), &(all, 6));
     expect_same(rt, &tally.counts(), &[u64::from(all < 6), 0, 0]);
-    hold_left(rt, alloc, logs.into_disks(), all)?;
-    Ok(Some(all))
+    hold_left(rt, alloc, logs.into_disks(), all);
+    Some(all)
 }
 
 #[test]
-fn a_crash_leaves_what_was_answered(rt: HostRuntime) -> Result<(), Fail> {
+fn a_crash_leaves_what_was_answered(rt: HostRuntime) {
     let alloc = rt.alloc();
     let mut counts = [0u64; 7];
     for calls in 0..40 {
-        if let Some(count) = left(&rt, alloc, calls)? {
+        if let Some(count) = left(&rt, alloc, calls) {
             let place = &mut counts[count.min(6)];
             *place = place.saturating_add(1);
         }
@@ -133,7 +123,6 @@ fn a_crash_leaves_what_was_answered(rt: HostRuntime) -> Result<(), Fail> {
         expect_same(&rt, &counts[count], &4);
     }
     assert!(rt; counts[6] > 0);
-    Ok(())
 }
 
 /// Whether the results are the expected ones up to the first `NoMemory`, and all `NoMemory` from there on.
@@ -144,17 +133,11 @@ fn is_cut_off(told: &[CommitResult], want: &[CommitResult]) -> bool {
 }
 
 /// Checks that the results of three seats are those of a plain board, up to where no more was written.
-fn hold_cut_off<R: Wait + Abort>(
-    rt: &R,
-    alloc: Global,
-    outcomes: &[Outcome],
-    calls: u64,
-) -> Result<(), Fail> {
-    let plain = told_plainly(rt, alloc)?;
+fn hold_cut_off<R: Wait + Abort>(rt: &R, alloc: Global, outcomes: &[Outcome], calls: u64) {
+    let plain = told_plainly(rt, alloc).expect(rt, "memory");
     for ((told, _), (want, _)) in outcomes.iter().zip(&plain) {
         assert!(rt; is_cut_off(told, want), "after {calls} calls");
     }
-    Ok(())
 }
 
 /// Checks that a crash of the disk of the changes leaves this state. The disk failed at this call.
@@ -164,39 +147,34 @@ fn hold_crash<D: Again + Crash + Drop, R: Wait + Abort>(
     disks: (D, D),
     seen: &Seen,
     calls: u64,
-) -> Result<(), Fail> {
+) {
     let (mut changes, voids) = disks;
     changes.crash();
-    let again = seen_again(rt, alloc, (changes, voids))?;
+    let again = seen_again(rt, alloc, (changes, voids));
     assert!(rt; again == *seen, "at the call {calls}");
-    Ok(())
 }
 
 /// Checks that three seats of a board whose disk fails from some call on get true results: a crash leaves what
 /// succeeded, in the same order.
-fn hold_at_once<R: Threads + Wait + Abort + Sync>(
-    rt: &R,
-    alloc: Global,
-    calls: u64,
-) -> Result<(), Fail> {
-    let tally = Tally::new(alloc)?;
+fn hold_at_once<R: Threads + Wait + Abort + Sync>(rt: &R, alloc: Global, calls: u64) {
+    let tally = Tally::new(alloc).expect(rt, "memory");
     let disks = (
-        Fuse::new(shared_file(alloc)?, calls),
+        Fuse::new(shared_file(alloc).expect(rt, "a log"), calls),
         Fuse::new(Memory::new(alloc), u64::MAX),
     );
-    let ran = ran_on(rt, alloc, disks, &tally, jobs_of(alloc)?)?;
+    let jobs = jobs_of(alloc).expect(rt, "memory");
+    let ran = ran_on(rt, alloc, disks, &tally, jobs);
     expect_same(rt, &tally.counts(), &[1, 0, 0]);
-    hold_cut_off(rt, alloc, &ran.outcomes, calls)?;
+    hold_cut_off(rt, alloc, &ran.outcomes, calls);
     let Ran { seen, logs, .. } = ran;
-    hold_crash(rt, alloc, logs.into_disks(), &seen, calls)
+    hold_crash(rt, alloc, logs.into_disks(), &seen, calls);
 }
 
 #[test]
-fn seats_at_once_are_told_what_a_crash_leaves(rt: HostRuntime) -> Result<(), Fail> {
+fn seats_at_once_are_told_what_a_crash_leaves(rt: HostRuntime) {
     for calls in [20, 21, 22, 23, 150, 151, 152, 153] {
-        hold_at_once(&rt, rt.alloc(), calls)?;
+        hold_at_once(&rt, rt.alloc(), calls);
     }
-    Ok(())
 }
 
 /// Creations, each of which is accepted whatever happens to the others.
@@ -221,15 +199,11 @@ fn taken(alloc: Global, told: &[CommitResult]) -> Result<Vec<Row>, AllocError> {
 }
 
 /// Checks that a crash leaves exactly what succeeded.
-fn hold_taken<R: Wait + Abort>(
-    rt: &R,
-    alloc: Global,
-    file: Memory,
-    told: &[CommitResult],
-) -> Result<(), Fail> {
+fn hold_taken<R: Wait + Abort>(rt: &R, alloc: Global, file: Memory, told: &[CommitResult]) {
     let mut file = file;
     file.crash();
-    hold_again(rt, alloc, (file, Memory::new(alloc)), &taken(alloc, told)?)
+    let rows = taken(alloc, told).expect(rt, "memory");
+    hold_again(rt, alloc, (file, Memory::new(alloc)), &rows);
 }
 
 /// The number of creations that succeed in a store with a disk of which one call fails: before that call, and in all.
@@ -238,15 +212,13 @@ fn full_at<R: Threads + Wait + Abort + Sync>(
     rt: &R,
     alloc: Global,
     calls: u64,
-) -> Result<Option<(usize, usize)>, Fail> {
-    let tally = Tally::new(alloc)?;
+) -> Option<(usize, usize)> {
+    let tally = Tally::new(alloc).expect(rt, "memory");
     let disks = (
         FullOnce::new(Memory::new(alloc), calls),
         FullOnce::new(Memory::new(alloc), 0),
     );
-    let Some((told, logs)) = made_on(rt, alloc, disks, &tally, &CREATIONS)? else {
-        return Ok(None);
-    };
+    let (told, logs) = made_on(rt, alloc, disks, &tally, &CREATIONS)?;
     let (first, all) = made(&told);
     expect_same(
         rt,
@@ -255,44 +227,46 @@ fn full_at<R: Threads + Wait + Abort + Sync>(
     );
     expect_same(rt, &logs.count(), &(all as u64));
     let (file, _) = logs.into_disks();
-    hold_taken(rt, alloc, file.into_inner(), &told)?;
-    Ok(Some((first, all)))
+    hold_taken(rt, alloc, file.into_inner(), &told);
+    Some((first, all))
 }
 
-#[test]
-fn a_store_goes_on_once_its_disk_works(rt: HostRuntime) -> Result<(), Fail> {
-    let mut places = Vec::new(rt.alloc());
+/// What `full_at` tells of each call, if a creation succeeds after one that fails.
+fn places_of<R: Threads + Wait + Abort + Sync>(
+    rt: &R,
+    alloc: Global,
+) -> Result<Vec<(usize, usize)>, AllocError> {
+    let mut places = Vec::new(alloc);
     for calls in 1..40 {
-        match full_at(&rt, rt.alloc(), calls)? {
+        match full_at(rt, alloc, calls) {
             Some((first, all)) if first < all => places.push((first, all))?,
             _ => {}
         }
     }
+    Ok(places)
+}
+
+#[test]
+fn a_store_goes_on_once_its_disk_works(rt: HostRuntime) {
+    let places = places_of(&rt, rt.alloc()).expect(&rt, "memory");
     // A change takes two writes and two syncs. Whichever fails, only that change is refused, and the log is opened
     // again if necessary. No change follows the last one.
-    let mut want = Vec::new(rt.alloc());
-    for change in 0..5usize {
-        for _ in 0..4 {
-            want.push((change, 5))?;
-        }
+    expect_same(&rt, &places.len(), &20);
+    for (number, place) in places.iter().enumerate() {
+        expect_same(&rt, place, &(number / 4, 5));
     }
-    expect_same(&rt, &places.as_slice(), &want.as_slice());
-    Ok(())
 }
 
 /// The reports during a run with three seats of a board with a disk of which one call fails. Nothing is removed. Checks
 /// that a crash leaves what succeeded, in the same order.
-fn told_at_once<R: Threads + Wait + Abort + Sync>(
-    rt: &R,
-    alloc: Global,
-    calls: u64,
-) -> Result<[u64; 3], Fail> {
-    let tally = Tally::new(alloc)?;
+fn told_at_once<R: Threads + Wait + Abort + Sync>(rt: &R, alloc: Global, calls: u64) -> [u64; 3] {
+    let tally = Tally::new(alloc).expect(rt, "memory");
     let disks = (
-        FullOnce::new(shared_file(alloc)?, calls),
+        FullOnce::new(shared_file(alloc).expect(rt, "a log"), calls),
         FullOnce::new(Memory::new(alloc), 0),
     );
-    let ran = ran_on(rt, alloc, disks, &tally, jobs_that_keep(alloc)?)?;
+    let jobs = jobs_that_keep(alloc).expect(rt, "memory");
+    let ran = ran_on(rt, alloc, disks, &tally, jobs);
     let Ran { seen, logs, .. } = ran;
     let (file, _) = logs.into_disks();
     hold_crash(
@@ -301,21 +275,20 @@ fn told_at_once<R: Threads + Wait + Abort + Sync>(
         (file.into_inner(), Memory::new(alloc)),
         &seen,
         calls,
-    )?;
-    Ok(tally.counts())
+    );
+    tally.counts()
 }
 
 #[test]
-fn seats_at_once_go_on_once_the_disk_works(rt: HostRuntime) -> Result<(), Fail> {
+fn seats_at_once_go_on_once_the_disk_works(rt: HostRuntime) {
     for first in [20, 60, 100] {
         let mut goes_on: u64 = 0;
         // A batch takes four calls.
         for calls in first..first + 4 {
-            let [fails, works, stops] = told_at_once(&rt, rt.alloc(), calls)?;
+            let [fails, works, stops] = told_at_once(&rt, rt.alloc(), calls);
             expect_same(&rt, &(fails, stops), &(1, 0));
             goes_on = goes_on.saturating_add(works);
         }
         expect_same(&rt, &goes_on, &4);
     }
-    Ok(())
 }

@@ -2,7 +2,7 @@
 use super::at_once::{Ran, ran_on};
 use super::course::{Course, kept};
 use super::disks::{Files, file_of};
-use super::running::{CommitResult, Job, Outcome, change, hold_again, restored};
+use super::running::{CommitResult, Job, Outcome, Seen, change, hold_again, restored};
 use super::tally::{Again, Tally};
 use crate::logs::{Row, What};
 use crate::same::expect_same;
@@ -13,13 +13,13 @@ use std::marker::Sync;
 use std::process::Abort;
 use std::sync::Wait;
 use std::sync::atomic::Ordering;
-use std::test::Fail;
 use std::thread::Threads;
-use up_dispatch::{Board, Keeper, Naming, Seat};
+use up_dispatch::{Board, Keeper, Naming};
 use up_events::NoMemory;
 use up_history::Chronicle;
+use up_log::LogFault;
 use up_machine::Refusal;
-use up_store::{Store, Stored};
+use up_store::Store;
 use up_tie::Site;
 
 /// The uploads that are created first.
@@ -116,24 +116,34 @@ struct Steps<'a> {
     steps: &'a [(Step, Told)],
 }
 
+/// What comes of each step.
+fn told_each<D: Again + Drop, J: Site, K: Chronicle, P: Keeper, R: Wait>(
+    rt: &R,
+    alloc: Global,
+    keeper: &mut P,
+    store: &Store<D, &Tally, J, K>,
+    steps: &Steps<'_>,
+) -> Result<Vec<Told>, NoMemory> {
+    let mut found = Vec::new(alloc);
+    for (step, _) in steps.steps {
+        prepare(rt, steps.tally, store, *step);
+        found.push(told_of(alloc, keeper, steps.tally, *step)?)?;
+    }
+    Ok(found)
+}
+
 impl Course<Scarce<'_, Memory>> for Steps<'_> {
     type Found = Vec<Told>;
 
-    fn take<B: Naming, J: Site, K: Chronicle, R: Wait>(
+    fn take<B: Naming, J: Site, K: Chronicle, P: Keeper, R: Wait + Abort>(
         &self,
         rt: &R,
         alloc: Global,
-        board: &Board<B>,
+        _board: &Board<B>,
         store: &Store<Scarce<'_, Memory>, &Tally, J, K>,
-        seat: &mut Seat<B>,
-    ) -> Result<Vec<Told>, Fail> {
-        let mut keeper = Stored::new(rt, board, store, seat);
-        let mut found = Vec::new(alloc);
-        for (step, _) in self.steps {
-            prepare(rt, self.tally, store, *step);
-            found.push(told_of(alloc, &mut keeper, self.tally, *step)?)?;
-        }
-        Ok(found)
+        keeper: &mut P,
+    ) -> Vec<Told> {
+        told_each(rt, alloc, keeper, store, self).expect(rt, "memory")
     }
 }
 
@@ -149,15 +159,15 @@ fn whole(files: Files<Scarce<'_, Memory>>) -> (Memory, Memory) {
 }
 
 /// What comes of these steps, and the disks of the logs.
-fn stepped<R: Wait>(
+fn stepped<R: Wait + Abort>(
     rt: &R,
     alloc: Global,
     tally: &Tally,
     steps: &[(Step, Told)],
-) -> Result<(Vec<Told>, (Memory, Memory)), Fail> {
+) -> (Vec<Told>, (Memory, Memory)) {
     let disks = (scarce(alloc, tally), scarce(alloc, tally));
-    let (found, logs) = kept(rt, alloc, disks, tally, &Steps { tally, steps })?;
-    Ok((found, whole(logs)))
+    let (found, logs) = kept(rt, alloc, disks, tally, &Steps { tally, steps });
+    (found, whole(logs))
 }
 
 /// Checks what comes of these steps, how often it is reported that changes are refused and are stored again, and that
@@ -168,22 +178,22 @@ fn hold<R: Wait + Abort>(
     steps: &[(Step, Told)],
     reports: u64,
     rows: &[Row],
-) -> Result<(), Fail> {
-    let tally = Tally::new(alloc)?;
-    let (found, disks) = stepped(rt, alloc, &tally, steps)?;
+) {
+    let tally = Tally::new(alloc).expect(rt, "memory");
+    let (found, disks) = stepped(rt, alloc, &tally, steps);
     for (place, (found, (_, want))) in found.iter().zip(steps).enumerate() {
         expect_same(rt, &(place, *found), &(place, *want));
     }
     expect_same(rt, &found.len(), &steps.len());
     expect_same(rt, &tally.counts(), &[reports, reports, 0]);
-    hold_again(rt, alloc, disks, rows)
+    hold_again(rt, alloc, disks, rows);
 }
 
 /// Room for all writes.
 const ALL: u64 = u64::MAX;
 
 #[test]
-fn on_a_full_disk_removals_alone_get_the_room(rt: HostRuntime) -> Result<(), Fail> {
+fn on_a_full_disk_removals_alone_get_the_room(rt: HostRuntime) {
     let [one, two, three, four] = FIRST;
     let [make, put] = OTHERS;
     // A change takes two writes.
@@ -214,11 +224,11 @@ fn on_a_full_disk_removals_alone_get_the_room(rt: HostRuntime) -> Result<(), Fai
         put,
         (What::Remove, 3, 0),
     ];
-    hold(&rt, rt.alloc(), &steps, 1, &rows)
+    hold(&rt, rt.alloc(), &steps, 1, &rows);
 }
 
 #[test]
-fn without_room_at_the_start_removals_alone_are_made(rt: HostRuntime) -> Result<(), Fail> {
+fn without_room_at_the_start_removals_alone_are_made(rt: HostRuntime) {
     let [one, two, three, four] = FIRST;
     let [make, put] = OTHERS;
     let steps = [
@@ -234,7 +244,7 @@ fn without_room_at_the_start_removals_alone_are_made(rt: HostRuntime) -> Result<
         (Step::Others, (2, 0, ALL)),
     ];
     let rows = [one, two, three, four, (What::Remove, 1, 0), make, put];
-    hold(&rt, rt.alloc(), &steps, 1, &rows)
+    hold(&rt, rt.alloc(), &steps, 1, &rows);
 }
 
 /// How many uploads are removed from each of two seats, and are created from each of two others.
@@ -271,7 +281,7 @@ fn jobs_of(alloc: Global) -> Result<Vec<Job>, AllocError> {
 fn scarce_files(
     alloc: Global,
     tally: &Tally,
-) -> Result<(Scarce<'_, Memory>, Scarce<'_, Memory>), Fail> {
+) -> Result<(Scarce<'_, Memory>, Scarce<'_, Memory>), LogFault> {
     let first = rows_from(alloc, What::Make, 0)?;
     let second = rows_from(alloc, What::Make, EACH)?;
     let changes = file_of(alloc, &[first.as_slice(), second.as_slice()])?;
@@ -281,9 +291,9 @@ fn scarce_files(
 }
 
 /// Checks that all removals were made, few creations, and that each of these was made or refused without a decision.
-fn hold_outcomes<R: Abort>(rt: &R, outcomes: &[Outcome], room: u64) -> Result<(), Fail> {
+fn hold_outcomes<R: Abort>(rt: &R, outcomes: &[Outcome], room: u64) {
     let [(one, _), (two, _), (three, _), (four, _)] = outcomes else {
-        return Err("four jobs".into());
+        rt.panic("four jobs")
     };
     for told in one.iter().chain(three.iter()) {
         assert!(rt; told.is_ok(), "with room for {room} writes");
@@ -293,31 +303,45 @@ fn hold_outcomes<R: Abort>(rt: &R, outcomes: &[Outcome], room: u64) -> Result<()
     let (made, refused) = (made.saturating_add(more), refused.saturating_add(others));
     expect_same(rt, &(room, made.saturating_add(refused)), &(room, 80));
     assert!(rt; made < 10, "with room for {room} writes");
-    Ok(())
+}
+
+/// What comes of the jobs while a disk fills.
+fn ran_while_filling<'a, R: Threads + Wait + Abort + Sync>(
+    rt: &R,
+    alloc: Global,
+    tally: &'a Tally,
+) -> Ran<Scarce<'a, Memory>> {
+    let disks = scarce_files(alloc, tally).expect(rt, "logs");
+    let jobs = jobs_of(alloc).expect(rt, "memory");
+    ran_on(rt, alloc, disks, tally, jobs)
+}
+
+/// Checks that a restart from these logs brings what was seen.
+fn hold_seen<R: Wait + Abort>(
+    rt: &R,
+    alloc: Global,
+    logs: Files<Scarce<'_, Memory>>,
+    seen: &Seen,
+    room: u64,
+) {
+    let (again, _) = restored(rt, alloc, whole(logs));
+    assert!(rt; again == *seen, "with room for {room} writes");
 }
 
 /// Checks that all removals are made while a disk with this much room fills, and that a restart brings what was made.
-fn hold_at_once<R: Threads + Wait + Abort + Sync>(
-    rt: &R,
-    alloc: Global,
-    room: u64,
-) -> Result<(), Fail> {
-    let tally = Tally::new(alloc)?;
+fn hold_at_once<R: Threads + Wait + Abort + Sync>(rt: &R, alloc: Global, room: u64) {
+    let tally = Tally::new(alloc).expect(rt, "memory");
     tally.fill(room, 1000);
-    let disks = scarce_files(alloc, &tally)?;
-    let ran = ran_on(rt, alloc, disks, &tally, jobs_of(alloc)?)?;
-    hold_outcomes(rt, &ran.outcomes, room)?;
+    let ran = ran_while_filling(rt, alloc, &tally);
+    hold_outcomes(rt, &ran.outcomes, room);
     expect_same(rt, &tally.counts(), &[1, 0, 0]);
     let Ran { seen, logs, .. } = ran;
-    let (again, _) = restored(rt, alloc, whole(logs))?;
-    assert!(rt; again == seen, "with room for {room} writes");
-    Ok(())
+    hold_seen(rt, alloc, logs, &seen, room);
 }
 
 #[test]
-fn removals_at_once_are_made_on_a_full_disk(rt: HostRuntime) -> Result<(), Fail> {
+fn removals_at_once_are_made_on_a_full_disk(rt: HostRuntime) {
     for room in 4..12 {
-        hold_at_once(&rt, rt.alloc(), room)?;
+        hold_at_once(&rt, rt.alloc(), room);
     }
-    Ok(())
 }

@@ -6,12 +6,12 @@ use crate::logs::What;
 use crate::same::expect_same;
 use sqlite_disk::Memory;
 use std::alloc::Global;
+use std::process::Abort;
 use std::sync::Wait;
-use std::test::Fail;
-use up_dispatch::{Board, Naming, Seat};
+use up_dispatch::{Board, Keeper, Naming};
 use up_history::Chronicle;
 use up_machine::Refusal;
-use up_store::{Store, Stored};
+use up_store::Store;
 use up_tie::Site;
 
 /// Whether the file of a store is gone, before and after it is taken away, and later; and the results of changes before
@@ -27,31 +27,30 @@ struct TakingAway<'a> {
 impl Course<Memory> for TakingAway<'_> {
     type Found = Found;
 
-    fn take<B: Naming, J: Site, K: Chronicle, R: Wait>(
+    fn take<B: Naming, J: Site, K: Chronicle, P: Keeper, R: Wait + Abort>(
         &self,
         rt: &R,
         alloc: Global,
-        board: &Board<B>,
+        _board: &Board<B>,
         store: &Store<Memory, &Tally, J, K>,
-        seat: &mut Seat<B>,
-    ) -> Result<Found, Fail> {
+        keeper: &mut P,
+    ) -> Found {
         let first = store.is_gone(rt);
-        let mut keeper = Stored::new(rt, board, store, seat);
-        let made = change(alloc, &mut keeper, &[(What::Make, 1, 4)])?;
+        let made = change(alloc, keeper, &[(What::Make, 1, 4)]).expect(rt, "memory");
         self.tally.take_away();
         let gone = [first, store.is_gone(rt), store.is_gone(rt)];
-        let refused = change(alloc, &mut keeper, &[(What::Make, 2, 4)])?;
-        Ok((gone, [made, refused]))
+        let refused = change(alloc, keeper, &[(What::Make, 2, 4)]).expect(rt, "memory");
+        (gone, [made, refused])
     }
 }
 
 #[test]
-fn no_change_is_made_without_the_file(rt: HostRuntime) -> Result<(), Fail> {
+fn no_change_is_made_without_the_file(rt: HostRuntime) {
     let alloc = rt.alloc();
-    let tally = Tally::new(alloc)?;
+    let tally = Tally::new(alloc).expect(&rt, "memory");
     let disks = (Memory::new(alloc), Memory::new(alloc));
     let course = TakingAway { tally: &tally };
-    let (found, _) = taken(&rt, alloc, disks, &tally, &course)?;
+    let (found, _) = taken(&rt, alloc, disks, &tally, &course);
     let (gone, [made, refused]) = found;
     expect_same(&rt, &(gone, tally.gone()), &([false, true, true], 1));
     for told in made.iter() {
@@ -62,5 +61,4 @@ fn no_change_is_made_without_the_file(rt: HostRuntime) -> Result<(), Fail> {
         &refused.as_slice(),
         &[Err(Refusal::NoMemory)].as_slice(),
     );
-    Ok(())
 }

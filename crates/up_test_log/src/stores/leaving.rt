@@ -5,9 +5,9 @@ use crate::logs::{PAIR, disk_of};
 use crate::same::expect_same;
 use sqlite_disk::Memory;
 use std::alloc::Global;
+use std::process::Abort;
 use std::sync::Wait;
 use std::sync::atomic::{AtomicU64, Ordering};
-use std::test::Fail;
 use up_compact::{Head, Heads};
 use up_log::{LogFault, LogReader};
 use up_message::Sequence;
@@ -47,25 +47,20 @@ fn current(alloc: Global, entries: u64) -> Result<Current<Memory>, LogFault> {
 
 /// Starts a server on this log, whose head says that it has this many entries. Returns whether the log was read, how
 /// many logs were removed, and the sum of their generations.
-fn start<R: Wait>(
-    rt: &R,
-    alloc: Global,
-    log: Memory,
-    entries: u64,
-) -> Result<(bool, u64, u64), Fail> {
+fn start<R: Wait + Abort>(rt: &R, alloc: Global, log: Memory, entries: u64) -> (bool, u64, u64) {
     let removed = Removed {
         count: AtomicU64::new(0),
         sum: AtomicU64::new(0),
     };
-    let current = current(alloc, entries)?;
+    let current = current(alloc, entries).expect(rt, "heads");
     let shortening = Shortening::new(current, EndedUploads::new(alloc), &removed, 2, 0);
     let disks = (log, Memory::new(alloc));
-    let (_, is_read, _) = begun(rt, alloc, disks, shortening, Vec::new(alloc))?;
-    Ok((
+    let (_, is_read, _) = begun(rt, alloc, disks, shortening, Vec::new(alloc));
+    (
         is_read,
         removed.count.load(Ordering::SeqCst),
         removed.sum.load(Ordering::SeqCst),
-    ))
+    )
 }
 
 /// A log of two entries, of which this byte is changed to 9.
@@ -78,14 +73,13 @@ fn changed_log(alloc: Global, place: usize) -> Result<Memory, LogFault> {
 }
 
 #[test]
-fn other_logs_stay_until_the_log_was_read(rt: HostRuntime) -> Result<(), Fail> {
+fn other_logs_stay_until_the_log_was_read(rt: HostRuntime) {
     let alloc = rt.alloc();
-    let whole = file_of(alloc, &[&PAIR])?;
-    expect_same(&rt, &start(&rt, alloc, whole, 2)?, &(true, 2, 4 + 2));
-    let fewer = file_of(alloc, &[&PAIR])?;
-    expect_same(&rt, &start(&rt, alloc, fewer, 3)?, &(false, 0, 0));
+    let whole = file_of(alloc, &[&PAIR]).expect(&rt, "a log");
+    expect_same(&rt, &start(&rt, alloc, whole, 2), &(true, 2, 4 + 2));
+    let fewer = file_of(alloc, &[&PAIR]).expect(&rt, "a log");
+    expect_same(&rt, &start(&rt, alloc, fewer, 3), &(false, 0, 0));
     // What the closures answered to the first entry is after a heading of 33 bytes, a gate, two numbers and an id.
-    let damaged = changed_log(alloc, 33 + 1 + 8 + 8 + 16)?;
-    expect_same(&rt, &start(&rt, alloc, damaged, 2)?, &(false, 0, 0));
-    Ok(())
+    let damaged = changed_log(alloc, 33 + 1 + 8 + 8 + 16).expect(&rt, "a log");
+    expect_same(&rt, &start(&rt, alloc, damaged, 2), &(false, 0, 0));
 }

@@ -2,18 +2,18 @@
 ghost use Rattle.std.specs.Prelude.{◌≡◌};
 
 use super::disks::reader_of;
-use super::running::{change, store_on};
+use super::running::{Boxed, change, store_on};
 use super::tally::Tally;
 use super::tasks::{Task, run};
 use crate::full_once::FullOnce;
 use crate::logs::{Row, What};
 use crate::same::expect_same;
 use sqlite_disk::Memory;
-use std::alloc::Global;
+use std::alloc::{AllocError, Global};
 use std::marker::Send;
+use std::process::Abort;
 use std::sync::Wait;
 use std::sync::atomic::{AtomicU64, Ordering};
-use std::test::Fail;
 use up_compact::{Head, Heads};
 use up_dispatch::{Board, Naming, Seat};
 use up_events::Id;
@@ -122,7 +122,7 @@ type Counts = (u64, u64);
 
 /// Makes changes in a store, tries to make its log shorter, makes more changes, and tries it again. This call of a
 /// shorter log fails.
-fn try_twice<'x, B: Naming, J: Site, K: Chronicle, R: Wait>(
+fn try_twice<'x, B: Naming, J: Site, K: Chronicle, R: Wait + Abort>(
     rt: &'x R,
     alloc: Global,
     board: &'x Board<B>,
@@ -130,11 +130,11 @@ fn try_twice<'x, B: Naming, J: Site, K: Chronicle, R: Wait>(
     store: &'x Store<File, &'x Tally, J, K>,
     current: Current<File>,
     calls: u64,
-) -> Result<Counts, Fail>
+) -> Counts
     requires same { J.history ≡ B.history }
 {
     let mut keeper = Stored::new(rt, board, store, seat);
-    change(alloc, &mut keeper, &BEFORE)?;
+    change(alloc, &mut keeper, &BEFORE).expect(rt, "memory");
     let count = AtomicU64::new(0);
     let folder = Meanwhile {
         rt,
@@ -144,12 +144,16 @@ fn try_twice<'x, B: Naming, J: Site, K: Chronicle, R: Wait>(
         calls,
         count: &count,
     };
-    let shortening = Shortening::new(current, ended(rt, alloc), folder, 2, 0);
+    let shortening = Box::new(
+        alloc,
+        Shortening::new(current, ended(rt, alloc), folder, 2, 0),
+    )
+    .expect(rt, "memory");
     shortening.shorten(rt, alloc, store);
     let first = count.load(Ordering::SeqCst);
-    change(alloc, &mut keeper, &AFTER)?;
+    change(alloc, &mut keeper, &AFTER).expect(rt, "memory");
     shortening.shorten(rt, alloc, store);
-    Ok((first, count.load(Ordering::SeqCst)))
+    (first, count.load(Ordering::SeqCst))
 }
 
 /// Two tries to make the log of a new store shorter, on these disks and with these heads. This call of a shorter log
@@ -162,7 +166,7 @@ struct TwoTries<'a> {
     tally: &'a Tally,
 }
 
-impl<R: Wait> Task<R> for TwoTries<'_> {
+impl<R: Wait + Abort> Task<R> for TwoTries<'_> {
     type Found = Option<Counts>;
 
     fn run<B: Naming, J: Site + Send, K: Chronicle + Send>(
@@ -172,7 +176,7 @@ impl<R: Wait> Task<R> for TwoTries<'_> {
         board: &Board<B>,
         seat: Seat<B>,
         histories: Histories,
-    ) -> Result<Option<Counts>, Fail> {
+    ) -> Option<Counts> {
         let TwoTries {
             disks,
             current,
@@ -180,14 +184,14 @@ impl<R: Wait> Task<R> for TwoTries<'_> {
             tally,
         } = self;
         let mut seat = seat;
-        let opened: Result<Store<File, &Tally, J, K>, Unrestored> = store_on(
+        let opened: Result<Boxed<'_, File, J, K>, Unrestored> = store_on(
             rt, alloc, board, &mut seat, disks, tally, histories,
         );
         let Ok(store) = opened else {
-            return Ok(None);
+            return None;
         };
-        let counts = try_twice(rt, alloc, board, &mut seat, &store, current, shorter)?;
-        Ok(Some(counts))
+        let counts = try_twice(rt, alloc, board, &mut seat, &store, current, shorter);
+        Some(counts)
     }
 }
 
@@ -206,14 +210,9 @@ fn ended<R: Wait>(rt: &R, alloc: Global) -> EndedUploads {
 }
 
 /// Tries twice to make the log of a new store shorter. `None` if the heads or the log can't be opened.
-fn tried<R: Wait>(
-    rt: &R,
-    alloc: Global,
-    calls: Calls,
-    tally: &Tally,
-) -> Result<Option<Counts>, Fail> {
+fn tried<R: Wait + Abort>(rt: &R, alloc: Global, calls: Calls, tally: &Tally) -> Option<Counts> {
     let Ok(current) = current(alloc, calls.heads) else {
-        return Ok(None);
+        return None;
     };
     let two_tries = TwoTries {
         disks: (disk(alloc, (calls.log, 0)), disk(alloc, (0, 0))),
@@ -225,7 +224,11 @@ fn tried<R: Wait>(
 }
 
 /// The generations whose files are asked for when calls of one log fail, one call in each run.
-fn asked<R: Wait>(rt: &R, alloc: Global, is_shorter: bool) -> Result<Vec<(u64, u64)>, Fail> {
+fn asked<R: Wait + Abort>(
+    rt: &R,
+    alloc: Global,
+    is_shorter: bool,
+) -> Result<Vec<(u64, u64)>, AllocError> {
     let mut asked = Vec::new(alloc);
     for call in 1..60 {
         let tally = Tally::at(alloc, FIRST)?;
@@ -237,7 +240,7 @@ fn asked<R: Wait>(rt: &R, alloc: Global, is_shorter: bool) -> Result<Vec<(u64, u
         } else {
             Calls { log: call, ..NONE }
         };
-        tried(rt, alloc, calls, &tally)?;
+        tried(rt, alloc, calls, &tally);
         if let Some(generations) = tally.generations() {
             asked.push(generations)?;
         }
@@ -246,15 +249,14 @@ fn asked<R: Wait>(rt: &R, alloc: Global, is_shorter: bool) -> Result<Vec<(u64, u
 }
 
 #[test]
-fn the_file_of_the_same_generation_is_opened_again(rt: HostRuntime) -> Result<(), Fail> {
+fn the_file_of_the_same_generation_is_opened_again(rt: HostRuntime) {
     for (is_shorter, want) in [(false, FIRST), (true, FIRST + 1)] {
-        let asked = asked(&rt, rt.alloc(), is_shorter)?;
+        let asked = asked(&rt, rt.alloc(), is_shorter).expect(&rt, "memory");
         assert!(rt; asked.len() > 0);
         for generations in asked.iter() {
             expect_same(&rt, generations, &(want, want));
         }
     }
-    Ok(())
 }
 
 /// How often no change is made any more, how often a log was made shorter, and could not be, and how often logs were
@@ -262,23 +264,35 @@ fn the_file_of_the_same_generation_is_opened_again(rt: HostRuntime) -> Result<()
 type Ending = (u64, [u64; 2], Counts);
 
 /// What happens if these calls of the heads fail. `None` if the heads can't be opened.
-fn ending<R: Wait>(rt: &R, alloc: Global, heads: (u64, u64)) -> Result<Option<Ending>, Fail> {
-    let tally = Tally::at(alloc, FIRST)?;
-    let Some(counts) = tried(rt, alloc, Calls { heads, ..NONE }, &tally)? else {
-        return Ok(None);
-    };
-    Ok(Some((tally.counts()[2], tally.switches(), counts)))
+fn ending<R: Wait + Abort>(rt: &R, alloc: Global, heads: (u64, u64)) -> Option<Ending> {
+    let tally = Tally::at(alloc, FIRST).expect(rt, "memory");
+    let counts = tried(rt, alloc, Calls { heads, ..NONE }, &tally)?;
+    Some((tally.counts()[2], tally.switches(), counts))
 }
 
-#[test]
-fn logs_stay_once_the_current_one_is_unknown(rt: HostRuntime) -> Result<(), Fail> {
-    let alloc = rt.alloc();
+/// What happens if these calls of the heads fail, those of one row in each run. Left out are runs in which the heads
+/// can't be opened.
+fn endings<R: Wait + Abort>(
+    rt: &R,
+    alloc: Global,
+    rows: &[(u64, u64)],
+) -> Result<Vec<Ending>, AllocError> {
     let mut endings = Vec::new(alloc);
-    for call in 1..20 {
-        if let Some(ending) = ending(&rt, alloc, (call, 0))? {
+    for heads in rows {
+        if let Some(ending) = ending(rt, alloc, *heads) {
             endings.push(ending)?;
         }
     }
+    Ok(endings)
+}
+
+#[test]
+fn logs_stay_once_the_current_one_is_unknown(rt: HostRuntime) {
+    let mut rows = [(0u64, 0u64); 19];
+    for (call, row) in rows.iter_mut().enumerate() {
+        row.0 = call as u64 + 1;
+    }
+    let endings = endings(&rt, rt.alloc(), &rows).expect(&rt, "memory");
     // A head takes two writes and two syncs. If the first write fails, there is still the head before. A log was made
     // and removed, and another try replaces the old log.
     let kept = (0, [1, 1], (2, 4));
@@ -288,21 +302,17 @@ fn logs_stay_once_the_current_one_is_unknown(rt: HostRuntime) -> Result<(), Fail
     let shorter = (0, [1, 0], (2, 2));
     let want = [kept, unknown, unknown, unknown, shorter, shorter];
     expect_same(&rt, &endings.as_slice(), &want.as_slice());
-    Ok(())
 }
 
 #[test]
-fn changes_go_on_while_the_heads_have_no_room(rt: HostRuntime) -> Result<(), Fail> {
-    let alloc = rt.alloc();
-    let mut endings = Vec::new(alloc);
-    for call in 1..15 {
-        if let Some(ending) = ending(&rt, alloc, (call, call + 1))? {
-            endings.push(ending)?;
-        }
+fn changes_go_on_while_the_heads_have_no_room(rt: HostRuntime) {
+    let mut rows = [(0u64, 0u64); 14];
+    for (call, row) in rows.iter_mut().enumerate() {
+        *row = (call as u64 + 1, call as u64 + 2);
     }
+    let endings = endings(&rt, rt.alloc(), &rows).expect(&rt, "memory");
     // The first write of a head fails, and so does the next write that is tried, whichever it is: that of the second
     // try. Each try has made a log and removed it.
     let full = (0, [0, 2], (2, 4));
     expect_same(&rt, &endings.as_slice(), &[full].as_slice());
-    Ok(())
 }

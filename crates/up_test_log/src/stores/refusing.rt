@@ -13,14 +13,14 @@ use crate::same::expect_same;
 use sqlite_disk::Memory;
 use std::alloc::Global;
 use std::marker::Brand;
+use std::process::Abort;
 use std::sync::Wait;
-use std::test::Fail;
-use up_dispatch::{Board, BoardParts, Keeper, Naming, Seat, Seated};
+use up_dispatch::{Board, BoardParts, Keeper, Naming, Seated};
 use up_events::{Accepted, Id, Kind, NoMemory};
 use up_history::Chronicle;
 use up_machine::{Asked, Reason, Refusal};
 use up_replay::fits;
-use up_store::{Store, Stored};
+use up_store::Store;
 use up_tie::Site;
 
 /// The results of changes that a closure refuses, after the upload 1 of four bytes was created.
@@ -45,19 +45,19 @@ fn refuse<K: Keeper>(
 }
 
 /// Their results on a plain board.
-fn refused_plainly<B: Naming, R: Wait>(
+fn refused_plainly<B: Naming, R: Wait + Abort>(
     rt: &R,
     alloc: Global,
     parts: BoardParts,
     refused: &Asked,
-) -> Result<Vec<CommitResult>, Fail>
+) -> Vec<CommitResult>
     requires named { IsNamed B.name B.parts B.queue B.lanes parts }
     requires lanes { length parts.queues ≡ 2 }
     requires sized { B.max_size ≡ 1000 }
     requires free { B.history ≡ no_history }
 {
-    let (board, mut seat) = board_of::<B, R>(rt, alloc, parts)?;
-    Ok(refuse(alloc, &mut Seated::new(rt, &board, &mut seat), refused)?)
+    let (board, mut seat) = board_of::<B, R>(rt, alloc, parts);
+    refuse(alloc, &mut Seated::new(rt, &board, &mut seat), refused).expect(rt, "memory")
 }
 
 /// These changes through a store. The closure answers this.
@@ -69,29 +69,29 @@ struct Refusing<'a> {
 impl Course<Memory> for Refusing<'_> {
     type Found = Vec<CommitResult>;
 
-    fn take<B: Naming, J: Site, K: Chronicle, R: Wait>(
+    fn take<B: Naming, J: Site, K: Chronicle, P: Keeper, R: Wait + Abort>(
         &self,
         rt: &R,
         alloc: Global,
-        board: &Board<B>,
-        store: &Store<Memory, &Tally, J, K>,
-        seat: &mut Seat<B>,
-    ) -> Result<Vec<CommitResult>, Fail> {
-        let mut keeper = Stored::new(rt, board, store, seat);
-        Ok(refuse(alloc, &mut keeper, self.refused)?)
+        _board: &Board<B>,
+        _store: &Store<Memory, &Tally, J, K>,
+        keeper: &mut P,
+    ) -> Vec<CommitResult> {
+        refuse(alloc, keeper, self.refused).expect(rt, "memory")
     }
 }
 
 /// Their results through a store, and the number of entries of its log after them.
-fn refused_by_store<R: Wait>(
+fn refused_by_store<R: Wait + Abort>(
     rt: &R,
     alloc: Global,
     refused: &Asked,
-) -> Result<(Vec<CommitResult>, u64), Fail> {
+) -> (Vec<CommitResult>, u64) {
     let disks = (Memory::new(alloc), Memory::new(alloc));
-    let (told, logs) = kept(rt, alloc, disks, &Tally::new(alloc)?, &Refusing { refused })?;
-    let (count, _) = count_in(alloc, logs.into_disks().0)?;
-    Ok((told, count))
+    let tally = Tally::new(alloc).expect(rt, "memory");
+    let (told, logs) = kept(rt, alloc, disks, &tally, &Refusing { refused });
+    let (count, _) = count_in(alloc, logs.into_disks().0).expect(rt, "a log");
+    (told, count)
 }
 
 /// The expected results: the upload is created, the closure refuses the next three changes, and the upload 3 does not
@@ -115,19 +115,18 @@ fn wanted(alloc: Global, reason: Reason) -> Result<Vec<CommitResult>, NoMemory> 
 }
 
 #[test]
-fn what_a_closure_refuses_is_not_written(rt: HostRuntime) -> Result<(), Fail> {
+fn what_a_closure_refuses_is_not_written(rt: HostRuntime) {
     let alloc = rt.alloc();
-    let reason = Reason::new(b"not on Sundays").ok_or("this is no reason")?;
+    let reason = Reason::new(b"not on Sundays").expect(&rt, "a reason");
     let refused = Asked::Refused {
         status: 418,
         reason,
     };
-    let want = wanted(alloc, reason)?;
-    let parts = BoardParts::new(alloc, 2, 4)?;
-    let plain = refused_plainly::<Brand, _>(&rt, alloc, parts, &refused)?;
+    let want = wanted(alloc, reason).expect(&rt, "memory");
+    let parts = BoardParts::new(alloc, 2, 4).expect(&rt, "memory");
+    let plain = refused_plainly::<Brand, _>(&rt, alloc, parts, &refused);
     expect_same(&rt, &plain.as_slice(), &want.as_slice());
-    let (told, count) = refused_by_store(&rt, alloc, &refused)?;
+    let (told, count) = refused_by_store(&rt, alloc, &refused);
     expect_same(&rt, &told.as_slice(), &want.as_slice());
     expect_same(&rt, &count, &1);
-    Ok(())
 }

@@ -15,7 +15,6 @@ use std::alloc::{AllocError, Global};
 use std::marker::Brand;
 use std::process::Abort;
 use std::sync::Wait;
-use std::test::Fail;
 use up_dispatch::{Board, BoardParts, Counts, Keeper, Naming, Seat, Seated, answer};
 use up_events::{Accepted, Id, NoMemory};
 use up_headers::Request;
@@ -24,7 +23,7 @@ use up_hooks::PreHooks;
 use up_log::{LogFault, LogReader};
 use up_machine::{Asked, Done, Refusal};
 use up_replay::{asked_of, fits};
-use up_store::{Histories, Least, Store, Stored, Unrestored};
+use up_store::{Histories, Least, Store, Unrestored};
 use up_test_server::append;
 use up_tie::{Reading, Site};
 use up_wire::{Output, WriteFailed, write_response};
@@ -139,41 +138,44 @@ fn write_answer<K: Keeper>(
 }
 
 /// The counts of a board, and its responses to HEAD and GET of each upload.
-pub fn seen<B: Naming, K: Keeper, R: Wait>(
+pub fn seen<B: Naming, K: Keeper, R: Wait + Abort>(
     rt: &R,
     alloc: Global,
     board: &Board<B>,
     keeper: &mut K,
-) -> Result<Seen, Fail> {
+) -> Seen {
     let mut sink = Output::new(Vec::new(alloc));
     for number in 0..UPLOADS {
         let id = Id::new(u128::from(number));
-        write_answer(alloc, keeper, Request::Head(id), id, &mut sink)?;
-        write_answer(alloc, keeper, Request::Get(id), id, &mut sink)?;
+        write_answer(alloc, keeper, Request::Head(id), id, &mut sink).expect(rt, "a response");
+        write_answer(alloc, keeper, Request::Get(id), id, &mut sink).expect(rt, "a response");
     }
-    Ok((board.counts(rt), sink.into_inner()))
+    (board.counts(rt), sink.into_inner())
 }
 
 /// The results of a job on a plain board with these parts, and the state of the board after it.
-fn plain_of<B: Naming, R: Wait>(
+fn plain_of<B: Naming, R: Wait + Abort>(
     rt: &R,
     alloc: Global,
     parts: BoardParts,
     job: &Job,
-) -> Result<(Outcome, Seen), Fail>
+) -> (Outcome, Seen)
     requires named { IsNamed B.name B.parts B.queue B.lanes parts }
     requires lanes { length parts.queues ≡ 2 }
     requires sized { B.max_size ≡ 1000 }
     requires free { B.history ≡ no_history }
 {
-    let (board, mut seat) = board_of::<B, R>(rt, alloc, parts)?;
+    let (board, mut seat) = board_of::<B, R>(rt, alloc, parts);
     let mut keeper = Seated::new(rt, &board, &mut seat);
-    let outcome = work(alloc, &mut keeper, job)?;
-    Ok((outcome, seen(rt, alloc, &board, &mut keeper)?))
+    let outcome = work(alloc, &mut keeper, job).expect(rt, "memory");
+    (outcome, seen(rt, alloc, &board, &mut keeper))
 }
 
+/// A store that a test uses. It is in a box, since the proof of a function takes longer if it has large values.
+pub type Boxed<'a, D, J, K> = Box<Store<D, &'a Tally, J, K>, Global>;
+
 /// A store on these disks that was not read yet, and who reads them.
-pub type Unread<'a, D, J, K> = (Store<D, &'a Tally, J, K>, (Reading<D, J>, LogReader<D>));
+pub type Unread<'a, D, J, K> = (Boxed<'a, D, J, K>, (Reading<D, J>, LogReader<D>));
 
 /// A store on these disks that was not read yet, and who reads them.
 pub fn unread_on<'a, D: Disk, J: Site, K: Chronicle>(
@@ -191,7 +193,10 @@ where
     let changes = reader_of(alloc, disks.0)?;
     let voids = reader_of(alloc, disks.1)?;
     let (store, front) = Store::unread(alloc, tally, histories)?;
-    Ok((store, (Reading::new(changes, front), voids)))
+    Ok((
+        Box::new(alloc, store)?,
+        (Reading::new(changes, front), voids),
+    ))
 }
 
 /// A log may have any number of entries and events.
@@ -209,7 +214,7 @@ pub fn store_on<'a, B: Naming, D: Disk, J: Site, K: Chronicle, R: Wait>(
     disks: (D, D),
     tally: &'a Tally,
     histories: Histories,
-) -> Result<Store<D, &'a Tally, J, K>, Unrestored>
+) -> Result<Boxed<'a, D, J, K>, Unrestored>
 where
     D: Drop,
     requires written { histories.written ≡ J.history }
@@ -229,46 +234,41 @@ pub struct Look;
 impl<D: Again + Drop> Course<D> for Look {
     type Found = Seen;
 
-    fn take<B: Naming, J: Site, K: Chronicle, R: Wait>(
+    fn take<B: Naming, J: Site, K: Chronicle, P: Keeper, R: Wait + Abort>(
         &self,
         rt: &R,
         alloc: Global,
         board: &Board<B>,
-        store: &Store<D, &Tally, J, K>,
-        seat: &mut Seat<B>,
-    ) -> Result<Seen, Fail> {
-        seen(rt, alloc, board, &mut Stored::new(rt, board, store, seat))
+        _store: &Store<D, &Tally, J, K>,
+        keeper: &mut P,
+    ) -> Seen {
+        seen(rt, alloc, board, keeper)
     }
 }
 
 /// The results of a job on a plain board, and the state of the board after it.
-pub fn plainly<R: Wait>(rt: &R, alloc: Global, job: &Job) -> Result<(Outcome, Seen), Fail> {
-    let parts = BoardParts::new(alloc, 2, 4)?;
+pub fn plainly<R: Wait + Abort>(rt: &R, alloc: Global, job: &Job) -> (Outcome, Seen) {
+    let parts = BoardParts::new(alloc, 2, 4).expect(rt, "memory");
     plain_of::<Brand, R>(rt, alloc, parts, job)
 }
 
 /// The state of a plain board after these changes.
-pub fn standing<R: Wait>(rt: &R, alloc: Global, rows: &[Row]) -> Result<Seen, Fail> {
-    Ok(plainly(rt, alloc, &job_of(alloc, rows)?)?.1)
+pub fn standing<R: Wait + Abort>(rt: &R, alloc: Global, rows: &[Row]) -> Seen {
+    plainly(rt, alloc, &job_of(alloc, rows).expect(rt, "memory")).1
 }
 
 /// The state of a board that is restored from the logs on these disks, and the logs.
-pub fn restored<D: Again + Drop, R: Wait>(
+pub fn restored<D: Again + Drop, R: Wait + Abort>(
     rt: &R,
     alloc: Global,
     disks: (D, D),
-) -> Result<(Seen, Files<D>), Fail> {
-    kept(rt, alloc, disks, &Tally::new(alloc)?, &Look)
+) -> (Seen, Files<D>) {
+    let tally = Tally::new(alloc).expect(rt, "memory");
+    kept(rt, alloc, disks, &tally, &Look)
 }
 
 /// Checks that these changes are there after a restart.
-pub fn hold_again<R: Wait + Abort>(
-    rt: &R,
-    alloc: Global,
-    disks: (Memory, Memory),
-    rows: &[Row],
-) -> Result<(), Fail> {
-    let (seen, _) = restored(rt, alloc, disks)?;
-    assert!(rt; seen == standing(rt, alloc, rows)?);
-    Ok(())
+pub fn hold_again<R: Wait + Abort>(rt: &R, alloc: Global, disks: (Memory, Memory), rows: &[Row]) {
+    let (seen, _) = restored(rt, alloc, disks);
+    assert!(rt; seen == standing(rt, alloc, rows));
 }

@@ -9,14 +9,13 @@ use sqlite_disk::{Crash, Fuse, Memory};
 use std::alloc::Global;
 use std::process::Abort;
 use std::sync::Wait;
-use std::test::Fail;
 use up_compact::{Head, Heads};
-use up_dispatch::{Board, Keeper, Naming, Seat};
+use up_dispatch::{Board, Keeper, Naming};
 use up_events::Id;
 use up_handed::EndedUpload;
 use up_history::Chronicle;
 use up_log::{LogFault, LogReader};
-use up_store::{Current, EndedUploads, Folder, Shortening, Store, Stored};
+use up_store::{Current, EndedUploads, Folder, Shortening, Store};
 use up_tie::Site;
 
 type File = Fuse<Memory>;
@@ -73,7 +72,7 @@ struct After {
     /// The responses of the board about each upload.
     seen: Vec<u8>,
     logs: Files<File>,
-    current: Current<File>,
+    current: Box<Current<File>, Global>,
 }
 
 /// The uploads 1 and 4, which have ended.
@@ -98,28 +97,27 @@ fn current(alloc: Global, calls: u64) -> Result<Current<File>, LogFault> {
 }
 
 /// What makes a log of the first generation shorter.
-fn shortening_of<R: Wait>(
-    rt: &R,
-    alloc: Global,
-    calls: Calls,
-) -> Result<Shortening<File, Disks>, LogFault> {
+type Shortens = Box<Shortening<File, Disks>, Global>;
+
+fn shortening_of<R: Wait>(rt: &R, alloc: Global, calls: Calls) -> Result<Shortens, LogFault> {
     let folder = Disks {
         alloc,
         calls: calls.shorter,
     };
     let current = current(alloc, calls.heads)?;
-    Ok(Shortening::new(current, ended(rt, alloc), folder, 2, 0))
+    let shortening = Shortening::new(current, ended(rt, alloc), folder, 2, 0);
+    Ok(Box::new(alloc, shortening)?)
 }
 
 /// The results of the last changes, and the responses of the board about each upload after them.
-fn second<B: Naming, K: Keeper, R: Wait>(
+fn second<B: Naming, K: Keeper, R: Wait + Abort>(
     rt: &R,
     alloc: Global,
     board: &Board<B>,
     keeper: &mut K,
-) -> Result<(Vec<CommitResult>, Vec<u8>), Fail> {
-    let told = change(alloc, keeper, &SECOND)?;
-    Ok((told, seen(rt, alloc, board, keeper)?.1))
+) -> (Vec<CommitResult>, Vec<u8>) {
+    let told = change(alloc, keeper, &SECOND).expect(rt, "memory");
+    (told, seen(rt, alloc, board, keeper).1)
 }
 
 /// Changes are made, the log is made shorter, and more changes follow.
@@ -131,39 +129,38 @@ struct MadeShorter {
 impl Course<File> for MadeShorter {
     /// The results of the changes after that, the responses of the board about each upload, and what knows which log is
     /// the current one.
-    type Found = (Vec<CommitResult>, Vec<u8>, Shortening<File, Disks>);
+    type Found = (Vec<CommitResult>, Vec<u8>, Shortens);
 
-    fn take<B: Naming, J: Site, K: Chronicle, R: Wait>(
+    fn take<B: Naming, J: Site, K: Chronicle, P: Keeper, R: Wait + Abort>(
         &self,
         rt: &R,
         alloc: Global,
         board: &Board<B>,
         store: &Store<File, &Tally, J, K>,
-        seat: &mut Seat<B>,
-    ) -> Result<Self::Found, Fail> {
-        let shortening = shortening_of(rt, alloc, self.calls)?;
-        let mut keeper = Stored::new(rt, board, store, seat);
-        change(alloc, &mut keeper, &FIRST)?;
+        keeper: &mut P,
+    ) -> Self::Found {
+        let shortening = shortening_of(rt, alloc, self.calls).expect(rt, "heads");
+        change(alloc, keeper, &FIRST).expect(rt, "memory");
         shortening.shorten(rt, alloc, store);
-        let (told, seen) = second(rt, alloc, board, &mut keeper)?;
-        Ok((told, seen, shortening))
+        let (told, seen) = second(rt, alloc, board, keeper);
+        (told, seen, shortening)
     }
 }
 
 /// The state after the log of a new store was made shorter, or could not be.
-fn shorten<R: Wait>(rt: &R, alloc: Global, calls: Calls, tally: &Tally) -> Result<After, Fail> {
+fn shorten<R: Wait + Abort>(rt: &R, alloc: Global, calls: Calls, tally: &Tally) -> After {
     let disks = (disk(alloc, u64::MAX), disk(alloc, u64::MAX));
-    let (found, logs) = kept(rt, alloc, disks, tally, &MadeShorter { calls })?;
+    let (found, logs) = kept(rt, alloc, disks, tally, &MadeShorter { calls });
     let (told, seen, shortening) = found;
-    let current = shortening
+    let current = Box::into_inner(shortening)
         .into_current()
-        .ok_or("which log is the current one")?;
-    Ok(After {
+        .expect(rt, "which log is the current one");
+    After {
         told,
         seen,
         logs,
-        current,
-    })
+        current: Box::new(alloc, current).expect(rt, "memory"),
+    }
 }
 
 /// The head that a crash leaves.
@@ -175,29 +172,24 @@ fn head_left(alloc: Global, heads: Heads<File>) -> Result<Head, LogFault> {
 
 /// Checks that a crash leaves logs from which the responses about each upload come back, and returns their number of
 /// entries.
-fn hold_left<R: Wait + Abort>(
-    rt: &R,
-    alloc: Global,
-    logs: Files<File>,
-    before: &[u8],
-) -> Result<u64, Fail> {
+fn hold_left<R: Wait + Abort>(rt: &R, alloc: Global, logs: Files<File>, before: &[u8]) -> u64 {
     let (mut changes, mut voids) = logs.into_disks();
     changes.crash();
     voids.crash();
-    let (seen, logs) = restored(rt, alloc, (changes, voids))?;
+    let (seen, logs) = restored(rt, alloc, (changes, voids));
     assert!(rt; seen.1.as_slice() == before);
-    Ok(logs.count())
+    logs.count()
 }
 
 #[test]
-fn a_shorter_log_takes_the_place(rt: HostRuntime) -> Result<(), Fail> {
+fn a_shorter_log_takes_the_place(rt: HostRuntime) {
     let alloc = rt.alloc();
-    let tally = Tally::new(alloc)?;
+    let tally = Tally::new(alloc).expect(&rt, "memory");
     let calls = Calls {
         heads: u64::MAX,
         shorter: u64::MAX,
     };
-    let after = shorten(&rt, alloc, calls, &tally)?;
+    let after = shorten(&rt, alloc, calls, &tally);
     expect_same(&rt, &(tally.switches(), tally.counts()), &([1, 0], [0; 3]));
     for told in after.told.iter() {
         assert!(rt; told.is_ok());
@@ -210,12 +202,11 @@ fn a_shorter_log_takes_the_place(rt: HostRuntime) -> Result<(), Fail> {
         current,
         ..
     } = after;
-    let head = head_left(alloc, current.heads)?;
+    let head = head_left(alloc, Box::into_inner(current).heads).expect(&rt, "a head");
     expect_same(&rt, &(head.generation, head.entries), &(1, 2));
     let left_out = [4u64, 4];
     expect_same(&rt, &head.left_out.as_slice(), &left_out.as_slice());
-    expect_same(&rt, &hold_left(&rt, alloc, logs, &seen)?, &5);
-    Ok(())
+    expect_same(&rt, &hold_left(&rt, alloc, logs, &seen), &5);
 }
 
 /// Checks that the current log is of this generation, and that a crash leaves its head if changes are still made.
@@ -223,31 +214,27 @@ fn a_shorter_log_takes_the_place(rt: HostRuntime) -> Result<(), Fail> {
 fn hold_head<R: Abort>(
     rt: &R,
     alloc: Global,
-    current: Current<File>,
+    current: Box<Current<File>, Global>,
     generation: u64,
     goes_on: bool,
-) -> Result<u64, Fail> {
-    let Current { heads, head: held } = current;
-    let head = head_left(alloc, heads)?;
+) -> u64 {
+    let Current { heads, head: held } = Box::into_inner(current);
+    let head = head_left(alloc, heads).expect(rt, "a head");
     expect_same(rt, &held.generation, &generation);
     if goes_on {
         expect_same(rt, &head.generation, &generation);
     }
-    Ok(held.entries)
+    held.entries
 }
 
 /// Checks that, whether the log was made shorter or not, changes are then made in the log that a crash leaves, or none
 /// is made. Returns whether the log was made shorter, and whether changes are made. `None` if the heads cannot be read.
-fn hold<R: Wait + Abort>(
-    rt: &R,
-    alloc: Global,
-    calls: Calls,
-) -> Result<Option<(bool, bool)>, Fail> {
-    let tally = Tally::new(alloc)?;
+fn hold<R: Wait + Abort>(rt: &R, alloc: Global, calls: Calls) -> Option<(bool, bool)> {
     if current(alloc, calls.heads).is_err() {
-        return Ok(None);
+        return None;
     }
-    let after = shorten(rt, alloc, calls, &tally)?;
+    let tally = Tally::new(alloc).expect(rt, "memory");
+    let after = shorten(rt, alloc, calls, &tally);
     let [shorter, _] = tally.switches();
     let goes_on = tally.counts()[2] == 0;
     expect_same(rt, &after.told.len(), &3);
@@ -260,20 +247,20 @@ fn hold<R: Wait + Abort>(
         current,
         ..
     } = after;
-    let entries = hold_head(rt, alloc, current, shorter, goes_on)?;
-    assert!(rt; hold_left(rt, alloc, logs, &seen)? >= entries);
-    Ok(Some((shorter == 1, goes_on)))
+    let entries = hold_head(rt, alloc, current, shorter, goes_on);
+    assert!(rt; hold_left(rt, alloc, logs, &seen) >= entries);
+    Some((shorter == 1, goes_on))
 }
 
 #[test]
-fn a_switch_is_made_or_not(rt: HostRuntime) -> Result<(), Fail> {
+fn a_switch_is_made_or_not(rt: HostRuntime) {
     let mut counts = [0u64; 3];
     for heads in 0..40 {
         let calls = Calls {
             heads,
             shorter: u64::MAX,
         };
-        let place = match hold(&rt, rt.alloc(), calls)? {
+        let place = match hold(&rt, rt.alloc(), calls) {
             None => continue,
             Some((_, false)) => 0,
             Some((false, true)) => 1,
@@ -283,18 +270,16 @@ fn a_switch_is_made_or_not(rt: HostRuntime) -> Result<(), Fail> {
     }
     // A disk that fails for good accepts no second head, so that it is not known which head is the current one.
     assert!(rt; counts[0] > 0 && counts[2] > 0, "{counts:?}");
-    Ok(())
 }
 
 #[test]
-fn a_store_goes_on_without_a_shorter_log(rt: HostRuntime) -> Result<(), Fail> {
+fn a_store_goes_on_without_a_shorter_log(rt: HostRuntime) {
     for shorter in 0..7 {
         let calls = Calls {
             heads: u64::MAX,
             shorter,
         };
-        let found = hold(&rt, rt.alloc(), calls)?;
+        let found = hold(&rt, rt.alloc(), calls);
         expect_same(&rt, &found, &Some((false, true)));
     }
-    Ok(())
 }

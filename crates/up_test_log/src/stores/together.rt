@@ -9,7 +9,6 @@ use sqlite_disk::Memory;
 use std::alloc::{AllocError, Global};
 use std::process::Abort;
 use std::sync::Wait;
-use std::test::Fail;
 use up_log::LogFault;
 
 /// The number of uploads that are created from each seat.
@@ -62,11 +61,11 @@ pub fn jobs_that_keep(alloc: Global) -> Result<Vec<Job>, AllocError> {
 }
 
 /// The results of the rows of these jobs on a plain board.
-pub fn told_plainly<R: Wait>(rt: &R, alloc: Global) -> Result<Vec<Outcome>, Fail> {
+pub fn told_plainly<R: Wait + Abort>(rt: &R, alloc: Global) -> Result<Vec<Outcome>, AllocError> {
     let mut outcomes = Vec::new(alloc);
     for number in 1..4u8 {
         let job = job_of(alloc, number, 0)?;
-        outcomes.push(plainly(rt, alloc, &job)?.0)?;
+        outcomes.push(plainly(rt, alloc, &job).0)?;
     }
     Ok(outcomes)
 }
@@ -77,9 +76,9 @@ pub fn shared_file(alloc: Global) -> Result<Memory, LogFault> {
 }
 
 /// Checks that the rows have the same results as on a plain board, and returns the number of attempted changes.
-fn count_of<R: Wait + Abort>(rt: &R, alloc: Global, outcomes: &[Outcome]) -> Result<u64, Fail> {
+fn count_of<R: Wait + Abort>(rt: &R, alloc: Global, outcomes: &[Outcome]) -> u64 {
     let mut count: u64 = 0;
-    let plain = told_plainly(rt, alloc)?;
+    let plain = told_plainly(rt, alloc).expect(rt, "memory");
     expect_same(rt, &outcomes.len(), &plain.len());
     for ((told, tries), (want, _)) in outcomes.iter().zip(&plain) {
         expect_same(rt, &told.as_slice(), &want.as_slice());
@@ -87,7 +86,7 @@ fn count_of<R: Wait + Abort>(rt: &R, alloc: Global, outcomes: &[Outcome]) -> Res
             .saturating_add(told.len() as u64)
             .saturating_add(*tries);
     }
-    Ok(count)
+    count
 }
 
 /// Checks that the log on these disks has so many entries, and brings back what was seen.
@@ -97,23 +96,23 @@ fn hold_seen<R: Wait + Abort>(
     disks: (Memory, Memory),
     seen: &Seen,
     count: u64,
-) -> Result<(), Fail> {
-    let (entries, file) = count_in(alloc, disks.0)?;
+) {
+    let (entries, file) = count_in(alloc, disks.0).expect(rt, "a log");
     expect_same(rt, &entries, &count);
-    let (again, logs) = restored(rt, alloc, (file, disks.1))?;
+    let (again, logs) = restored(rt, alloc, (file, disks.1));
     expect_same(rt, &(again.0, logs.count()), &(seen.0, count));
     expect_same(rt, &again.1.as_slice(), &seen.1.as_slice());
-    Ok(())
 }
 
 #[test]
-fn changes_made_at_once_come_back(rt: HostRuntime) -> Result<(), Fail> {
+fn changes_made_at_once_come_back(rt: HostRuntime) {
     let alloc = rt.alloc();
-    let tally = Tally::new(alloc)?;
-    let disks = (shared_file(alloc)?, Memory::new(alloc));
-    let ran = ran_on(&rt, alloc, disks, &tally, jobs_of(alloc)?)?;
+    let tally = Tally::new(alloc).expect(&rt, "memory");
+    let disks = (shared_file(alloc).expect(&rt, "a log"), Memory::new(alloc));
+    let jobs = jobs_of(alloc).expect(&rt, "memory");
+    let ran = ran_on(&rt, alloc, disks, &tally, jobs);
     // The upload 0 was created before these. A third of the rows is refused, and half of the removals.
-    let count = count_of(&rt, alloc, &ran.outcomes)?.saturating_add(1);
+    let count = count_of(&rt, alloc, &ran.outcomes).saturating_add(1);
     let counts = ran.seen.0;
     let made = 1 + 3 * (30 + 30 + 10 + 60);
     expect_same(
@@ -127,5 +126,5 @@ fn changes_made_at_once_come_back(rt: HostRuntime) -> Result<(), Fail> {
         &([0, 0, 0], count),
     );
     let Ran { seen, logs, .. } = ran;
-    hold_seen(&rt, alloc, logs.into_disks(), &seen, count)
+    hold_seen(&rt, alloc, logs.into_disks(), &seen, count);
 }

@@ -48,14 +48,14 @@ fn hold_rows<R: Wait + Abort>(
     alloc: Global,
     disks: (Memory, Memory),
     rows: &[Row],
-) -> Result<Files<Memory>, Fail> {
-    let (seen, logs) = restored(rt, alloc, disks)?;
+) -> Files<Memory> {
+    let (seen, logs) = restored(rt, alloc, disks);
     assert!(rt;
-        seen == standing(rt, alloc, rows)?,
+        seen == standing(rt, alloc, rows),
         "{count} changes",
         count = rows.len()
     );
-    Ok(logs)
+    logs
 }
 
 /// Checks that the board has only these changes if these places are void, and that one more place can then become void.
@@ -65,20 +65,19 @@ fn hold<R: Wait + Abort>(
     places: &[u128],
     rows: &[Row],
     more: (u64, &[Row]),
-) -> Result<(), Fail> {
+) {
     let disks = (
-        file_of(alloc, &[&FIRST, &SECOND])?,
-        void_file(alloc, places)?,
+        file_of(alloc, &[&FIRST, &SECOND]).expect(rt, "a log"),
+        void_file(alloc, places).expect(rt, "voids"),
     );
-    let mut logs = hold_rows(rt, alloc, disks, rows)?;
+    let mut logs = hold_rows(rt, alloc, disks, rows);
     expect_same(rt, &logs.count(), &4);
-    logs.add_void(more.0)?;
-    hold_rows(rt, alloc, logs.into_disks(), more.1)?;
-    Ok(())
+    logs.add_void(more.0).expect(rt, "a void");
+    hold_rows(rt, alloc, logs.into_disks(), more.1);
 }
 
 #[test]
-fn void_entries_are_passed_over(rt: HostRuntime) -> Result<(), Fail> {
+fn void_entries_are_passed_over(rt: HostRuntime) {
     let alloc = rt.alloc();
     let [make, three] = FIRST;
     let [two, other] = SECOND;
@@ -89,12 +88,11 @@ fn void_entries_are_passed_over(rt: HostRuntime) -> Result<(), Fail> {
         &[],
         &[make, three, other],
         (1, &[make, two, other]),
-    )?;
-    hold(&rt, alloc, &[1], &[make, two, other], (3, &[make, two]))?;
-    hold(&rt, alloc, &[3], &[make, three], (0, &[]))?;
-    hold(&rt, alloc, &[2, 1], &[make, other], (1, &[make, other]))?;
-    hold(&rt, alloc, &[4, 0], &[other], (3, &[]))?;
-    Ok(())
+    );
+    hold(&rt, alloc, &[1], &[make, two, other], (3, &[make, two]));
+    hold(&rt, alloc, &[3], &[make, three], (0, &[]));
+    hold(&rt, alloc, &[2, 1], &[make, other], (1, &[make, other]));
+    hold(&rt, alloc, &[4, 0], &[other], (3, &[]));
 }
 
 /// The voids in a file, and their places.

@@ -12,7 +12,6 @@ use std::alloc::Global;
 use std::marker::{Brand, Send, Sync};
 use std::process::Abort;
 use std::sync::{Arc, Wait};
-use std::test::Fail;
 use std::thread;
 use std::thread::Threads;
 use up_dispatch::{Board, BoardParts, Counting, Ended, Naming, Seat, Seated};
@@ -60,12 +59,11 @@ fn talk_from_two_seats<B: Naming + Send + Sync, R: Threads + Wait + Abort + Sync
     board: &Board<B>,
     hooks: &PreHooks,
     gate: &Gate,
-) -> Result<(), Fail>
+)
     requires free { B.history ≡ no_history }
 {
-    let (Some(mut first), Some(second)) = (board.seat(rt), board.seat(rt)) else {
-        return Err("two seats".into());
-    };
+    let mut first = board.seat(rt).expect(rt, "a seat");
+    let second = board.seat(rt).expect(rt, "another seat");
     let ((ended, made), (was_called, shown)) = thread::join(
         rt,
         || -> (Ended, Vec<u8>)
@@ -78,7 +76,6 @@ fn talk_from_two_seats<B: Naming + Send + Sync, R: Threads + Wait + Abort + Sync
     expect_same(rt, &(was_called, ended), &(true, Ended::Closed));
     assert!(rt; shown.starts_with(b"HTTP/1.1 404 "));
     assert!(rt; made.starts_with(b"HTTP/1.1 201 "));
-    Ok(())
 }
 
 /// Two seats of a new board with these parts.
@@ -88,26 +85,29 @@ fn two_seats<B: Naming + Send + Sync, R: Threads + Wait + Abort + Sync>(
     parts: BoardParts,
     hooks: &PreHooks,
     gate: &Gate,
-) -> Result<(), Fail>
+)
     requires named { IsNamed B.name B.parts B.queue B.lanes parts }
     requires lanes { length parts.queues ≡ 2 }
     requires sized { B.max_size ≡ 1048576 }
     requires free { B.history ≡ no_history }
 {
-    let (board, _takes) = Board::<B>::new(alloc, parts, MAX_SIZE)?;
-    talk_from_two_seats(rt, alloc, &board, hooks, gate)
+    let (board, _takes) = Board::<B>::new(alloc, parts, MAX_SIZE).expect(rt, "memory");
+    talk_from_two_seats(rt, alloc, &board, hooks, gate);
 }
 
 #[test]
-fn a_closure_waits_for_another_seat(rt: HostRuntime) -> Result<(), Fail> {
-    let gate = Arc::new(rt.alloc(), Gate::new())?;
-    let held = Arc::try_clone(&gate)?;
+fn a_closure_waits_for_another_seat(rt: HostRuntime) {
+    let gate = Arc::new(rt.alloc(), Gate::new()).expect(&rt, "memory");
+    let held = Arc::try_clone(&gate).expect(&rt, "memory");
     let judge = move |_: &Ask| -> Verdict
         ensures { IsTrue (is_allowed_verdict result) }
     { held.judge() };
     let mut hooks = Vec::new(rt.alloc());
-    hooks.push(PreHook::new(Point::Create, Box::new(rt.alloc(), judge)?))?;
-    let parts = BoardParts::new(rt.alloc(), 2, 1)?;
+    let judge = Box::new(rt.alloc(), judge).expect(&rt, "memory");
+    hooks
+        .push(PreHook::new(Point::Create, judge))
+        .expect(&rt, "memory");
+    let parts = BoardParts::new(rt.alloc(), 2, 1).expect(&rt, "memory");
     let hooks = PreHooks::new(hooks);
-    two_seats::<Brand, _>(&rt, rt.alloc(), parts, &hooks, &gate)
+    two_seats::<Brand, _>(&rt, rt.alloc(), parts, &hooks, &gate);
 }

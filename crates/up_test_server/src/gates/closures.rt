@@ -13,7 +13,6 @@ use std::marker::Sync;
 use std::net::{TcpListener, TcpStream};
 use std::process::Abort;
 use std::sync::{Arc, Wait};
-use std::test::Fail;
 use std::thread;
 use std::thread::Threads;
 use up_hooks::{PreHook, PreHooks};
@@ -26,36 +25,35 @@ static REPORT: &str = "\naccepted 1\nlane 0 drained 0\nlane 1 drained 1\n\
     00000000000000000000000000000001 1 post-create 0/1 done\n";
 
 /// Sends a request once the closure was called, and returns the response.
-fn asks_meanwhile(alloc: Global, mut stream: TcpStream, gate: &Gate) -> Result<Vec<u8>, Fail> {
+fn asks_meanwhile(rt: &impl Abort, alloc: Global, mut stream: TcpStream, gate: &Gate) -> Vec<u8> {
     if !gate.is_called_in_time() {
-        return Err("the closure was not called".into());
+        rt.panic("the closure was not called");
     }
-    stream.write_all(HEAD)?;
+    stream.write_all(HEAD).expect(rt, "a request");
     let mut answer = Vec::new(alloc);
-    stream.read_to_end(&mut answer)?;
+    stream.read_to_end(&mut answer).expect(rt, "a response");
     gate.open();
-    Ok(answer)
+    answer
 }
 
 /// Serves two connections with these closures. The second sends its request once the closure was called. Returns the
 /// report, and the response to that request.
-fn served<R: Threads + Wait + Eprint + Sync>(
+fn served<R: Threads + Wait + Eprint + Abort + Sync>(
     rt: &R,
     alloc: Global,
     hooks: PreHooks,
     listener: TcpListener,
     stream: TcpStream,
     gate: &Gate,
-) -> Result<(Vec<u8>, Vec<u8>), Fail> {
+) -> (Vec<u8>, Vec<u8>) {
     let visits = visits(Some(2), 2, &Silent);
     let settings = Settings::default();
     let (report, told) = thread::join(
         rt,
         || reported(rt, alloc, hooks, done, &settings, listener, &visits),
-        || asks_meanwhile(alloc, stream, gate),
+        || asks_meanwhile(rt, alloc, stream, gate),
     );
-    let told = told?;
-    Ok((report?, told))
+    (report.expect(rt, "a report"), told)
 }
 
 /// Serves two connections, as above, and checks the report and the response to the request of the second.
@@ -66,10 +64,10 @@ fn hold_two(
     listener: TcpListener,
     stream: TcpStream,
     gate: &Gate,
-) -> Result<(), Fail> {
-    let (report, told) = served(rt, alloc, hooks, listener, stream, gate)?;
+) {
+    let (report, told) = served(rt, alloc, hooks, listener, stream, gate);
     assert!(rt; told.starts_with(b"HTTP/1.1 404 "));
-    expect_text(rt, &report, REPORT)
+    expect_text(rt, &report, REPORT);
 }
 
 /// Serves two connections with a closure that allows a creation once the second got its response, and checks what came
@@ -79,21 +77,25 @@ fn hold_gated(
     alloc: Global,
     listener: TcpListener,
     stream: TcpStream,
-) -> Result<(), Fail> {
-    let gate = Arc::new(alloc, Gate::new())?;
-    let held = Arc::try_clone(&gate)?;
+) {
+    let gate = Arc::new(alloc, Gate::new()).expect(rt, "memory");
+    let held = Arc::try_clone(&gate).expect(rt, "memory");
     let judge = move |_: &Ask| -> Verdict
         ensures { IsTrue (is_allowed_verdict result) }
     { held.judge() };
     let mut hooks = Vec::new(alloc);
-    hooks.push(PreHook::new(Point::Create, Box::new(alloc, judge)?))?;
-    hold_two(rt, alloc, PreHooks::new(hooks), listener, stream, &gate)
+    let judge = Box::new(alloc, judge).expect(rt, "memory");
+    hooks
+        .push(PreHook::new(Point::Create, judge))
+        .expect(rt, "memory");
+    hold_two(rt, alloc, PreHooks::new(hooks), listener, stream, &gate);
 }
 
 #[test]
-fn a_closure_waits_for_another_connection(rt: HostRuntime) -> Result<(), Fail> {
-    let (listener, mut clients) = listen(&rt, &[POST])?;
-    let stream = TcpStream::connect(&rt, listener.local_addr()?)?;
-    hold_gated(&rt, rt.alloc(), listener, stream)?;
-    hold_answers(&rt, rt.alloc(), &mut clients, b"HTTP/1.1 201 ", b"")
+fn a_closure_waits_for_another_connection(rt: HostRuntime) {
+    let (listener, mut clients) = listen(&rt, rt.alloc(), &[POST]);
+    let address = listener.local_addr().expect(&rt, "an address");
+    let stream = TcpStream::connect(&rt, address).expect(&rt, "a connection");
+    hold_gated(&rt, rt.alloc(), listener, stream);
+    hold_answers(&rt, rt.alloc(), &mut clients, b"HTTP/1.1 201 ", b"");
 }

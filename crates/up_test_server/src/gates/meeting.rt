@@ -12,7 +12,6 @@ use std::marker::Sync;
 use std::net::TcpListener;
 use std::sync::Wait;
 use std::sync::atomic::{AtomicBool, Ordering};
-use std::test::Fail;
 use std::thread::Threads;
 use up_events::Event;
 use up_hooks::{Outcome, PreHooks};
@@ -76,7 +75,7 @@ impl Meeting {
 }
 
 #[test]
-fn post_hooks_of_two_lanes_meet(rt: HostRuntime) -> Result<(), Fail> {
+fn post_hooks_of_two_lanes_meet(rt: HostRuntime) {
     let meeting = Meeting::new();
     let shared = &meeting;
     let answer = move |event: &Event| -> Outcome
@@ -84,9 +83,8 @@ fn post_hooks_of_two_lanes_meet(rt: HostRuntime) -> Result<(), Fail> {
     { shared.answer(event) };
     let (ended, written) = replayed(&rt, rt.alloc(), answer, &mut Input::new(ASKED));
     expect_same(&rt, &ended, &Ok(()));
-    let text = str::from_utf8(&written)?;
+    let text = str::from_utf8(&written).expect(&rt, "text");
     expect_same(&rt, &text.strip_prefix(ANSWERS), &Some(REPORT));
-    Ok(())
 }
 
 /// The report of a server that serves two connections, one after the other, and whose post-hooks meet.
@@ -114,8 +112,9 @@ fn met<R: Threads + Wait + Eprint + Sync>(
 }
 
 #[test]
-fn post_hooks_meet_by_two_connections(rt: HostRuntime) -> Result<(), Fail> {
-    let (listener, mut clients) = listen(&rt, &[POST, POST])?;
-    expect_text(&rt, &met(&rt, rt.alloc(), listener)?, REPORT)?;
-    hold_answers(&rt, rt.alloc(), &mut clients, b"HTTP/1.1 201 ", b"")
+fn post_hooks_meet_by_two_connections(rt: HostRuntime) {
+    let (listener, mut clients) = listen(&rt, rt.alloc(), &[POST, POST]);
+    let report = met(&rt, rt.alloc(), listener).expect(&rt, "a report");
+    expect_text(&rt, &report, REPORT);
+    hold_answers(&rt, rt.alloc(), &mut clients, b"HTTP/1.1 201 ", b"");
 }

@@ -80,19 +80,19 @@ fn stopped<B: Naming + Send + Sync, R: Threads + Wait + Abort + Sync>(
     requires second { ⟦<Listing as PostHook>⟧.handed hooks.1 ≡ [] }
     requires free { B.history ≡ no_history }
 {
-    let (board, lanes) = open_board::<B, _>(alloc, parts, hooks, true)?;
+    let (board, lanes) = open_board::<B, _, _>(rt, alloc, parts, hooks, true);
     let shared = &board;
     let (seat, ends) = run_beside(
         rt,
         shared,
         shared,
         lanes,
-        || -> Result<Seat<B>, Fail>
+        || -> Seat<B>
             requires { B.history ≡ no_history }
         { answered(rt, alloc, shared) },
-    )?;
+    );
     let ends = ends_of(rt, &board, ends, is_resumed)?;
-    finished_from(alloc, board, seat, ends)
+    Ok(finished_from(rt, alloc, board, seat, ends))
 }
 
 /// That report if the post-hook of lane 0 runs out of memory `refusals` times after two events.

@@ -7,7 +7,6 @@ use std::alloc::{AllocError, Global};
 use std::process::Abort;
 use std::sync::Arc;
 use std::sync::atomic::{AtomicU64, Ordering};
-use std::test::Fail;
 use up_events::Kind;
 use up_hooks::{PreHook, PreHooks};
 use up_machine::{Ask, Asked, Point, Reason, Verdict};
@@ -24,25 +23,25 @@ const MISSING: Option<Refusal> = Some((422, "metadata key missing"));
 const KEPT: Option<Refusal> = Some((403, "uploads are kept"));
 
 /// The closure's verdict: it refuses in this way, or allows.
-fn verdict_of(refusal: Option<Refusal>) -> Result<Verdict, Fail> {
+fn verdict_of(rt: &impl Abort, refusal: Option<Refusal>) -> Verdict {
     let Some((status, text)) = refusal else {
-        return Ok(Verdict::Allow);
+        return Verdict::Allow;
     };
-    let reason = Reason::new(text.as_bytes()).ok_or("this is no reason")?;
-    Ok(Verdict::Refuse { status, reason })
+    let reason = Reason::new(text.as_bytes()).expect(rt, "a reason");
+    Verdict::Refuse { status, reason }
 }
 
 /// The verdict of all closures of a point: one refuses in this way, or none does.
-fn asked_of(point: Point, refusal: Option<Refusal>) -> Result<Asked, Fail> {
+fn asked_of(rt: &impl Abort, point: Point, refusal: Option<Refusal>) -> Asked {
     let Some((status, text)) = refusal else {
-        return Ok(if point == Point::Finish {
+        return if point == Point::Finish {
             Asked::AllowedFinish
         } else {
             Asked::Allowed
-        });
+        };
     };
-    let reason = Reason::new(text.as_bytes()).ok_or("this is no reason")?;
-    Ok(Asked::Refused { status, reason })
+    let reason = Reason::new(text.as_bytes()).expect(rt, "a reason");
+    Asked::Refused { status, reason }
 }
 
 /// Counts a call, and returns this verdict, if a closure may return it. Otherwise it allows.
@@ -87,10 +86,9 @@ fn hold_answer(
     hooks: &PreHooks,
     point: Point,
     wanted: Option<Refusal>,
-) -> Result<(), Fail> {
+) {
     let asked = hooks.ask(&ask_of(alloc, point, 5));
-    expect_same(rt, &asked, &asked_of(point, wanted)?);
-    Ok(())
+    expect_same(rt, &asked, &asked_of(rt, point, wanted));
 }
 
 /// Checks what closures that refuse in this way, or allow, return together. Each counts its calls.
@@ -101,37 +99,31 @@ fn hold_asked(
     counters: &[Arc<AtomicU64>],
     point: Point,
     wanted: Option<Refusal>,
-) -> Result<(), Fail> {
+) {
     let mut hooks = Vec::new(alloc);
     for ((point, refusal, _), calls) in rows.iter().zip(counters) {
-        let verdict = verdict_of(*refusal)?;
-        let counter = Arc::try_clone(calls)?;
+        let verdict = verdict_of(rt, *refusal);
+        let counter = Arc::try_clone(calls).expect(rt, "memory");
         let judge = Box::new(
             alloc,
             move |_: &Ask| -> Verdict
                 ensures { IsTrue (is_allowed_verdict result) }
             { counted(&counter, verdict) },
-        )?;
-        hooks.push(PreHook::new(*point, judge))?;
+        )
+        .expect(rt, "memory");
+        hooks.push(PreHook::new(*point, judge)).expect(rt, "memory");
     }
-    hold_answer(rt, alloc, &PreHooks::new(hooks), point, wanted)
+    hold_answer(rt, alloc, &PreHooks::new(hooks), point, wanted);
 }
 
 /// Checks that closures that refuse in this way, or allow, are called as often as the number after each says, and what
 /// they return together.
-fn hold(
-    rt: &impl Abort,
-    alloc: Global,
-    rows: &[Row],
-    point: Point,
-    wanted: Option<Refusal>,
-) -> Result<(), Fail> {
-    let counters = new_counters(alloc, rows.len())?;
-    hold_asked(rt, alloc, rows, &counters, point, wanted)?;
+fn hold(rt: &impl Abort, alloc: Global, rows: &[Row], point: Point, wanted: Option<Refusal>) {
+    let counters = new_counters(alloc, rows.len()).expect(rt, "memory");
+    hold_asked(rt, alloc, rows, &counters, point, wanted);
     for ((_, _, times), calls) in rows.iter().zip(&counters) {
         expect_same(rt, &calls.load(Ordering::SeqCst), times);
     }
-    Ok(())
 }
 
 /// Closures of one point, of which the second refuses: the third is not called.
@@ -163,12 +155,12 @@ static OF_ANOTHER_POINT: [Row; 3] = [
 ];
 
 #[test]
-fn the_first_that_refuses_decides(rt: HostRuntime) -> Result<(), Fail> {
+fn the_first_that_refuses_decides(rt: HostRuntime) {
     let alloc = rt.alloc();
-    hold(&rt, alloc, &FIRST_MISSING, Point::Create, MISSING)?;
-    hold(&rt, alloc, &FIRST_KEPT, Point::Create, KEPT)?;
-    hold(&rt, alloc, &BEHIND_ANOTHER_POINT, Point::Create, MISSING)?;
-    hold(&rt, alloc, &OF_ANOTHER_POINT, Point::Terminate, KEPT)
+    hold(&rt, alloc, &FIRST_MISSING, Point::Create, MISSING);
+    hold(&rt, alloc, &FIRST_KEPT, Point::Create, KEPT);
+    hold(&rt, alloc, &BEHIND_ANOTHER_POINT, Point::Create, MISSING);
+    hold(&rt, alloc, &OF_ANOTHER_POINT, Point::Terminate, KEPT);
 }
 
 /// No closure refuses.
@@ -186,11 +178,11 @@ static ALLOWS_BESIDE_ANOTHER_POINT: [Row; 3] = [
 ];
 
 #[test]
-fn allowed_where_none_refuses(rt: HostRuntime) -> Result<(), Fail> {
+fn allowed_where_none_refuses(rt: HostRuntime) {
     let (alloc, point) = (rt.alloc(), Point::Terminate);
-    hold(&rt, alloc, &[], Point::Create, None)?;
-    hold(&rt, alloc, &ALL_ALLOW, point, None)?;
-    hold(&rt, alloc, &ALLOWS_BESIDE_ANOTHER_POINT, point, None)
+    hold(&rt, alloc, &[], Point::Create, None);
+    hold(&rt, alloc, &ALL_ALLOW, point, None);
+    hold(&rt, alloc, &ALLOWS_BESIDE_ANOTHER_POINT, point, None);
 }
 
 /// Closures that are asked whether an upload may be complete, after one of another point.
@@ -202,9 +194,9 @@ static BEFORE_THE_END: [Row; 4] = [
 ];
 
 #[test]
-fn closures_are_asked_whether_an_upload_may_be_complete(rt: HostRuntime) -> Result<(), Fail> {
-    hold(&rt, rt.alloc(), &[], Point::Finish, None)?;
-    hold(&rt, rt.alloc(), &BEFORE_THE_END, Point::Finish, MISSING)
+fn closures_are_asked_whether_an_upload_may_be_complete(rt: HostRuntime) {
+    hold(&rt, rt.alloc(), &[], Point::Finish, None);
+    hold(&rt, rt.alloc(), &BEFORE_THE_END, Point::Finish, MISSING);
 }
 
 /// A refusal with each status, with the shortest and the longest reason among them.
@@ -221,11 +213,10 @@ static REFUSALS: [Refusal; 6] = [
 ];
 
 #[test]
-fn status_and_reason_come_through(rt: HostRuntime) -> Result<(), Fail> {
+fn status_and_reason_come_through(rt: HostRuntime) {
     for refusal in &REFUSALS {
         let refusal = Some(*refusal);
         let rows = [(Point::Create, refusal, 1)];
-        hold(&rt, rt.alloc(), &rows, Point::Create, refusal)?;
+        hold(&rt, rt.alloc(), &rows, Point::Create, refusal);
     }
-    Ok(())
 }

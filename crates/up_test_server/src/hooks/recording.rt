@@ -5,8 +5,7 @@ ghost use Rattle.up_hooks.specs.Recorded.{has_code};
 use crate::same::expect_same;
 use std::alloc::Global;
 use std::sync::atomic::{AtomicU64, Ordering};
-use std::test::Fail;
-use up_events::{Event, Hook, Id};
+use up_events::{Event, Hook, Id, NoMemory};
 use up_hooks::{Outcome, PostHook, Recorder};
 
 fn event(number: u64, hook: Hook, offset: u64) -> Event {
@@ -24,7 +23,7 @@ fn hand_all<H: PostHook>(
     alloc: Global,
     hook: &mut H,
     pairs: &[(Event, Outcome)],
-) -> Result<Vec<(Event, Outcome)>, Fail>
+) -> Result<Vec<(Event, Outcome)>, NoMemory>
     requires { H.is_sound hook.old }
 {
     let mut handed = Vec::new(alloc);
@@ -36,7 +35,7 @@ fn hand_all<H: PostHook>(
 }
 
 #[test]
-fn goes_on_after_a_failure(rt: HostRuntime) -> Result<(), Fail> {
+fn goes_on_after_a_failure(rt: HostRuntime) {
     let calls = AtomicU64::new(0);
     let mut recorder = Recorder::new(
         rt.alloc(),
@@ -59,9 +58,8 @@ fn goes_on_after_a_failure(rt: HostRuntime) -> Result<(), Fail> {
         (event(4, Hook::Finish, 11), Outcome::Failed(99)),
         (event(5, Hook::Terminate, 11), Outcome::Failed(1)),
     ];
-    let handed = hand_all(rt.alloc(), &mut recorder, &wanted)?;
+    let handed = hand_all(rt.alloc(), &mut recorder, &wanted).expect(&rt, "memory");
     expect_same(&rt, &handed.as_slice(), &wanted.as_slice());
     expect_same(&rt, &recorder.list(), &wanted.as_slice());
     expect_same(&rt, &calls.load(Ordering::SeqCst), &5);
-    Ok(())
 }

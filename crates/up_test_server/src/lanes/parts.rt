@@ -7,7 +7,6 @@ use crate::same::expect_same;
 use std::alloc::{AllocError, Global};
 use std::process::Abort;
 use std::sync::Wait;
-use std::test::Fail;
 use std::thread;
 use up_events::{Accepted, Event, Hook, Id, Journal, Kind, NoMemory, logs_are_lawful};
 use up_hooks::{Outcome, PostHook};
@@ -66,20 +65,13 @@ fn wanted(alloc: Global, uploads: u64) -> Result<Vec<Event>, AllocError> {
 }
 
 /// Checks how a lane ended, and that it was handed all events of this number of uploads without bytes.
-pub fn hold(
-    rt: &impl Abort,
-    alloc: Global,
-    end: &LaneEnd<Listing>,
-    how: How,
-    uploads: u64,
-) -> Result<(), Fail> {
-    let wanted = wanted(alloc, uploads)?;
+pub fn hold(rt: &impl Abort, alloc: Global, end: &LaneEnd<Listing>, how: How, uploads: u64) {
+    let wanted = wanted(alloc, uploads).expect(rt, "memory");
     expect_same(
         rt,
         &(end.how, end.hook.events.as_slice()),
         &(how, wanted.as_slice()),
     );
-    Ok(())
 }
 
 /// Puts the item at this place of the list, after those before it.

@@ -7,16 +7,15 @@ use crate::same::expect_same;
 use std::alloc::Global;
 use std::process::Abort;
 use std::sync::Wait;
-use std::test::Fail;
 use std::thread;
 use up_queue::{Item, QueueFault, TakeEnd, compare, lane_queue};
 
 /// Checks that a queue of this capacity takes as many items as it has room for, and returns them in order.
-fn assert_gives_back(rt: &(impl Wait + Abort), alloc: Global, capacity: usize) -> Result<(), Fail>
+fn assert_gives_back(rt: &(impl Wait + Abort), alloc: Global, capacity: usize)
     requires { capacity ≤ 9 }
 {
-    let items = items(alloc, 2)?;
-    let (mut put_end, mut take_end) = lane_queue(alloc, capacity as u64)?;
+    let items = items(alloc, 2).expect(rt, "memory");
+    let (mut put_end, mut take_end) = lane_queue(alloc, capacity as u64).expect(rt, "a queue");
     expect_same(rt, &take_end.take(rt), &None);
     let mut place = 0;
     for taken in 0..4 {
@@ -25,7 +24,6 @@ fn assert_gives_back(rt: &(impl Wait + Abort), alloc: Global, capacity: usize) -
         expect_same(rt, &take_end.take(rt), &items.get(taken).copied());
     }
     expect_same(rt, &compare(put_end, take_end), &u64::from(capacity > 1));
-    Ok(())
 }
 
 /// Takes items until the end is taken, or until there is no room for what was taken.
@@ -46,21 +44,20 @@ fn take_all<R: Wait>(rt: &R, mut end: TakeEnd, mut taken: Vec<Item>) -> (TakeEnd
 }
 
 #[test]
-fn takes_what_there_is_room_for_and_gives_it_back(rt: HostRuntime) -> Result<(), Fail> {
+fn takes_what_there_is_room_for_and_gives_it_back(rt: HostRuntime) {
     let none = lane_queue(rt.alloc(), 0).err();
     expect_same(&rt, &none, &Some(QueueFault::ZeroCapacity));
     for capacity in 1..4 {
-        assert_gives_back(&rt, rt.alloc(), capacity)?;
+        assert_gives_back(&rt, rt.alloc(), capacity);
     }
-    Ok(())
 }
 
 #[test]
-fn a_hundred_thousand_items_between_two_threads(rt: HostRuntime) -> Result<(), Fail> {
-    let items = items(rt.alloc(), 50_000)?;
+fn a_hundred_thousand_items_between_two_threads(rt: HostRuntime) {
+    let items = items(rt.alloc(), 50_000).expect(&rt, "memory");
     expect_same(&rt, &items.len(), &100_001);
     let all = items.as_slice();
-    let (put_end, take_end) = lane_queue(rt.alloc(), 1)?;
+    let (put_end, take_end) = lane_queue(rt.alloc(), 1).expect(&rt, "a queue");
     let room = Vec::new(rt.alloc());
     let (put_end, (take_end, taken)) = thread::join(
         &rt,
@@ -74,5 +71,4 @@ fn a_hundred_thousand_items_between_two_threads(rt: HostRuntime) -> Result<(), F
     );
     assert!(rt; taken == items);
     expect_same(&rt, &compare(put_end, take_end), &0);
-    Ok(())
 }

@@ -1,5 +1,5 @@
 //! Lanes that run: what they call if their queue is empty, and a lane in a thread.
-ghost use Rattle.std.specs.Prelude.{◌≡◌, ◌≤◌, [], IfOk, length, take};
+ghost use Rattle.std.specs.Prelude.{◌≡◌, ◌≤◌, [], length, take};
 ghost use Rattle.up_queue.specs.Line.{IsOrderly};
 
 use super::parts::{Listing, hold, items, put_all, put_at};
@@ -9,7 +9,6 @@ use std::marker::Model;
 use std::process::Abort;
 use std::sync::atomic::{AtomicU64, Ordering};
 use std::sync::{Mutex, Wait};
-use std::test::Fail;
 use std::thread;
 use up_lanes::{How, Lane, Refill};
 use up_queue::{Item, PutEnd, TakeEnd, lane_queue};
@@ -112,32 +111,26 @@ impl Refill for Counted {
 }
 
 /// What fills a queue of one place with the items of four uploads, and the end from which they are taken.
-fn counting_calls(alloc: Global, fills_by_refill: bool) -> Result<(Counted, TakeEnd), Fail>
-    ensures { IfOk result (λ r. r.1.taken ≡ []) }
+fn counting_calls(rt: &impl Abort, alloc: Global, fills_by_refill: bool) -> (Counted, TakeEnd)
+    ensures { result.1.taken ≡ [] }
 {
-    let (put_end, take_end) = lane_queue(alloc, 1)?;
-    let supply = Supply::new(put_end, items(alloc, 4)?);
-    Ok((Counted::new(supply, fills_by_refill), take_end))
+    let (put_end, take_end) = lane_queue(alloc, 1).expect(rt, "a queue");
+    let supply = Supply::new(put_end, items(alloc, 4).expect(rt, "memory"));
+    (Counted::new(supply, fills_by_refill), take_end)
 }
 
 /// Checks that lane 7 is handed everything, and how often it waits.
-fn hold_waits(
-    rt: &(impl Wait + Abort),
-    alloc: Global,
-    fills_by_refill: bool,
-    waits: u64,
-) -> Result<(), Fail> {
-    let (counted, take_end) = counting_calls(alloc, fills_by_refill)?;
+fn hold_waits(rt: &(impl Wait + Abort), alloc: Global, fills_by_refill: bool, waits: u64) {
+    let (counted, take_end) = counting_calls(rt, alloc, fills_by_refill);
     let end = Lane::new(7, take_end, Listing::new(alloc, 0, 0)).run(rt, &counted);
-    hold(rt, alloc, &end, How::Drained, 4)?;
+    hold(rt, alloc, &end, How::Drained, 4);
     expect_same(rt, &(end.lane, counted.counts()), &(7, [9, waits, 0]));
-    Ok(())
 }
 
 #[test]
-fn refills_first_and_then_sleeps(rt: HostRuntime) -> Result<(), Fail> {
-    hold_waits(&rt, rt.alloc(), true, 0)?;
-    hold_waits(&rt, rt.alloc(), false, 9)
+fn refills_first_and_then_sleeps(rt: HostRuntime) {
+    hold_waits(&rt, rt.alloc(), true, 0);
+    hold_waits(&rt, rt.alloc(), false, 9);
 }
 
 /// Another thread puts the items.
@@ -152,10 +145,10 @@ impl Refill for Elsewhere {
 }
 
 #[test]
-fn runs_in_a_thread_of_its_own(rt: HostRuntime) -> Result<(), Fail> {
-    let items = items(rt.alloc(), 4)?;
+fn runs_in_a_thread_of_its_own(rt: HostRuntime) {
+    let items = items(rt.alloc(), 4).expect(&rt, "memory");
     let all = items.as_slice();
-    let (put_end, take_end) = lane_queue(rt.alloc(), 1)?;
+    let (put_end, take_end) = lane_queue(rt.alloc(), 1).expect(&rt, "a queue");
     let lane = Lane::new(0, take_end, Listing::new(rt.alloc(), 0, 0));
     let (_, end) = thread::join(
         &rt,
@@ -164,5 +157,5 @@ fn runs_in_a_thread_of_its_own(rt: HostRuntime) -> Result<(), Fail> {
         { put_all(&rt, put_end, all) },
         || lane.run(&rt, &Elsewhere),
     );
-    hold(&rt, rt.alloc(), &end, How::Drained, 4)
+    hold(&rt, rt.alloc(), &end, How::Drained, 4);
 }

@@ -29,9 +29,9 @@ fn new_lane(alloc: Global, capacity: u64) -> Result<(PutEnd, Lane<Listing>), Que
 
 /// Checks that a lane with a queue of this capacity is handed an event at each step, and that it is handed all of them
 /// in order.
-fn hands_over_in_order(rt: &(impl Wait + Abort), alloc: Global, capacity: u64) -> Result<(), Fail> {
-    let items = items(alloc, 4)?;
-    let (mut put_end, mut lane) = new_lane(alloc, capacity)?;
+fn hands_over_in_order(rt: &(impl Wait + Abort), alloc: Global, capacity: u64) {
+    let items = items(alloc, 4).expect(rt, "memory");
+    let (mut put_end, mut lane) = new_lane(alloc, capacity).expect(rt, "a lane");
     let mut place = 0;
     for _ in 0..8 {
         place = fill(rt, &mut put_end, &items, place);
@@ -42,11 +42,10 @@ fn hands_over_in_order(rt: &(impl Wait + Abort), alloc: Global, capacity: u64) -
 }
 
 #[test]
-fn hands_over_in_order_at_every_capacity(rt: HostRuntime) -> Result<(), Fail> {
+fn hands_over_in_order_at_every_capacity(rt: HostRuntime) {
     for capacity in 1..5 {
-        hands_over_in_order(&rt, rt.alloc(), capacity)?;
+        hands_over_in_order(&rt, rt.alloc(), capacity);
     }
-    Ok(())
 }
 
 /// The end of a step that takes this item.
@@ -58,17 +57,16 @@ fn step_end(item: Item) -> StepEnd {
 }
 
 #[test]
-fn finds_nothing_until_more_is_put(rt: HostRuntime) -> Result<(), Fail> {
-    let items = items(rt.alloc(), 4)?;
-    let (mut put_end, mut lane) = new_lane(rt.alloc(), 1)?;
+fn finds_nothing_until_more_is_put(rt: HostRuntime) {
+    let items = items(rt.alloc(), 4).expect(&rt, "memory");
+    let (mut put_end, mut lane) = new_lane(rt.alloc(), 1).expect(&rt, "a lane");
     for place in 0..items.len() {
         let before = lane.step(&rt);
-        put_at(&rt, &mut put_end, &items, place)?;
+        put_at(&rt, &mut put_end, &items, place).expect(&rt, "a place");
         let steps = [before, lane.step(&rt)];
         expect_same(&rt, &steps, &[StepEnd::Nothing, step_end(items[place])]);
     }
     expect_same(&rt, &[lane.step(&rt), lane.step(&rt)], &[StepEnd::Ended; 2]);
-    Ok(())
 }
 
 /// A lane with all events of four uploads, whose post-hook runs out of memory `refusals` times once it has the events
@@ -105,9 +103,9 @@ fn stops_and_ends(
     uploads: u64,
 ) -> Result<(), Fail> {
     let end = refused_lane(rt, alloc, refusals)?.run(rt, &NoMore);
-    hold(rt, alloc, &end, How::Stopped, 1)?;
+    hold(rt, alloc, &end, How::Stopped, 1);
     let end = Lane::resume(end).run(rt, &NoMore);
-    hold(rt, alloc, &end, how, uploads)?;
+    hold(rt, alloc, &end, how, uploads);
     stays_so(rt, Lane::resume(end), how);
     Ok(())
 }

@@ -4,7 +4,6 @@ use crate::same::expect_same;
 use std::alloc::Global;
 use std::process::Abort;
 use std::sync::Wait;
-use std::test::Fail;
 use up_events::{Event, Hook, Id};
 use up_hooks::Outcome;
 use up_server::EventLines;
@@ -43,22 +42,21 @@ fn hold_room(
     alloc: Global,
     written: &[u8],
     outcomes: [Outcome; 3],
-) -> Result<(), Fail> {
+) {
     let mut taken = Vec::new(alloc);
     let writer = FullWriter {
         taken: &mut taken,
         room: written.len(),
     };
-    let lines = EventLines::new(alloc, writer)?;
+    let lines = EventLines::new(alloc, writer).expect(rt, "lines");
     let told = tell_three(rt, &lines);
     drop(lines);
     expect_same(rt, &(told, taken.as_slice()), &(outcomes, written));
-    Ok(())
 }
 
 #[test]
-fn writes_each_event_until_a_line_is_not_written(rt: HostRuntime) -> Result<(), Fail> {
+fn writes_each_event_until_a_line_is_not_written(rt: HostRuntime) {
     let lines = LINES.as_bytes();
-    hold_room(&rt, rt.alloc(), lines, [Outcome::Done; 3])?;
-    hold_room(&rt, rt.alloc(), &lines[..60], ONE_LINE)
+    hold_room(&rt, rt.alloc(), lines, [Outcome::Done; 3]);
+    hold_room(&rt, rt.alloc(), &lines[..60], ONE_LINE);
 }

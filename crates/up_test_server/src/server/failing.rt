@@ -5,7 +5,6 @@ use std::alloc::{AllocError, Global};
 use std::marker::Sync;
 use std::process::Abort;
 use std::sync::Wait;
-use std::test::Fail;
 use std::thread::Threads;
 use up_hooks::PreHooks;
 use up_server::ServerFault;
@@ -59,11 +58,7 @@ fn written_after(alloc: Global, count: usize) -> Result<String, AllocError> {
 }
 
 /// Serves this part of the conversation, after which a read fails, and checks the output.
-fn hold_part(
-    rt: &(impl Threads + Wait + Abort + Sync),
-    alloc: Global,
-    part: &[u8],
-) -> Result<(), Fail> {
+fn hold_part(rt: &(impl Threads + Wait + Abort + Sync), alloc: Global, part: &[u8]) {
     let count = part.len();
     let mut source = Tape::new(part, 0, true);
     let (ended, written) = replayed(rt, alloc, done, &mut source);
@@ -72,18 +67,16 @@ fn hold_part(
     } else {
         Ok(())
     };
-    let wanted = written_after(alloc, count)?;
-    let text = str::from_utf8(&written)?;
+    let wanted = written_after(alloc, count).expect(rt, "memory");
+    let text = str::from_utf8(&written).expect(rt, "text");
     expect_same(rt, &(count, ended, text), &(count, end, wanted.as_str()));
-    Ok(())
 }
 
 #[test]
-fn keeps_what_came_before_any_read_that_fails(rt: HostRuntime) -> Result<(), Fail> {
+fn keeps_what_came_before_any_read_that_fails(rt: HostRuntime) {
     for count in 0..ASKED.len() {
-        hold_part(&rt, rt.alloc(), &ASKED.as_bytes()[..count])?;
+        hold_part(&rt, rt.alloc(), &ASKED.as_bytes()[..count]);
     }
-    Ok(())
 }
 
 /// Serves a conversation with a writer that fails after `room` bytes, and checks the output.
@@ -93,8 +86,8 @@ fn hold_room<R: Source>(
     source: &mut R,
     room: usize,
     wanted: &[u8],
-) -> Result<(), Fail> {
-    let mut sink = Slip::new(alloc, room, 0)?;
+) {
+    let mut sink = Slip::new(alloc, room, 0).expect(rt, "memory");
     let hooks = PreHooks::new(Vec::new(alloc));
     let ended = run_with(rt, alloc, hooks, done, source, &mut sink);
     let (end, part) = match wanted.get(..room) {
@@ -102,28 +95,21 @@ fn hold_room<R: Source>(
         _ => (Ok(()), wanted),
     };
     expect_same(rt, &(room, ended, sink.bytes()), &(room, end, part));
-    Ok(())
 }
 
 /// Does so with messages that come in one piece, and with ones that come a byte at a time, with a body in chunks.
-fn hold_both(
-    rt: &(impl Threads + Wait + Abort + Sync),
-    alloc: Global,
-    room: usize,
-    wanted: &[u8],
-) -> Result<(), Fail> {
+fn hold_both(rt: &(impl Threads + Wait + Abort + Sync), alloc: Global, room: usize, wanted: &[u8]) {
     let mut whole = Input::new(ASKED.as_bytes());
-    hold_room(rt, alloc, &mut whole, room, wanted)?;
+    hold_room(rt, alloc, &mut whole, room, wanted);
     let mut bytes = Tape::new(IN_CHUNKS.as_bytes(), 0, false);
-    hold_room(rt, alloc, &mut bytes, room, wanted)
+    hold_room(rt, alloc, &mut bytes, room, wanted);
 }
 
 #[test]
-fn stops_at_any_write_that_fails(rt: HostRuntime) -> Result<(), Fail> {
-    let wanted = format!(in rt.alloc(); "{CREATED}{REACHED}")?;
+fn stops_at_any_write_that_fails(rt: HostRuntime) {
+    let wanted = format!(in rt.alloc(); "{CREATED}{REACHED}").expect(&rt, "memory");
     let wanted = wanted.as_bytes();
     for room in 0..wanted.len().saturating_add(1) {
-        hold_both(&rt, rt.alloc(), room, wanted)?;
+        hold_both(&rt, rt.alloc(), room, wanted);
     }
-    Ok(())
 }

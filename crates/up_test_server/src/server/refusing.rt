@@ -11,7 +11,6 @@ use std::marker::Sync;
 use std::process::Abort;
 use std::sync::atomic::{AtomicU64, Ordering};
 use std::sync::{Arc, Wait};
-use std::test::Fail;
 use std::thread::Threads;
 use up_events::{Event, Hook};
 use up_hooks::{Outcome, PreHook, PreHooks};
@@ -77,27 +76,30 @@ fn hold_with(
     hooks: PreHooks,
     asked: &str,
     wanted: &str,
-) -> Result<(), Fail> {
+) {
     let mut source = Input::new(asked.as_bytes());
     let mut sink = Output::new(Vec::new(alloc));
     let ended = run_with(rt, alloc, hooks, done, &mut source, &mut sink);
-    hold(rt, ended, &sink.into_inner(), wanted)
+    hold(rt, ended, &sink.into_inner(), wanted);
 }
 
 #[test]
-fn refuses_with_the_status_and_reason_of_a_closure(rt: HostRuntime) -> Result<(), Fail> {
+fn refuses_with_the_status_and_reason_of_a_closure(rt: HostRuntime) {
     let mut hooks = Vec::new(rt.alloc());
     let judge = |ask: &Ask| -> Verdict
         ensures { IsTrue (is_allowed_verdict result) }
     { by_length(ask) };
-    hooks.push(PreHook::new(Point::Create, Box::new(rt.alloc(), judge)?))?;
+    let judge = Box::new(rt.alloc(), judge).expect(&rt, "memory");
+    hooks
+        .push(PreHook::new(Point::Create, judge))
+        .expect(&rt, "memory");
     hold_with(
         &rt,
         rt.alloc(),
         PreHooks::new(hooks),
         ONE_TO_SEVEN,
         ALL_REFUSED,
-    )
+    );
 }
 
 /// Counts a call, and allows.
@@ -149,27 +151,27 @@ fn hold_counted(
     alloc: Global,
     made: &Arc<AtomicU64>,
     removed: &Arc<AtomicU64>,
-) -> Result<(), Fail> {
+) {
     let mut hooks = Vec::new(alloc);
     for (point, calls) in [(Point::Create, made), (Point::Terminate, removed)] {
-        let counter = Arc::try_clone(calls)?;
+        let counter = Arc::try_clone(calls).expect(rt, "memory");
         let judge = move |_: &Ask| -> Verdict
             ensures { IsTrue (is_allowed_verdict result) }
         { counted(&counter) };
-        hooks.push(PreHook::new(point, Box::new(alloc, judge)?))?;
+        let judge = Box::new(alloc, judge).expect(rt, "memory");
+        hooks.push(PreHook::new(point, judge)).expect(rt, "memory");
     }
     let hooks = PreHooks::new(hooks);
-    hold_with(rt, alloc, hooks, REFUSED_AND_REMOVED, ONE_REMOVED)
+    hold_with(rt, alloc, hooks, REFUSED_AND_REMOVED, ONE_REMOVED);
 }
 
 #[test]
-fn asks_only_where_nothing_else_refuses(rt: HostRuntime) -> Result<(), Fail> {
-    let made = Arc::new(rt.alloc(), AtomicU64::new(0))?;
-    let removed = Arc::new(rt.alloc(), AtomicU64::new(0))?;
-    hold_counted(&rt, rt.alloc(), &made, &removed)?;
+fn asks_only_where_nothing_else_refuses(rt: HostRuntime) {
+    let made = Arc::new(rt.alloc(), AtomicU64::new(0)).expect(&rt, "memory");
+    let removed = Arc::new(rt.alloc(), AtomicU64::new(0)).expect(&rt, "memory");
+    hold_counted(&rt, rt.alloc(), &made, &removed);
     let calls = [made.load(Ordering::SeqCst), removed.load(Ordering::SeqCst)];
     expect_same(&rt, &calls, &[1, 1]);
-    Ok(())
 }
 
 /// Two uploads that become complete.
@@ -202,7 +204,7 @@ static TWO_THAT_FAIL: &str =
     00000000000000000000000000000001 4 post-finish 3/3 failed 99\n";
 
 #[test]
-fn goes_on_after_a_post_hook_that_fails(rt: HostRuntime) -> Result<(), Fail> {
+fn goes_on_after_a_post_hook_that_fails(rt: HostRuntime) {
     let answer = |event: &Event| -> Outcome
         ensures { IsTrue (has_code result) }
     {
@@ -213,5 +215,5 @@ fn goes_on_after_a_post_hook_that_fails(rt: HostRuntime) -> Result<(), Fail> {
         }
     };
     let (ended, written) = replayed(&rt, rt.alloc(), answer, &mut Input::new(TWO.as_bytes()));
-    hold(&rt, ended, &written, TWO_THAT_FAIL)
+    hold(&rt, ended, &written, TWO_THAT_FAIL);
 }
