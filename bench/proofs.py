@@ -2,7 +2,7 @@
 """Proves a crate from nothing, and says which of its functions take the prover longest.
 
     bench/proofs.py up_wire
-    bench/proofs.py up_test_server --test --jobs 4
+    bench/proofs.py up_tests --test --jobs 4
 
 A function's proof has several parts: `Lts` is what the borrow checker shows, and `Proof` the search for goals that have
 no written answer. The prover writes a file for each part when it is done with it. The time of a part is the processor

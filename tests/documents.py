@@ -46,7 +46,7 @@ def text_of(name):
 def crates():
     """The crates of crates.txt, without those of tests."""
     found = re.findall(r"^(up\w*)(?: [^:\n]*)?:", text_of("crates.txt"), re.MULTILINE)
-    return [name for name in found if name not in ("up_test_log", "up_test_server")]
+    return [name for name in found if name != "up_tests"]
 
 
 def first_cells(lines):

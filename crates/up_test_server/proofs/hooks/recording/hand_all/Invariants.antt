@@ -1,5 +1,0 @@
-use Rattle.up_test_server.proofs.hooks.recording.hand_all.Given as goal
-
--- it can be called
-abbrev pub invariant-loop-event : goal.invariant-loop-event
-invariant-loop-event g l = g.H.PostHook.is_sound l.hook
