@@ -1,11 +1,10 @@
 //! Which log is the current one after disks fail and crash.
-use crate::logs::SETUP;
+use crate::logs::heads_of;
 use crate::same::expect_same;
-use sqlite_disk::{Crash, Disk, Fuse, Memory};
+use sqlite_disk::{Crash, Fuse, Memory};
 use std::alloc::{AllocError, Global};
 use std::process::Abort;
-use up_compact::{Head, Heads};
-use up_log::{LogFault, LogReader};
+use up_compact::Head;
 use up_message::Sequence;
 
 fn head(alloc: Global, generation: u64, left_out: &[u64]) -> Result<Head, AllocError> {
@@ -14,16 +13,6 @@ fn head(alloc: Global, generation: u64, left_out: &[u64]) -> Result<Head, AllocE
         entries: 12,
         left_out: Sequence::from_slice(alloc, left_out)?,
     })
-}
-
-fn heads_of<D: Disk>(alloc: Global, disk: D) -> Result<(Heads<D>, Head), LogFault>
-where
-    D: Drop,
-{
-    match LogReader::open(alloc, disk, SETUP) {
-        Ok(reader) => Heads::read(alloc, reader),
-        Err(refused) => Err(refused.fault),
-    }
 }
 
 #[test]

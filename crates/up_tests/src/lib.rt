@@ -20,8 +20,6 @@ mod fifteen;
 #[cfg(test)]
 mod files;
 #[cfg(test)]
-mod full_once;
-#[cfg(test)]
 mod gate;
 #[cfg(test)]
 mod gates;
@@ -34,6 +32,8 @@ mod hooks;
 #[cfg(test)]
 mod lanes;
 #[cfg(test)]
+mod limited;
+#[cfg(test)]
 mod logs;
 #[cfg(test)]
 mod noting;
@@ -45,8 +45,6 @@ mod replays;
 mod requests;
 #[cfg(test)]
 mod same;
-#[cfg(test)]
-mod scarce;
 #[cfg(test)]
 mod server;
 #[cfg(test)]

@@ -2,6 +2,7 @@
 use sqlite_disk::{Disk, Memory};
 use std::alloc::{AllocError, Global};
 use std::io;
+use up_compact::{Head, Heads};
 use up_events::{Id, Kind};
 use up_headers::{NewUpload, Patch, Request};
 use up_log::{Consent, Entry, Log, LogFault, LogReader, Setup, Spelled};
@@ -99,20 +100,45 @@ pub fn batches_of<D: Disk>(alloc: Global, reader: &mut LogReader<D>) -> Result<u
     Ok(10)
 }
 
+/// Starts to open a log.
+pub fn reader_of<D: Disk>(alloc: Global, disk: D) -> Result<LogReader<D>, LogFault>
+where
+    D: Drop,
+{
+    match LogReader::open(alloc, disk, SETUP) {
+        Ok(reader) => Ok(reader),
+        Err(refused) => Err(refused.fault),
+    }
+}
+
+/// The heads in a file, and the last of them.
+pub fn heads_of<D: Disk>(alloc: Global, disk: D) -> Result<(Heads<D>, Head), LogFault>
+where
+    D: Drop,
+{
+    Heads::read(alloc, reader_of(alloc, disk)?)
+}
+
 /// The log in a file, and the number of its batches.
 pub fn read<D: Disk>(alloc: Global, disk: D) -> Result<(Log<D>, u64), LogFault>
 where
     D: Drop,
 {
-    let mut reader = match LogReader::open(alloc, disk, SETUP) {
-        Ok(reader) => reader,
-        Err(refused) => return Err(refused.fault),
-    };
+    let mut reader = reader_of(alloc, disk)?;
     let count = batches_of(alloc, &mut reader)?;
     match reader.finish() {
         Ok(log) => Ok((log, count)),
         Err(refused) => Err(refused.fault),
     }
+}
+
+/// The file of a log with these batches.
+pub fn file_of(alloc: Global, batches: &[&[Row]]) -> Result<Memory, LogFault> {
+    let (mut log, _) = read(alloc, Memory::new(alloc))?;
+    for rows in batches {
+        log.append(&mut Vec::new(alloc), &spelled_of(alloc, rows)?)?;
+    }
+    Ok(log.into_device())
 }
 
 /// The bytes of a log with this number of batches.

@@ -1,14 +1,11 @@
 //! Books that are restored: from a log on a disk, and from entries that no server writes.
-use crate::logs::{Row, SETUP, What, entries_of, read, spelled_of};
+use crate::logs::{Row, What, entries_of, file_of, reader_of};
 use crate::same::expect_same;
-use sqlite_disk::Memory;
 use std::alloc::Global;
-use std::process::Abort;
 use up_events::{Id, MAX_UPLOAD_BYTES};
-use up_log::LogReader;
 use up_machine::Book;
 use up_message::Sequence;
-use up_replay::{Unreplayed, Unrestored, replay, restore};
+use up_replay::{Unreplayed, replay, restore};
 
 /// The offset and the length of an upload.
 fn standing(book: &Book, id: u128) -> Option<(u64, Option<u64>)> {
@@ -53,37 +50,15 @@ fn what_was_refused_changes_nothing(rt: HostRuntime) {
     expect_same(&rt, &book.journal().accepted_count(), &2);
 }
 
-/// The file of a log with these two batches.
-fn file_of<R: Abort>(rt: &R, alloc: Global, first: &[Row], second: &[Row]) -> Memory {
-    let first = spelled_of(alloc, first).expect(rt, "memory");
-    let second = spelled_of(alloc, second).expect(rt, "memory");
-    let (mut log, _) = read(alloc, Memory::new(alloc)).expect(rt, "a log");
-    log.append(&mut Vec::new(alloc), &first)
-        .expect(rt, "a batch");
-    log.append(&mut Vec::new(alloc), &second)
-        .expect(rt, "another batch");
-    log.into_device()
-}
-
-/// Restores a book from a file.
-fn restore_file(alloc: Global, file: Memory, book: &mut Book) -> Result<(), Unrestored> {
-    match LogReader::open(alloc, file, SETUP) {
-        Ok(reader) => {
-            restore(alloc, reader, book)?;
-            Ok(())
-        }
-        Err(refused) => Err(Unrestored::Log(refused.fault)),
-    }
-}
-
 #[test]
 fn a_book_comes_back(rt: HostRuntime) {
     let alloc = rt.alloc();
     let first = [(What::Make, 5, 4), (What::Make, 6, 5)];
     let second = [(What::Put, 5, 3), (What::Remove, 6, 0)];
     let mut book = Book::new(alloc, 2, 1000).expect(&rt, "memory");
-    let file = file_of(&rt, alloc, &first, &second);
-    restore_file(alloc, file, &mut book).expect(&rt, "a book");
+    let file = file_of(alloc, &[&first, &second]).expect(&rt, "a log");
+    let reader = reader_of(alloc, file).expect(&rt, "the log again");
+    restore(alloc, reader, &mut book).expect(&rt, "a book");
     expect_same(&rt, &book.journal().accepted_count(), &4);
     expect_same(&rt, &standing(&book, 5), &Some((3, Some(4))));
     expect_same(&rt, &standing(&book, 6), &None);

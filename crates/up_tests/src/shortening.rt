@@ -1,5 +1,5 @@
 //! Shorter logs: what may be left out, and what is written meanwhile.
-use crate::logs::{Row, SETUP, What, read, spelled_of};
+use crate::logs::{Row, What, file_of, read, reader_of, spelled_of};
 use crate::same::expect_same;
 use sqlite_disk::Memory;
 use std::alloc::{AllocError, Global};
@@ -8,7 +8,7 @@ use std::process::Abort;
 use up_compact::{LeftOut, Progress, Survey, catch_up};
 use up_events::{Id, Kind};
 use up_headers::{NewUpload, Request};
-use up_log::{Consent, Entry, Log, LogReader};
+use up_log::{Consent, Entry, Log};
 use up_machine::Book;
 use up_message::Sequence;
 use up_replay::restore;
@@ -83,25 +83,17 @@ fn append<R: Abort>(rt: &R, alloc: Global, log: &mut Log<Memory>, rows: &[Row]) 
 
 /// The log with these batches.
 fn log_of<R: Abort>(rt: &R, alloc: Global, first: &[Row], second: &[Row]) -> Log<Memory> {
-    let (mut log, _) = read(alloc, Memory::new(alloc)).expect(rt, "a log");
-    append(rt, alloc, &mut log, first);
-    append(rt, alloc, &mut log, second);
+    let file = file_of(alloc, &[first, second]).expect(rt, "a log");
+    let (log, _) = read(alloc, file).expect(rt, "the log again");
     log
 }
 
 /// The book that a log defines.
 fn book_of<R: Abort>(rt: &R, alloc: Global, log: Log<Memory>) -> Book {
     let mut book = Book::new(alloc, 2, 1000).expect(rt, "memory");
-    match LogReader::open(alloc, log.into_device(), SETUP) {
-        Ok(reader) => {
-            restore(alloc, reader, &mut book).expect(rt, "a book");
-            book
-        }
-        Err(refused) => {
-            let fault = refused.fault;
-            panic!(rt; "a log: {fault:?}")
-        }
-    }
+    let reader = reader_of(alloc, log.into_device()).expect(rt, "a log");
+    restore(alloc, reader, &mut book).expect(rt, "a book");
+    book
 }
 
 /// The number of bytes of an upload.

@@ -26,40 +26,6 @@ pub struct Ran<D: Disk> {
     pub logs: Files<D>,
 }
 
-/// Does each job in a thread of its own, from a seat of its own, through a store whose logs are on these disks.
-fn work_each<
-    B: Naming + Send + Sync,
-    D: Again + Send + Drop,
-    J: Site + Send,
-    K: Chronicle + Send,
-    R: Threads + Wait + Abort + Sync,
->(
-    rt: &R,
-    alloc: Global,
-    board: &Board<B>,
-    store: &Store<D, &Tally, J, K>,
-    jobs: Vec<Job>,
-) -> Vec<Outcome>
-    requires same { J.history ≡ B.history }
-{
-    let outcomes = thread::map_vec(
-        rt,
-        jobs,
-        &|job: Job| -> Outcome
-            requires same { J.history ≡ B.history }
-        {
-            let mut seat = board.seat(rt).expect(rt, "a seat");
-            work(
-                rt,
-                alloc,
-                &mut Stored::new(rt, board, store, &mut seat),
-                &job,
-            )
-        },
-    );
-    outcomes.expect(rt, "threads")
-}
-
 /// Does each job in a thread of its own, from a seat of its own, through this store. Returns the results of each job,
 /// and the state of the board after them.
 fn do_each<
@@ -78,7 +44,18 @@ fn do_each<
 ) -> (Vec<Outcome>, Seen)
     requires same { J.history ≡ B.history }
 {
-    let outcomes = work_each(rt, alloc, board, store, jobs);
+    let outcomes = thread::map_vec(
+        rt,
+        jobs,
+        &|job: Job| -> Outcome
+            requires same { J.history ≡ B.history }
+        {
+            let mut seat = board.seat(rt).expect(rt, "a seat");
+            let mut keeper = Stored::new(rt, board, store, &mut seat);
+            work(rt, alloc, &mut keeper, &job)
+        },
+    );
+    let outcomes = outcomes.expect(rt, "threads");
     let mut keeper = Stored::new(rt, board, store, seat);
     (outcomes, seen(rt, alloc, board, &mut keeper))
 }
@@ -91,43 +68,8 @@ struct Given<'a, D> {
     jobs: Vec<Job>,
 }
 
-/// Does each job on this board, in a thread of its own, from a seat of its own. `None` if the logs are not opened.
-fn run_from<
-    B: Naming + Send + Sync,
-    J: Site + Send,
-    K: Chronicle + Send,
-    D: Again + Send + Drop,
-    R: Threads + Wait + Abort + Sync,
->(
-    rt: &R,
-    alloc: Global,
-    board: &Board<B>,
-    seat: &mut Seat<B>,
-    given: Given<'_, D>,
-    histories: Histories,
-) -> Option<Ran<D>>
-    requires written { histories.written ≡ J.history }
-    requires drawn { histories.drawn ≡ K.history }
-    requires nothing { J.premise → ⊥ }
-    requires same { J.history ≡ B.history }
-{
-    let Given { disks, tally, jobs } = given;
-    let opened: Result<Boxed<'_, D, J, K>, Unrestored> = store_on(
-        rt, alloc, board, seat, disks, tally, histories,
-    );
-    let Ok(store) = opened else {
-        return None;
-    };
-    let (outcomes, seen) = do_each(rt, alloc, board, &store, seat, jobs);
-    let logs = files_of(alloc, store).expect(rt, "memory");
-    Some(Ran {
-        outcomes,
-        seen,
-        logs: logs.expect(rt, "a store that is open"),
-    })
-}
-
-/// The same, on a new board with these parts.
+/// Does each job on a new board with these parts, in a thread of its own, from a seat of its own. `None` if the logs are
+/// not opened.
 fn run_by<
     B: Naming + Send + Sync,
     J: Site + Send,
@@ -150,7 +92,20 @@ fn run_by<
     requires same { J.history ≡ B.history }
 {
     let (board, mut seat) = board_of::<B, R>(rt, alloc, parts);
-    run_from::<B, J, K, D, R>(rt, alloc, &board, &mut seat, given, histories)
+    let Given { disks, tally, jobs } = given;
+    let opened: Result<Boxed<'_, D, J, K>, Unrestored> = store_on(
+        rt, alloc, &board, &mut seat, disks, tally, histories,
+    );
+    let Ok(store) = opened else {
+        return None;
+    };
+    let (outcomes, seen) = do_each(rt, alloc, &board, &store, &mut seat, jobs);
+    let logs = files_of(alloc, store).expect(rt, "memory");
+    Some(Ran {
+        outcomes,
+        seen,
+        logs: logs.expect(rt, "a store that is open"),
+    })
 }
 
 /// Does each job in a thread of its own, through a store whose logs are on these disks. `None` if the logs are not

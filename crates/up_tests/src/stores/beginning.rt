@@ -1,9 +1,9 @@
 //! Servers that begin over a store.
 ghost use Rattle.std.specs.Prelude.{◌≡◌};
 
-use super::disks::reader_of;
 use super::tally::Tally;
 use super::tasks::{Task, run};
+use crate::logs::reader_of;
 use sqlite_disk::Memory;
 use std::alloc::Global;
 use std::marker::{Send, Sync};

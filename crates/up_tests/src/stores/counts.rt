@@ -2,18 +2,16 @@
 ghost use Rattle.std.specs.Prelude.{◌≡◌};
 
 use super::beginning::{Begun, begun};
-use super::disks::{file_of, reader_of};
 use super::running::{NOTHING, Unread, unread_on};
 use super::tally::Tally;
 use super::tasks::{Task, run};
-use crate::logs::{Row, What, disk_of};
+use crate::logs::{Row, What, disk_of, file_of, heads_of};
 use crate::same::expect_same;
 use sqlite_disk::{Disk, Memory};
 use std::alloc::Global;
 use std::marker::Send;
 use std::process::Abort;
 use std::sync::Wait;
-use up_compact::Heads;
 use up_dispatch::{Board, Naming, Seat};
 use up_handed::Counted;
 use up_history::Chronicle;
@@ -165,8 +163,7 @@ fn the_reason_says_which_log_is_damaged(rt: HostRuntime) {
 fn begun_after<R: Wait + Abort>(rt: &R, alloc: Global, count: u64) -> Begun {
     let counts = [counted(1, 0), counted(count, 0)];
     let counts = Vec::from_slice(alloc, &counts).expect(rt, "memory");
-    let reader = reader_of(alloc, Memory::new(alloc)).expect(rt, "a log");
-    let (heads, head) = Heads::read(alloc, reader).expect(rt, "heads");
+    let (heads, head) = heads_of(alloc, Memory::new(alloc)).expect(rt, "heads");
     let current = Current { heads, head };
     let shortening = Shortening::new(current, EndedUploads::new(alloc), NoFolder, 2, 0);
     let files = files(alloc).expect(rt, "logs");

@@ -1,32 +1,12 @@
-//! The logs of a store: made on disks in memory, read, and taken out of a store.
+//! The files of a store, and what is in them.
 use super::running::Boxed;
-use crate::logs::{Row, SETUP, read, spelled_of};
+use crate::logs::reader_of;
 use sqlite_disk::{Disk, Memory};
 use std::alloc::{AllocError, Global};
 use up_history::Chronicle;
-use up_log::{Log, LogFault, LogReader};
+use up_log::{Log, LogFault};
 use up_store::Voids;
 use up_tie::Site;
-
-/// The file of a log with these batches.
-pub fn file_of(alloc: Global, batches: &[&[Row]]) -> Result<Memory, LogFault> {
-    let (mut log, _) = read(alloc, Memory::new(alloc))?;
-    for rows in batches {
-        log.append(&mut Vec::new(alloc), &spelled_of(alloc, rows)?)?;
-    }
-    Ok(log.into_device())
-}
-
-/// Starts to open a log.
-pub fn reader_of<D: Disk>(alloc: Global, device: D) -> Result<LogReader<D>, LogFault>
-where
-    D: Drop,
-{
-    match LogReader::open(alloc, device, SETUP) {
-        Ok(reader) => Ok(reader),
-        Err(refused) => Err(refused.fault),
-    }
-}
 
 /// The number of entries of the log in a file.
 pub fn count_in(alloc: Global, file: Memory) -> Result<(u64, Memory), LogFault> {

@@ -1,14 +1,14 @@
 //! Stores on disks that fail, for good or for one call.
 use super::at_once::{Ran, ran_on, run_on};
 use super::disks::Files;
-use super::running::{CommitResult, Job, Outcome, Seen, hold_again, job_of, restored, standing};
+use super::running::{CommitResult, Outcome, Seen, hold_again, job_of, restored, standing};
 use super::tally::{Again, Tally};
 use super::together::{jobs_of, jobs_that_keep, shared_file, told_plainly};
-use crate::full_once::FullOnce;
+use crate::limited::full_once;
 use crate::logs::{Row, What};
 use crate::same::expect_same;
 use sqlite_disk::{Crash, Fuse, Memory};
-use std::alloc::{AllocError, Global};
+use std::alloc::Global;
 use std::marker::Send;
 use std::process::Abort;
 use std::sync::Wait;
@@ -53,13 +53,6 @@ fn seen_again<D: Again + Drop, R: Wait + Abort>(rt: &R, alloc: Global, disks: (D
     restored(rt, alloc, disks).0
 }
 
-/// The one job that does these rows.
-fn jobs_with(alloc: Global, rows: &[Row]) -> Result<Vec<Job>, AllocError> {
-    let mut jobs = Vec::new(alloc);
-    jobs.push(job_of(alloc, rows)?)?;
-    Ok(jobs)
-}
-
 /// The results of these rows in a store on these disks, and its logs. `None` if the logs are not opened.
 fn made_on<D: Again + Send + Drop, R: Threads + Wait + Abort + Sync>(
     rt: &R,
@@ -68,7 +61,9 @@ fn made_on<D: Again + Send + Drop, R: Threads + Wait + Abort + Sync>(
     tally: &Tally,
     rows: &[Row],
 ) -> Option<(Vec<CommitResult>, Files<D>)> {
-    let jobs = jobs_with(alloc, rows).expect(rt, "memory");
+    let job = job_of(alloc, rows).expect(rt, "memory");
+    let mut jobs = Vec::new(alloc);
+    jobs.push(job).expect(rt, "memory");
     let Ran { outcomes, logs, .. } = run_on(rt, alloc, disks, tally, jobs)?;
     let mut outcomes = outcomes;
     let (told, _) = outcomes.pop().expect(rt, "one job");
@@ -134,7 +129,7 @@ fn is_cut_off(told: &[CommitResult], want: &[CommitResult]) -> bool {
 
 /// Checks that the results of three seats are those of a plain board, up to where no more was written.
 fn hold_cut_off<R: Wait + Abort>(rt: &R, alloc: Global, outcomes: &[Outcome], calls: u64) {
-    let plain = told_plainly(rt, alloc).expect(rt, "memory");
+    let plain = told_plainly(rt, alloc);
     for ((told, _), (want, _)) in outcomes.iter().zip(&plain) {
         assert!(rt; is_cut_off(told, want), "after {calls} calls");
     }
@@ -187,22 +182,16 @@ const CREATIONS: [Row; 6] = [
     (What::Make, 6, 5),
 ];
 
-/// The creations that succeeded.
-fn taken(alloc: Global, told: &[CommitResult]) -> Result<Vec<Row>, AllocError> {
-    let mut rows = Vec::new(alloc);
-    for (row, told) in CREATIONS.iter().zip(told) {
-        if told.is_ok() {
-            rows.push(*row)?;
-        }
-    }
-    Ok(rows)
-}
-
-/// Checks that a crash leaves exactly what succeeded.
+/// Checks that a crash leaves exactly the creations that succeeded.
 fn hold_taken<R: Wait + Abort>(rt: &R, alloc: Global, file: Memory, told: &[CommitResult]) {
     let mut file = file;
     file.crash();
-    let rows = taken(alloc, told).expect(rt, "memory");
+    let mut rows = Vec::new(alloc);
+    for (row, told) in CREATIONS.iter().zip(told) {
+        if told.is_ok() {
+            rows.push(*row).expect(rt, "memory");
+        }
+    }
     hold_again(rt, alloc, (file, Memory::new(alloc)), &rows);
 }
 
@@ -215,8 +204,8 @@ fn full_at<R: Threads + Wait + Abort + Sync>(
 ) -> Option<(usize, usize)> {
     let tally = Tally::new(alloc).expect(rt, "memory");
     let disks = (
-        FullOnce::new(Memory::new(alloc), calls),
-        FullOnce::new(Memory::new(alloc), 0),
+        full_once(Memory::new(alloc), calls),
+        full_once(Memory::new(alloc), 0),
     );
     let (told, logs) = made_on(rt, alloc, disks, &tally, &CREATIONS)?;
     let (first, all) = made(&told);
@@ -231,24 +220,16 @@ fn full_at<R: Threads + Wait + Abort + Sync>(
     Some((first, all))
 }
 
-/// What `full_at` tells of each call, if a creation succeeds after one that fails.
-fn places_of<R: Threads + Wait + Abort + Sync>(
-    rt: &R,
-    alloc: Global,
-) -> Result<Vec<(usize, usize)>, AllocError> {
+#[test]
+fn a_store_goes_on_once_its_disk_works(rt: HostRuntime) {
+    let alloc = rt.alloc();
     let mut places = Vec::new(alloc);
     for calls in 1..40 {
-        match full_at(rt, alloc, calls) {
-            Some((first, all)) if first < all => places.push((first, all))?,
+        match full_at(&rt, alloc, calls) {
+            Some((first, all)) if first < all => places.push((first, all)).expect(&rt, "memory"),
             _ => {}
         }
     }
-    Ok(places)
-}
-
-#[test]
-fn a_store_goes_on_once_its_disk_works(rt: HostRuntime) {
-    let places = places_of(&rt, rt.alloc()).expect(&rt, "memory");
     // A change takes two writes and two syncs. Whichever fails, only that change is refused, and the log is opened
     // again if necessary. No change follows the last one.
     expect_same(&rt, &places.len(), &20);
@@ -262,8 +243,8 @@ fn a_store_goes_on_once_its_disk_works(rt: HostRuntime) {
 fn told_at_once<R: Threads + Wait + Abort + Sync>(rt: &R, alloc: Global, calls: u64) -> [u64; 3] {
     let tally = Tally::new(alloc).expect(rt, "memory");
     let disks = (
-        FullOnce::new(shared_file(alloc).expect(rt, "a log"), calls),
-        FullOnce::new(Memory::new(alloc), 0),
+        full_once(shared_file(alloc).expect(rt, "a log"), calls),
+        full_once(Memory::new(alloc), 0),
     );
     let jobs = jobs_that_keep(alloc).expect(rt, "memory");
     let ran = ran_on(rt, alloc, disks, &tally, jobs);

@@ -1,12 +1,12 @@
 //! Stores on a full disk, which has room for removals alone.
 use super::at_once::{Ran, ran_on};
 use super::course::{Course, kept};
-use super::disks::{Files, file_of};
+use super::disks::Files;
 use super::running::{CommitResult, Job, Outcome, Seen, change, hold_again, restored};
 use super::tally::{Again, Tally};
-use crate::logs::{Row, What};
+use crate::limited::{Scarce, scarce};
+use crate::logs::{Row, What, file_of};
 use crate::same::expect_same;
-use crate::scarce::Scarce;
 use sqlite_disk::Memory;
 use std::alloc::{AllocError, Global};
 use std::marker::Sync;
@@ -137,11 +137,6 @@ impl Course<Scarce<'_, Memory>> for Steps<'_> {
     }
 }
 
-/// A disk that has the tally's room.
-fn scarce(alloc: Global, tally: &Tally) -> Scarce<'_, Memory> {
-    Scarce::new(Memory::new(alloc), tally.room())
-}
-
 /// The disks of these files, with room.
 fn whole(files: Files<Scarce<'_, Memory>>) -> (Memory, Memory) {
     let (changes, voids) = files.into_disks();
@@ -155,7 +150,11 @@ fn stepped<R: Wait + Abort>(
     tally: &Tally,
     steps: &[(Step, Told)],
 ) -> (Vec<Told>, (Memory, Memory)) {
-    let disks = (scarce(alloc, tally), scarce(alloc, tally));
+    let room = tally.room();
+    let disks = (
+        scarce(Memory::new(alloc), room),
+        scarce(Memory::new(alloc), room),
+    );
     let (found, logs) = kept(rt, alloc, disks, tally, &Steps { tally, steps });
     (found, whole(logs))
 }
@@ -277,7 +276,7 @@ fn scarce_files(
     let changes = file_of(alloc, &[first.as_slice(), second.as_slice()])?;
     let voids = file_of(alloc, &[])?;
     let room = tally.room();
-    Ok((Scarce::new(changes, room), Scarce::new(voids, room)))
+    Ok((scarce(changes, room), scarce(voids, room)))
 }
 
 /// Checks that all removals were made, few creations, and that each of these was made or refused without a decision.

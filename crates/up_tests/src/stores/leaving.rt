@@ -1,14 +1,13 @@
 //! Logs that a switch to a shorter one has left, when a server starts again.
 use super::beginning::begun;
-use super::disks::{file_of, reader_of};
-use crate::logs::{PAIR, disk_of};
+use crate::logs::{PAIR, disk_of, file_of, heads_of};
 use crate::same::expect_same;
 use sqlite_disk::Memory;
 use std::alloc::Global;
 use std::process::Abort;
 use std::sync::Wait;
 use std::sync::atomic::{AtomicU64, Ordering};
-use up_compact::{Head, Heads};
+use up_compact::Head;
 use up_log::{LogFault, LogReader};
 use up_message::Sequence;
 use up_store::{Current, EndedUploads, Folder, Shortening};
@@ -36,7 +35,7 @@ impl Folder<Memory> for &Removed {
 
 /// Heads of which the last says that its log has this many entries.
 fn current(alloc: Global, entries: u64) -> Result<Current<Memory>, LogFault> {
-    let (heads, _) = Heads::read(alloc, reader_of(alloc, Memory::new(alloc))?)?;
+    let (heads, _) = heads_of(alloc, Memory::new(alloc))?;
     let head = Head {
         generation: GENERATION,
         entries,

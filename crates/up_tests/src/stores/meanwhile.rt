@@ -1,20 +1,19 @@
 //! Stores whose log is made shorter while changes are made, on disks of which a call fails.
 ghost use Rattle.std.specs.Prelude.{◌≡◌};
 
-use super::disks::reader_of;
 use super::running::{Boxed, change, store_on};
 use super::tally::Tally;
 use super::tasks::{Task, run};
-use crate::full_once::FullOnce;
-use crate::logs::{Row, What};
+use crate::limited::{FullOnce, full_once};
+use crate::logs::{Row, What, heads_of, reader_of};
 use crate::same::expect_same;
 use sqlite_disk::Memory;
-use std::alloc::{AllocError, Global};
+use std::alloc::Global;
 use std::marker::Send;
 use std::process::Abort;
 use std::sync::Wait;
 use std::sync::atomic::{AtomicU64, Ordering};
-use up_compact::{Head, Heads};
+use up_compact::Head;
 use up_dispatch::{Board, Naming, Seat};
 use up_events::Id;
 use up_handed::EndedUpload;
@@ -59,7 +58,7 @@ const NONE: Calls = Calls {
 };
 
 fn disk(alloc: Global, calls: (u64, u64)) -> File {
-    FullOnce::new(FullOnce::new(Memory::new(alloc), calls.1), calls.0)
+    full_once(full_once(Memory::new(alloc), calls.1), calls.0)
 }
 
 /// Makes logs on disks in memory. While it makes the first ones, changes are made through the store.
@@ -102,7 +101,7 @@ impl<B: Naming, J: Site, K: Chronicle, R: Wait + Abort> Folder<File> for Meanwhi
 
 /// The heads of a store whose log is of the first generation here.
 fn current(alloc: Global, calls: (u64, u64)) -> Result<Current<File>, LogFault> {
-    let (mut heads, _) = Heads::read(alloc, reader_of(alloc, disk(alloc, calls))?)?;
+    let (mut heads, _) = heads_of(alloc, disk(alloc, calls))?;
     let head = Head {
         generation: FIRST,
         entries: 0,
@@ -219,14 +218,10 @@ fn tried<R: Wait + Abort>(rt: &R, alloc: Global, calls: Calls, tally: &Tally) ->
 }
 
 /// The generations whose files are asked for when calls of one log fail, one call in each run.
-fn asked<R: Wait + Abort>(
-    rt: &R,
-    alloc: Global,
-    is_shorter: bool,
-) -> Result<Vec<(u64, u64)>, AllocError> {
+fn asked<R: Wait + Abort>(rt: &R, alloc: Global, is_shorter: bool) -> Vec<(u64, u64)> {
     let mut asked = Vec::new(alloc);
     for call in 1..60 {
-        let tally = Tally::at(alloc, FIRST)?;
+        let tally = Tally::at(alloc, FIRST).expect(rt, "memory");
         let calls = if is_shorter {
             Calls {
                 shorter: call,
@@ -237,16 +232,16 @@ fn asked<R: Wait + Abort>(
         };
         tried(rt, alloc, calls, &tally);
         if let Some(generations) = tally.generations() {
-            asked.push(generations)?;
+            asked.push(generations).expect(rt, "memory");
         }
     }
-    Ok(asked)
+    asked
 }
 
 #[test]
 fn the_file_of_the_same_generation_is_opened_again(rt: HostRuntime) {
     for (is_shorter, want) in [(false, FIRST), (true, FIRST + 1)] {
-        let asked = asked(&rt, rt.alloc(), is_shorter).expect(&rt, "memory");
+        let asked = asked(&rt, rt.alloc(), is_shorter);
         assert!(rt; asked.len() > 0);
         for generations in asked.iter() {
             expect_same(&rt, generations, &(want, want));
@@ -265,29 +260,15 @@ fn ending<R: Wait + Abort>(rt: &R, alloc: Global, heads: (u64, u64)) -> Option<E
     Some((tally.counts()[2], tally.switches(), counts))
 }
 
-/// What happens if these calls of the heads fail, those of one row in each run. Left out are runs in which the heads
-/// can't be opened.
-fn endings<R: Wait + Abort>(
-    rt: &R,
-    alloc: Global,
-    rows: &[(u64, u64)],
-) -> Result<Vec<Ending>, AllocError> {
-    let mut endings = Vec::new(alloc);
-    for heads in rows {
-        if let Some(ending) = ending(rt, alloc, *heads) {
-            endings.push(ending)?;
-        }
-    }
-    Ok(endings)
-}
-
 #[test]
 fn logs_stay_once_the_current_one_is_unknown(rt: HostRuntime) {
-    let mut rows = [(0u64, 0u64); 19];
-    for (call, row) in rows.iter_mut().enumerate() {
-        row.0 = call as u64 + 1;
+    let alloc = rt.alloc();
+    let mut endings = Vec::new(alloc);
+    for call in 1..20 {
+        if let Some(ending) = ending(&rt, alloc, (call, 0)) {
+            endings.push(ending).expect(&rt, "memory");
+        }
     }
-    let endings = endings(&rt, rt.alloc(), &rows).expect(&rt, "memory");
     // A head takes two writes and two syncs. If the first write fails, there is still the head before. A log was made
     // and removed, and another try replaces the old log.
     let kept = (0, [1, 1], (2, 4));
@@ -301,11 +282,13 @@ fn logs_stay_once_the_current_one_is_unknown(rt: HostRuntime) {
 
 #[test]
 fn changes_go_on_while_the_heads_have_no_room(rt: HostRuntime) {
-    let mut rows = [(0u64, 0u64); 14];
-    for (call, row) in rows.iter_mut().enumerate() {
-        *row = (call as u64 + 1, call as u64 + 2);
+    let alloc = rt.alloc();
+    let mut endings = Vec::new(alloc);
+    for call in 1..15 {
+        if let Some(ending) = ending(&rt, alloc, (call, call + 1)) {
+            endings.push(ending).expect(&rt, "memory");
+        }
     }
-    let endings = endings(&rt, rt.alloc(), &rows).expect(&rt, "memory");
     // The first write of a head fails, and so does the next write that is tried, whichever it is: that of the second
     // try. Each try has made a log and removed it.
     let full = (0, [0, 2], (2, 4));

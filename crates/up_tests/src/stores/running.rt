@@ -6,10 +6,10 @@ ghost use Rattle.up_events.specs.declared.limits.TheConstants.{MAX_UPLOAD_BYTES}
 ghost use Rattle.up_headers.specs.Table.{FitsWithin};
 
 use super::course::{Course, kept};
-use super::disks::{Files, reader_of};
+use super::disks::Files;
 use super::tally::{Again, Tally};
 use super::tasks::board_of;
-use crate::logs::{Row, entries_of};
+use crate::logs::{Row, entries_of, reader_of};
 use crate::requests::append;
 use sqlite_disk::{Disk, Memory};
 use std::alloc::{AllocError, Global};

@@ -1,9 +1,9 @@
 //! Stores whose log is made shorter.
 use super::course::{Course, kept};
-use super::disks::{Files, reader_of};
+use super::disks::Files;
 use super::running::{CommitResult, change, restored, seen};
 use super::tally::Tally;
-use crate::logs::{Row, What};
+use crate::logs::{Row, What, heads_of, reader_of};
 use crate::same::expect_same;
 use sqlite_disk::{Crash, Fuse, Memory};
 use std::alloc::Global;
@@ -92,7 +92,7 @@ fn ended<R: Wait>(rt: &R, alloc: Global) -> EndedUploads {
 }
 
 fn current(alloc: Global, calls: u64) -> Result<Current<File>, LogFault> {
-    let (heads, head) = Heads::read(alloc, reader_of(alloc, disk(alloc, calls))?)?;
+    let (heads, head) = heads_of(alloc, disk(alloc, calls))?;
     Ok(Current { heads, head })
 }
 
@@ -167,7 +167,7 @@ fn shorten<R: Wait + Abort>(rt: &R, alloc: Global, calls: Calls, tally: &Tally) 
 fn head_left(alloc: Global, heads: Heads<File>) -> Result<Head, LogFault> {
     let mut device = heads.into_device();
     device.crash();
-    Ok(Heads::read(alloc, reader_of(alloc, device)?)?.1)
+    Ok(heads_of(alloc, device)?.1)
 }
 
 /// Checks that a crash leaves logs from which the responses about each upload come back, and returns their number of

@@ -1,8 +1,7 @@
 //! What a store reports, and disks whose files can be opened again.
 ghost use Rattle.std.specs.Prelude.{IfOk, ⊤};
 
-use crate::full_once::FullOnce;
-use crate::scarce::Scarce;
+use crate::limited::{Limit, Limited};
 use sqlite_disk::{Disk, Fuse, Memory};
 use std::alloc::{AllocError, Global};
 use std::io;
@@ -199,15 +198,9 @@ impl<D: Disk> Again for Fuse<D> {
     }
 }
 
-impl<D: Disk> Again for FullOnce<D> {
-    fn again(self) -> FullOnce<D> {
-        FullOnce::new(self.into_inner(), 0)
-    }
-}
-
-impl<D: Disk> Again for Scarce<'_, D> {
-    fn again(self) -> Self {
-        self
+impl<D: Disk, L: Limit> Again for Limited<D, L> {
+    fn again(self) -> Limited<D, L> {
+        self.reopened()
     }
 }
 

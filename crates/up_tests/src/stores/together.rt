@@ -1,9 +1,9 @@
 //! Changes from several seats at once.
 use super::at_once::{Ran, ran_on};
-use super::disks::{count_in, file_of};
+use super::disks::count_in;
 use super::running::{Job, Outcome, Seen, plainly, restored};
 use super::tally::Tally;
-use crate::logs::{Row, What};
+use crate::logs::{Row, What, file_of};
 use crate::same::expect_same;
 use sqlite_disk::Memory;
 use std::alloc::{AllocError, Global};
@@ -61,13 +61,14 @@ pub fn jobs_that_keep(alloc: Global) -> Result<Vec<Job>, AllocError> {
 }
 
 /// The results of the rows of these jobs on a plain board.
-pub fn told_plainly<R: Wait + Abort>(rt: &R, alloc: Global) -> Result<Vec<Outcome>, AllocError> {
+pub fn told_plainly<R: Wait + Abort>(rt: &R, alloc: Global) -> Vec<Outcome> {
     let mut outcomes = Vec::new(alloc);
     for number in 1..4u8 {
-        let job = job_of(alloc, number, 0)?;
-        outcomes.push(plainly(rt, alloc, &job).0)?;
+        let job = job_of(alloc, number, 0).expect(rt, "memory");
+        let outcome = plainly(rt, alloc, &job).0;
+        outcomes.push(outcome).expect(rt, "memory");
     }
-    Ok(outcomes)
+    outcomes
 }
 
 /// The file of a log in which the upload 0 was created, for the bytes of three seats.
@@ -78,7 +79,7 @@ pub fn shared_file(alloc: Global) -> Result<Memory, LogFault> {
 /// Checks that the rows have the same results as on a plain board, and returns the number of attempted changes.
 fn count_of<R: Wait + Abort>(rt: &R, alloc: Global, outcomes: &[Outcome]) -> u64 {
     let mut count: u64 = 0;
-    let plain = told_plainly(rt, alloc).expect(rt, "memory");
+    let plain = told_plainly(rt, alloc);
     expect_same(rt, &outcomes.len(), &plain.len());
     for ((told, tries), (want, _)) in outcomes.iter().zip(&plain) {
         expect_same(rt, &told.as_slice(), &want.as_slice());

@@ -1,7 +1,7 @@
 //! Entries that are on the disk and were not carried out.
-use super::disks::{Files, file_of};
+use super::disks::Files;
 use super::running::{restored, standing};
-use crate::logs::{Row, SETUP, What, read};
+use crate::logs::{Row, SETUP, What, file_of, read};
 use crate::same::expect_same;
 use sqlite_disk::Memory;
 use sqlite_std_file::{FileFrom, Unknown};
