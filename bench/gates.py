@@ -80,14 +80,23 @@ def look(works, used):
         used[key] = found[1]
 
 
-def begin(number, tree, given):
+def words_of(crates):
+    """The words that run the gate from nothing. A kit whose `rt ci` keeps no proofs always does, and takes no words."""
+    told = subprocess.run(["rt", "help"], stdout=subprocess.PIPE, stderr=subprocess.STDOUT, text=True).stdout
+    if "--anew" in told:
+        return ["rt", "ci", "--anew", *crates]
+    if crates:
+        sys.exit("`rt ci` of this kit proves all crates, and takes no names")
+    return ["rt", "ci"]
+
+
+def begin(number, tree, given, words):
     """Starts the run of a tree. What it prints goes to a file beside the tree."""
     path = f"{os.path.realpath(tree)}.gate.log"
     environ = {**os.environ, MARK: str(number), "RT_JOBS": str(given.jobs)}
     with open(path, "wb") as log:
         run = subprocess.Popen(
-            ["rt", "ci", "--anew", *given.crates], cwd=tree, env=environ, stdout=log, stderr=log,
-            stdin=subprocess.DEVNULL,
+            words, cwd=tree, env=environ, stdout=log, stderr=log, stdin=subprocess.DEVNULL,
         )
     print(f"{tree}: {path}", flush=True)
     return run
@@ -116,7 +125,8 @@ def main():
     parser.add_argument("--crates", nargs="*", default=[], help="these crates and those below them alone")
     parser.add_argument("--without", default="", help="crates that are left out of the sums, with commas between them")
     given = parser.parse_args()
-    runs = [begin(number, tree, given) for number, tree in enumerate(given.trees)]
+    words = words_of(given.crates)
+    runs = [begin(number, tree, given, words) for number, tree in enumerate(given.trees)]
     works, used = {}, {}
     while any(run.poll() is None for run in runs):
         look(works, used)
