@@ -1,8 +1,9 @@
 #!/usr/bin/env python3
 """Compares the documents with the sources: the tables of crates, modules and rules and the list of definitions in
 docs/ARCHITECTURE.md, the words with their limits and defaults in docs/RUNNING.md, and the refusals in docs/PROTOCOL.md.
-It checks that the help of the program names the limits in its code. It checks the links and the length of lines in all
-documents. It also compares the drawn data of the crates with what the generators draw.
+It checks that the help of the program names the limits in its code, and that the edits of `must-fail` fit. It checks
+the links and the length of lines in all documents. It also compares the drawn data of the crates with what the
+generators draw.
 
     tests/documents.py [NAME..]
 
@@ -213,10 +214,30 @@ def each_drawn():
         same(new, old, f"line {number} that {script} draws, and of {name}")
 
 
+def each_edit():
+    """What an edit of `must-fail` replaces is there once, and no module that stays uses one that the edit leaves out."""
+    edits = sorted(CRATES.glob("*/must-fail/*.edit"))
+    same(len(edits) > 40, True, f"whether {len(edits)} edits are there")
+    for edit in edits:
+        text, crate = edit.read_text(encoding="utf-8"), edit.parent.parent
+        for name, part in re.findall(r"^file: (.+)\n((?:(?!file: ).*\n)*)", text, re.MULTILINE):
+            source = (crate / name).read_text(encoding="utf-8")
+            counts = {old: source.count(old) for old in re.findall(r"^old: (.+)", part, re.MULTILINE)}
+            same({old for old, count in counts.items() if count != 1}, set(), f"what {edit.name} replaces in {name}")
+        out = set(re.findall(r"^new: #\[cfg\(test\)\] mod (\w+);", text, re.MULTILINE))
+        for module in sorted((crate / "src").glob("*.rt")):
+            source = module.read_text(encoding="utf-8")
+            used = set(re.findall(r"\bcrate::(\w+)::", source)) if module.stem not in out else set()
+            same(used & out, set(), f"what {edit.name} leaves out and {module.stem} uses")
+        for words in sorted((crate / "specs").glob("*.antt")):
+            named = set(re.findall(rf"\bRattle\.{crate.name}\.specs\.declared\.(\w+)\.", words.read_text(encoding="utf-8")))
+            same(named & out, set(), f"what {edit.name} leaves out and {words.name} names")
+
+
 if __name__ == "__main__":
     CASES = [
         each_crate, each_module, each_definition, each_rule, each_word, each_limit, each_default, each_refusal, each_link,
-        each_line, each_drawn,
+        each_line, each_edit, each_drawn,
     ]
     given = argparse.ArgumentParser(description=__doc__, formatter_class=argparse.RawDescriptionHelpFormatter)
     given.add_argument("names", nargs="*", metavar="NAME", help="the cases to be tried, instead of all")

@@ -44,6 +44,7 @@ from serving import (
 )
 
 UNIT = os.path.join(ROOT, "packaging", "up.service")
+HOOKS_UNIT = os.path.join(ROOT, "packaging", "up-hooks.service")
 
 # The number of clients, the number of lanes, and what each client puts into an upload, in two parts.
 CLIENTS, LANES = 16, 3
@@ -514,6 +515,36 @@ def torn_line():
         same((lines.count("\n"), lines.count(whole)), (most // (32 + len(whole)),) * 2, "how many lines are whole")
 
 
+def unheard_lines():
+    """With a store, an event counts once its line is written. If the reader of the lines has gone, lanes wait with their
+    first event, `--status` counts it, and the status is 1. The next run writes all lines."""
+    with tempfile.TemporaryDirectory() as folder:
+        with Plain("--store", folder, "--status", "1", "--grace", "1", unheard=True) as server:
+            with Connection(server) as client:
+                paths = [client.make(len(WHOLE)) for _ in range(5)]
+                for path in paths:
+                    same(client.append(path, 0, WHOLE).status, 204, "the status of a PATCH")
+            counts = [sum(int(path[-32:], 16) % LANES == lane for path in paths) for lane in range(LANES)]
+            lanes = [f"lane {lane} {'stopped' if n else 'drains'} ({3 * n} waiting)" for lane, n in enumerate(counts)]
+            said = [server.line()]
+            while not re.search(re.escape(", ".join(lanes)) + r", the oldest for \d s\n$", said[-1]):
+                said.append(server.line())
+                same(said[-1] != "", True, f"whether {lanes} are reported, behind {said}")
+            waits = [f"lane {lane} waits with its last event" for lane, n in enumerate(counts) if n]
+            reason = f"events can't be written: {os.strerror(errno.EPIPE)} (os error {errno.EPIPE})"
+            found = [line for line in said if "uploads" not in line]
+            same(sorted(found), sorted(f"up_server: {it}\n" for it in [reason, *waits]), "what is said")
+            server.end()
+            same(server.process.wait(MAX_BUSY), 1, "the status")
+            same(server.process.stderr.read().splitlines()[-1], b"up_server: write failed", "what is said at the end")
+        with Plain("--store", folder) as server:
+            soon(lambda: server.output().count("\n") == 3 * len(paths), "all lines are written")
+            server.end()
+            events = events_of(ended(server, MAX_IDLE))
+            each = numbered(["post-create 0/11", "post-receive 11/11", "post-finish 11/11"])
+            same(events, {path: each for path in paths}, "the lines of the next run")
+
+
 class Closed:
     """A server all of whose standard streams are closed when it starts, with lines of status. The port is chosen
     here, since nobody can be told of it."""
@@ -617,17 +648,24 @@ def installed():
 
 
 def unit():
-    """systemd accepts the unit, which has the same settings of the C library as the script."""
+    """systemd accepts the units. That of the server has the same settings of the C library as the script."""
     with open(UNIT, encoding="ascii") as file, open(SCRIPT, encoding="ascii") as script:
         text = file.read()
         memory = re.search(r"(?m)^memory=(.*)$", script.read())[1]
     same(f"\nEnvironment=GLIBC_TUNABLES={memory}\n" in text, True, f"whether the unit says {memory}")
-    with tempfile.TemporaryDirectory() as folder:
-        path = os.path.join(folder, "up.service")
-        with open(path, "w", encoding="ascii") as file:
-            file.write(text.replace("/usr/local/bin/up", SCRIPT))
-        ran = subprocess.run(["systemd-analyze", "verify", path], capture_output=True)
-    same((ran.returncode, ran.stderr), (0, b""), "what systemd-analyze says")
+    with open(HOOKS_UNIT, encoding="ascii") as file:
+        hooks = file.read()
+    units = {
+        "up.service": text.replace("/usr/local/bin/up", SCRIPT),
+        "up-hooks.service": hooks.replace("/usr/local/bin/up-hooks", os.path.join(ROOT, "examples", "hooks")),
+    }
+    for name, text in units.items():
+        with tempfile.TemporaryDirectory() as folder:
+            path = os.path.join(folder, name)
+            with open(path, "w", encoding="ascii") as file:
+                file.write(text)
+            ran = subprocess.run(["systemd-analyze", "verify", path], capture_output=True)
+        same((ran.returncode, ran.stderr), (0, b""), f"what systemd-analyze says of {name}")
 
 
 def namespace():
@@ -648,7 +686,7 @@ program, rounds = os.path.abspath(given.program or build()), given.rounds
 
 CASES = [
     by_signal, by_input, slow_reader, grace, twice, idle, terminal, under_way, half_a_head, arrived, sends_on,
-    slow_at_the_end, torn_line, closed_streams, dropped_input, by_itself, installed,
+    slow_at_the_end, torn_line, unheard_lines, closed_streams, dropped_input, by_itself, installed,
 ]
 NAMESPACE, passed_over = namespace(), []
 if NAMESPACE:

@@ -31,7 +31,7 @@ APART = 0.8
 # What standard error says by turns.
 REFUSED = re.compile(r"up_server: changes can't be stored, and are refused: .+")
 AGAIN = "up_server: changes are stored again"
-LANE = re.compile(r"up_server: lane \d+ (waits for memory|goes on)")
+LANE = re.compile(r"up_server: lane \d+ (waits for memory|waits with its last event|goes on)")
 
 
 class Patient(Kept):

@@ -17,6 +17,7 @@ import shutil
 import socket
 import subprocess
 import sys
+import tempfile
 
 from serving import ROOT, same, try_all, words_of
 
@@ -141,6 +142,13 @@ WRONG = """
     serve --least-rate 0
     serve --least-rate 1073741825
     serve --address
+    serve --hooks-http
+    serve --hooks-http http://a/ --hooks-http http://b/
+    serve --hooks-http http://a/ --hooks-http-timeout 0
+    serve --hooks-http http://a/ --hooks-http-timeout 601
+    serve --hooks-http-timeout 10
+    serve --hooks-http-forward-headers Authorization
+    serve --hooks-enabled-events post-finish
     serve replay
     --help
 """
@@ -219,6 +227,37 @@ def words_of_serve():
         same(words[0].encode() in refused("replay", *words), True, "whether the word is named that is refused")
 
 
+# What is said of words about a hook server that can't be carried out.
+NO_HOOKS = {
+    b"up_server: --hooks-http takes http:// and a host\n": [
+        ["--hooks-http", url] for url in (
+            "", "a", "127.0.0.1:9000", "/hook", "http:", "http://", "http:///hook", "https://a/", "HTTPS://a/", "ftp://a/",
+            "http://user@a/", "http://user:key@a/",
+        )
+    ],
+    b"up_server: --hooks-http-forward-headers takes names of fields, with commas between\n": [
+        ["--hooks-http", "http://a/", "--hooks-http-forward-headers", names] for names in ("", "a,", "a,,b", "a:", "a b")
+    ],
+    b"up_server: --hooks-enabled-events takes names of hooks, with commas between\n": [
+        ["--hooks-http", "http://a/", "--hooks-enabled-events", names]
+        for names in ("", ",", "post-finish,", "post-finished", "Post-Finish", "post-finish;post-create")
+    ],
+}
+
+
+def no_hooks():
+    """A hook server without a host, or by another scheme, is refused, and so are names of no field and of no hook. No
+    folder of a store is made before. `replay` asks and tells nobody."""
+    with tempfile.TemporaryDirectory() as folder:
+        store = os.path.join(folder, "store")
+        for line, wrong in NO_HOOKS.items():
+            for words in wrong:
+                same(refused("serve", "--store", store, *words), line, f"what is said of {words}")
+        same(os.path.exists(store), False, "whether a folder was made")
+    for word in ("--hooks-http", "--hooks-http-timeout", "--hooks-http-forward-headers", "--hooks-enabled-events"):
+        same(word.encode() in refused("replay", word, "10"), True, f"whether {word} is named, which replay refuses")
+
+
 def no_shard():
     """A shard that isn't a number, is negative, is repeated or is missing is refused."""
     for words in (["--shard="], ["--shard=-1"], ["--shard", "1", "--shard", "1"], ["--shard"]):
@@ -228,6 +267,7 @@ def no_shard():
 CASES = [
     no_text, nobody_hears, taken_port, unknown_name, no_port, too_few_and_too_many, wrong_words, version, nothing_asked,
     unread_and_unwritten, closed_streams, words_of_serve, no_shard,
+    no_hooks,
 ]
 
 program, names = words_of(__doc__)

@@ -37,6 +37,15 @@ pub enum Fault {
     /// `clap` refused the arguments, or was asked for help.
     #[error(transparent)]
     Words(clap::Error),
+    /// The URL of the hook server is none.
+    #[error("--hooks-http takes http:// and a host")]
+    HookUrl,
+    /// A field that the hook server is to be told can't have this name.
+    #[error("--hooks-http-forward-headers takes names of fields, with commas between")]
+    HookFields,
+    /// A hook doesn't have this name.
+    #[error("--hooks-enabled-events takes names of hooks, with commas between")]
+    HookNames,
     /// The server can't listen at the address.
     #[error("{fault} at {address:?}: {reason}", fault = ServerFault::Listen)]
     Listen { address: String, reason: io::Error },
@@ -96,10 +105,14 @@ impl Fault {
         };
     }
 
-    /// The exit status: 2 for `NoText` and `Words`, else 1.
+    /// The exit status: 2 for words that can't be carried out, else 1.
     pub fn status(&self) -> ExitCode {
         match self {
-            Fault::NoText | Fault::Words(_) => ExitCode::from(2),
+            Fault::NoText
+            | Fault::Words(_)
+            | Fault::HookUrl
+            | Fault::HookFields
+            | Fault::HookNames => ExitCode::from(2),
             Fault::Listen { .. }
             | Fault::Store { .. }
             | Fault::AlreadyReported

@@ -3,6 +3,7 @@
 #![tactic(auto)]
 
 mod fault;
+mod hook_server;
 mod listener;
 mod notice_lines;
 mod over_store;
@@ -14,8 +15,10 @@ mod store_folder;
 mod store_lines;
 mod store_missing;
 mod streams;
+mod told;
 
 use crate::fault::Fault;
+use crate::hook_server::client_of;
 use crate::listener::listen;
 use crate::rules::run_by_rules;
 use crate::store_files::{OpenStore, store_of};
@@ -24,31 +27,15 @@ use clap::error::ErrorKind;
 use std::alloc::Global;
 use std::io;
 use std::marker::Sync;
-use std::net::{Net, TcpListener, TcpStream};
+use std::net::TcpListener;
 use std::process::ExitCode;
 use std::random::RandomSource;
 use std::sync::Wait;
 use std::thread::Threads;
 use std::time::Clock;
+use up_hook_client::HookClient;
 use up_server::{EventLines, ServerFault};
 use up_words::{Words, WordsFault, words};
-
-/// Serves as the arguments ask. Takes the listener and the store, if there are any.
-fn run_by_words<
-    R: Input + Print + Eprint + AllocGlobal + Clock + RandomSource + Threads + Wait + Sync,
->(
-    rt: &R,
-    words: &Words,
-    listener: &mut Option<TcpListener>,
-    store: &mut Option<OpenStore<'_>>,
-) -> Result<(), Fault> {
-    let lines = EventLines::new(rt.alloc(), io::writer(rt))?;
-    let wanted = match &words.serve {
-        Some(serving) if serving.events => Some(&lines),
-        _ => None,
-    };
-    run_by_rules(rt, words, wanted, listener, store)
-}
 
 /// The arguments, without the name of the program.
 fn arguments(rt: &HostRuntime) -> Result<Vec<String>, Fault> {
@@ -76,40 +63,61 @@ fn asked<R: Print>(rt: &R, alloc: Global, arguments: Vec<String>) -> Result<Opti
     }
 }
 
-/// Listens if the arguments ask for it, and serves. Takes the store, if there is one.
-fn run<
-    R: Input
-        + Print
-        + Eprint
-        + AllocGlobal
-        + Clock
-        + Net<Listener = TcpListener, Stream = TcpStream>
-        + RandomSource
-        + Threads
-        + Wait
-        + Sync,
->(rt: &R, words: &Words, store: &mut Option<OpenStore<'_>>) -> Result<(), Fault> {
-    let mut listener = match &words.serve {
-        Some(serving) => Some(listen(rt, serving)?),
-        None => None,
-    };
-    run_by_words(rt, words, &mut listener, store)
+/// What a run is given.
+#[derive(Drop)]
+struct Opened<'a> {
+    words: Words,
+    /// The store, if the arguments ask for one. Its files are open.
+    store: Option<OpenStore<'a>>,
+    /// Where connections arrive, if the arguments ask for some.
+    listener: Option<TcpListener>,
+    /// The hook server, if the arguments ask for one.
+    client: Option<HookClient<HostRuntime>>,
 }
 
-/// What the arguments ask for, and the store if they ask for one. Its files are then open. `None` if they only ask for
-/// the version. No standard stream is closed when the first file is opened.
-fn prepared(rt: &HostRuntime) -> Result<Option<(Words, Option<OpenStore<'_>>)>, Fault> {
+/// Opens what the arguments ask for. `None` if they only ask for the version. No standard stream is closed when the
+/// first file is opened.
+fn prepared(rt: &HostRuntime) -> Result<Option<Opened<'_>>, Fault> {
     open_closed_streams(rt)?;
     let Some(words) = asked(rt, rt.alloc(), arguments(rt)?)? else {
         return Ok(None);
     };
+    let client = client_of(rt, &words)?;
     let store = store_of(rt, &words)?;
-    Ok(Some((words, store)))
+    let listener = match &words.serve {
+        Some(serving) => Some(listen(rt, serving)?),
+        None => None,
+    };
+    Ok(Some(Opened {
+        words,
+        store,
+        listener,
+        client,
+    }))
+}
+
+/// Serves with what was opened.
+fn run<R: Input + Print + Eprint + AllocGlobal + Clock + RandomSource + Threads + Wait + Sync>(
+    rt: &R,
+    opened: Opened<'_>,
+) -> Result<(), Fault> {
+    let Opened {
+        words,
+        mut store,
+        mut listener,
+        client,
+    } = opened;
+    let lines = EventLines::new(rt.alloc(), io::writer(rt))?;
+    let wanted = match &words.serve {
+        Some(serving) if serving.events => Some(&lines),
+        _ => None,
+    };
+    run_by_rules(rt, &words, wanted, &mut listener, &mut store, &client)
 }
 
 fn main(rt: HostRuntime) -> ExitCode {
     let ended = match prepared(&rt) {
-        Ok(Some((words, mut store))) => run(&rt, &words, &mut store),
+        Ok(Some(opened)) => run(&rt, opened),
         Ok(None) => Ok(()),
         Err(fault) => Err(fault),
     };

@@ -1,6 +1,5 @@
 //! A run of the server over a store.
 ghost use Rattle.std.specs.Prelude.{◌≡◌, [], All, List, length, vec_len};
-ghost use Rattle.up_hooks.specs.Recorded.{AnswersWithCodes};
 ghost use Rattle.up_log.specs.Logs.{IsReaderAt};
 ghost use Rattle.up_log.specs.declared.entry.Entry.{Entry as Logged};
 
@@ -10,17 +9,16 @@ use crate::store_files::{OpenStore, StoreFiles};
 use crate::store_folder::{EndedNotes, StoreFile, StoreFolder};
 use crate::store_lines::StoreLines;
 use sqlite_disk::Disk;
+use std::io::Write;
 use std::marker::{Brand, Send, Sync};
 use std::random::RandomSource;
 use std::sync::Wait;
 use std::thread;
 use std::thread::Threads;
 use std::time::Clock;
-use up_events::Event;
 use up_handed::{Opened, continue_each, counted_each, withhold_each};
 use up_history::Chronicle;
-use up_hooks::{Outcome, new_tellers};
-use up_server::{ServerFault, Shown};
+use up_server::{EventLines, ServerFault, Shown, line_couriers};
 use up_store::{EndedUploads, Folder, Histories, Keeping, LogFile, Shortening, StoreNotices};
 use up_tie::Site;
 
@@ -151,32 +149,50 @@ fn run_named<
     run_continued(rt, beside, arrivals, post_hooks, counts, &keeping)
 }
 
-/// Serves what the listener accepts, over a store. The post-hooks return what `answer` does.
+/// Serves what the listener accepts, over a store, with these post-hooks.
 pub fn run_stored<
     'x,
-    F: Fn(&Event) -> Outcome + Send + Copy + Drop,
+    H: Shown + Drop,
     R: Print + Eprint + AllocGlobal + Clock + RandomSource + Threads + Wait + Sync + 'x,
 >(
     rt: &'x R,
     beside: &'x Beside<'x, R>,
     arrivals: Arrivals,
-    answer: F,
+    post_hooks: Vec<H>,
     store: OpenStore<'x>,
 ) -> Result<(), Fault>
     requires same { store.files.settings.lanes ≡ beside.now.settings.lanes }
-    requires callable { F.IsAlwaysCallable answer }
-    requires codes { AnswersWithCodes F.Fn answer }
+    requires one_for_each { length post_hooks.items ≡ beside.now.settings.lanes }
+    requires new { All (λ h. H.is_sound h × (H.handed h ≡ [])) post_hooks.items }
 {
     let lines = StoreLines::new(rt, &store.folder)?;
     let histories = Histories::new();
-    let Ok(tellers) = new_tellers(rt.alloc(), beside.settings.lanes, answer) else {
-        return Err(Fault::Server(ServerFault::Memory));
-    };
     let served = run_named::<Brand, Brand, _, _>(
-        rt, beside, arrivals, tellers, store, &lines, histories,
+        rt, beside, arrivals, post_hooks, store, &lines, histories,
     );
     if lines.is_unread() {
         return after_unread(served);
     }
     served
+}
+
+/// Serves what the listener accepts, over a store. The post-hooks write each event as a line, if there are event lines,
+/// and an event counts as handed over once its line is written.
+pub fn run_lined<
+    'x,
+    W: Write + Drop + Send + 'x,
+    R: Print + Eprint + AllocGlobal + Clock + RandomSource + Threads + Wait + Sync + 'x,
+>(
+    rt: &'x R,
+    beside: &'x Beside<'x, R>,
+    arrivals: Arrivals,
+    event_lines: Option<&'x EventLines<W>>,
+    store: OpenStore<'x>,
+) -> Result<(), Fault>
+    requires same { store.files.settings.lanes ≡ beside.now.settings.lanes }
+{
+    match line_couriers(rt, rt.alloc(), beside.settings.lanes, event_lines) {
+        Ok(couriers) => run_stored(rt, beside, arrivals, couriers, store),
+        Err(_) => Err(Fault::Server(ServerFault::Memory)),
+    }
 }

@@ -1,15 +1,16 @@
 //! A run of the server, once the closures of its rules are made.
-ghost use Rattle.std.specs.Prelude.{◌≡◌, [], All, IsTrue, length};
+ghost use Rattle.std.specs.Prelude.{◌≡◌, [], All, IfSome, IsTrue, length};
 ghost use Rattle.up_hooks.specs.Recorded.{AnswersWithCodes, has_code};
 
 use crate::fault::Fault;
 use crate::notice_lines::NoticeLines;
-use crate::over_store::run_stored;
+use crate::over_store::{run_lined, run_stored};
 use crate::store_files::OpenStore;
+use crate::told::told_couriers;
 use std::alloc::{AllocError, Global};
 use std::io::{self, BufReader, BufWriter, Write};
 use std::marker::{Send, Sync};
-use std::net::TcpListener;
+use std::net::{Net, TcpListener, TcpStream};
 use std::random::RandomSource;
 use std::sync::Wait;
 use std::sync::atomic::AtomicBool;
@@ -17,6 +18,7 @@ use std::thread::Threads;
 use std::time::Clock;
 use up_dispatch::{AtOnce, Service};
 use up_events::Event;
+use up_hook_client::HookClient;
 use up_hooks::{Outcome, PreHooks, new_recorders, new_tellers};
 use up_server::{
     AfterLines, Connections, Ending, EventLines, Hooks, Notices, Patience, RandomIds, ServerFault,
@@ -95,11 +97,12 @@ fn is_counted(words: &Words) -> bool {
 }
 
 /// Serves what the words ask for, with these closures. Takes the listener and the store, if there are any. The
-/// post-hooks write each event as a line, if there are lines, and return `Done`.
+/// post-hooks tell the hook server of each event, if there is one, and write it as a line, if there are lines.
 pub fn run_with<
     'a,
     R: Input + Print + Eprint + AllocGlobal + Clock + RandomSource + Threads + Wait + Sync + 'a,
     W: Write + Drop + Send + 'a,
+    C: Net<Listener = TcpListener, Stream = TcpStream> + Clock + Eprint + AllocGlobal + Sync + 'a,
 >(
     rt: &'a R,
     words: &'a Words,
@@ -107,6 +110,7 @@ pub fn run_with<
     listener: &mut Option<TcpListener>,
     hooks: PreHooks,
     store: &mut Option<OpenStore<'_>>,
+    client: Option<&'a HookClient<C>>,
 ) -> Result<(), Fault> {
     let answer = move |event: &Event| -> Outcome
         ensures { IsTrue (has_code result) }
@@ -133,8 +137,11 @@ pub fn run_with<
         return run_input(rt, &beside, hooks, answer);
     };
     let arrivals = Arrivals { listener, hooks };
+    if let Some(client) = client {
+        return run_told(rt, &beside, arrivals, lines, store.take(), client);
+    }
     match store.take() {
-        Some(store) => run_stored(rt, &beside, arrivals, answer, store),
+        Some(store) => run_lined(rt, &beside, arrivals, lines, store),
         None if is_counted(words) => run_counted(rt, &beside, arrivals, answer),
         None => run_recorded(rt, &beside, arrivals, answer),
     }
@@ -161,7 +168,7 @@ fn sink_and_ids<'a, R: Print + AllocGlobal + RandomSource>(
 pub fn run_on<
     H: Shown + Drop,
     N: Notices,
-    S: Service,
+    S: Service + Sync,
     R: Print + Eprint + AllocGlobal + RandomSource + Threads + Wait + Sync,
 >(
     rt: &R,
@@ -223,6 +230,38 @@ fn run_recorded<
     match new_recorders(rt.alloc(), beside.settings.lanes, answer) {
         Ok(recorders) => run_on(rt, beside, &visits, arrivals, recorders),
         Err(_) => Err(Fault::Server(ServerFault::Memory)),
+    }
+}
+
+/// Serves what the listener accepts, over the store, if there is one. The post-hooks tell the hook server of each event,
+/// and then write it as a line, if there are event lines. An event counts as handed over once the server has
+/// acknowledged it and its line is written.
+fn run_told<
+    R: Print + Eprint + AllocGlobal + Clock + RandomSource + Threads + Wait + Sync,
+    W: Write + Drop + Send,
+    C: Net<Listener = TcpListener, Stream = TcpStream> + Clock + Eprint + AllocGlobal + Sync,
+>(
+    rt: &R,
+    beside: &Beside<'_, R>,
+    arrivals: Arrivals,
+    event_lines: Option<&EventLines<W>>,
+    store: Option<OpenStore<'_>>,
+    client: &HookClient<C>,
+) -> Result<(), Fault>
+    requires same { IfSome store (λ store.
+        store.files.settings.lanes ≡ beside.now.settings.lanes) }
+{
+    let (alloc, lanes) = (rt.alloc(), beside.settings.lanes);
+    let end = beside.ending.as_ref().map(|ending| ending.until());
+    let Ok(couriers) = told_couriers(rt, alloc, lanes, client, event_lines, end) else {
+        return Err(Fault::Server(ServerFault::Memory));
+    };
+    if let Some(store) = store {
+        return run_stored(rt, beside, arrivals, couriers, store);
+    }
+    match visits_of(beside, &AtOnce) {
+        Some(visits) => run_on(rt, beside, &visits, arrivals, couriers),
+        None => Ok(()),
     }
 }
 

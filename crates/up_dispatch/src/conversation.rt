@@ -7,15 +7,16 @@ ghost use Rattle.up_dispatch.specs.Exchanges.{KeepsBorrows, stand_in};
 ghost use Rattle.up_dispatch.specs.Keeps.{keeping};
 ghost use Rattle.up_dispatch.specs.Turn.{IsTurn, IsCutTurn, IsFaultSent, Converses, Sends, TakesTurn, unanswered};
 
-use crate::answering::answer;
+use crate::answering::answer_about;
 use crate::exchange::Exchange;
 use crate::ids::Ids;
 use crate::keeper::Keeper;
 use crate::reply::{reply_to_header_fault, reply_to_wire_fault};
 use std::alloc::Global;
+use std::net::SocketAddr;
 use up_events::{Id, MAX_UPLOAD_BYTES};
 use up_headers::{Request, request_of};
-use up_hooks::PreHooks;
+use up_hooks::{Origin, PreHooks};
 use up_message::{Message, Response};
 use up_wire::{Limits, Sink, Source, Taken, WireFault, WriteFailed, read_message, write_response};
 
@@ -46,6 +47,21 @@ fn id_for<I: Ids>(ids: &mut I, request: &Request) -> Id
     }
 }
 
+/// What the closures see of a message: its head, if one of them wants that. If memory runs out they see nothing of it.
+fn origin_of(
+    alloc: Global,
+    hooks: &PreHooks,
+    message: &Message,
+    client: Option<SocketAddr>,
+) -> Origin {
+    if hooks.see_requests()
+        && let Ok(origin) = Origin::of(alloc, message, client)
+    {
+        return origin;
+    }
+    Origin::unknown(alloc)
+}
+
 /// What is answered to a message, after what it asks for was carried out.
 fn answer_to<K: Keeper, I: Ids>(
     alloc: Global,
@@ -53,6 +69,7 @@ fn answer_to<K: Keeper, I: Ids>(
     hooks: &PreHooks,
     ids: &mut I,
     message: Message,
+    client: Option<SocketAddr>,
     max_size: u64,
 ) -> Response
     requires small { max_size ≤ MAX_UPLOAD_BYTES }
@@ -62,10 +79,14 @@ fn answer_to<K: Keeper, I: Ids>(
         result }
     ensures lender { K.lender keeper.new ≡ K.lender keeper.old }
 {
+    let mut origin = origin_of(alloc, hooks, &message, client);
     match request_of(alloc, message, max_size) {
         Ok(request) => {
             let id = id_for(ids, &request);
-            answer(alloc, keeper, hooks, request, id)
+            if let Request::Create(_) = &request {
+                origin.id = Some(id);
+            }
+            answer_about(alloc, keeper, hooks, &origin, request, id)
         }
         Err(fault) => reply_to_header_fault(alloc, fault),
     }
@@ -77,6 +98,7 @@ fn carry_out_cut<K: Keeper>(
     keeper: &mut K,
     hooks: &PreHooks,
     message: Message,
+    client: Option<SocketAddr>,
     max_size: u64,
 )
     requires small { max_size ≤ MAX_UPLOAD_BYTES }
@@ -85,9 +107,17 @@ fn carry_out_cut<K: Keeper>(
         (K.state keeper.old) (K.state keeper.new) }
     ensures lender { K.lender keeper.new ≡ K.lender keeper.old }
 {
+    let origin = origin_of(alloc, hooks, &message, client);
     match request_of(alloc, message, max_size) {
         Ok(Request::Patch(patch)) => {
-            answer(alloc, keeper, hooks, Request::Patch(patch), Id::new(0));
+            answer_about(
+                alloc,
+                keeper,
+                hooks,
+                &origin,
+                Request::Patch(patch),
+                Id::new(0),
+            );
         }
         _ => {}
     }
@@ -152,14 +182,16 @@ fn take_turn<K: Keeper, I: Ids, R: Source, W: Sink>(
     match read_message(alloc, exchange.source, exchange.sink, &limits) {
         Taken::End => Some(Ended::Closed),
         Taken::Cut(message) => {
-            carry_out_cut(alloc, keeper, hooks, message, max_size);
+            carry_out_cut(alloc, keeper, hooks, message, exchange.client, max_size);
             Some(Ended::Cut)
         }
         Taken::Fault { fault, bare } => answer_fault(alloc, exchange.sink, fault, bare),
         Taken::Message(message) => {
             let bare = message.bare;
             let close = is_last | message.close;
-            let response = answer_to(alloc, keeper, hooks, exchange.ids, message, max_size);
+            let client = exchange.client;
+            let ids = &mut *exchange.ids;
+            let response = answer_to(alloc, keeper, hooks, ids, message, client, max_size);
             send(exchange.sink, &response, bare, close)
         }
     }

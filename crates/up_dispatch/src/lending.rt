@@ -63,6 +63,11 @@ pub fn converse_by_book<R: Source, W: Sink>(
 {
     lent_conversation_is_exact(hooks);
     let mut lent = Lent::new(book);
-    let mut exchange = Exchange { ids, source, sink };
+    let mut exchange = Exchange {
+        ids,
+        source,
+        sink,
+        client: None,
+    };
     converse(alloc, &mut lent, hooks, max_size, &mut exchange)
 }

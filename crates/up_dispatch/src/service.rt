@@ -16,7 +16,6 @@ use crate::keeper::Seated;
 use crate::naming::Naming;
 use crate::seat::Seat;
 use std::alloc::Global;
-use std::marker::Sync;
 use std::sync::Wait;
 use up_history::Trail;
 use up_hooks::PreHooks;
@@ -47,7 +46,7 @@ pub fn converse_at<B: Naming, I: Ids, R: Source, W: Sink, T: Wait>(
 }
 
 /// How the conversations of a server are served.
-pub trait Service: Sync {
+pub trait Service {
     ghost use Rattle.logbook.specs.Pages.{Book};
     ghost use Rattle.std.specs.Prelude.{ℕ};
     ghost use Rattle.up_queue.specs.EndViews.{QueueId};

@@ -1,5 +1,5 @@
 -- A post-hook that continues where earlier runs ended, as contracts describe it.
-use Rattle.std.specs.Prelude.{◌≡◌, ◌+◌, ℕ, Bool, max, nat_lt, List, length, drop}
+use Rattle.std.specs.Prelude.{◌≡◌, ◌+◌, ◌<◌, ℕ, Bool, max, nat_lt, true, false, List, length, drop}
 use Rattle.sqlite_disk.specs.declared.Disk.{Ghosts}
 use Rattle.up_events.specs.declared.event.Event.{Event}
 use Rattle.up_handed.specs.declared.continued.Continued.{Continued}
@@ -34,10 +34,16 @@ module _ {H D : Type 0} {g : Ghosts D} where
   abbrev pub skips_next : Continued H D g → Bool
   skips_next continued = nat_lt continued.passed continued.before
 
-  -- the inner post-hook can be called, and was handed all events except those that earlier runs handed over
+  -- the last event is not counted, and a crash leaves the number of those before it
+  abbrev pub IsNotCounted : Continued H D g → Type 0
+  IsNotCounted continued = (continued.is_owed ≡ true) × IsOnDisk g continued.handed.device continued.handed.count
+
+  -- the inner post-hook can be called, and was handed all events except those that earlier runs handed over. An event
+  -- that it has not settled is not counted, so that it is handed over again after a crash
   pub record GoesOn (h : post_hook.Ghosts H) (continued : Continued H D g) : Type 0 where
     pub sound : h.is_sound continued.hook
     pub further : h.handed continued.hook ≡ drop continued.before continued.told.items
+    pub unsettled : h.is_settled continued.hook ≡ false → continued.before < length continued.told.items → IsNotCounted continued
 
 module _ {H D : Type 0} (g : Ghosts D) where
   -- the number on the disk counts all events that were handed over, or those of earlier runs if these are more, with

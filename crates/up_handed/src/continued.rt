@@ -14,9 +14,9 @@ use up_hooks::{Outcome, PostHook};
 
 /// A post-hook for a run after earlier runs have handed over the first events of the lane. The lane hands it all of its
 /// events, from the first one on. It skips those that earlier runs handed over, hands each further event to the inner
-/// post-hook, and then adds one to the count. So the count includes all events or all but the last, and after a crash
-/// at most the last one is handed over again. While an event is not counted yet, there is no room for another. There is
-/// room for an event that it skips whether or not the inner post-hook has room.
+/// post-hook, and adds one to the count once the inner post-hook has settled the event. So the count includes all events
+/// or all but the last, and after a crash at most the last one is handed over again. While an event is not counted yet,
+/// there is no room for another. There is room for an event that it skips whether or not the inner post-hook has room.
 ///
 /// A shorter log may leave out events that earlier runs handed over. The count includes these events too.
 #[derive(Drop)]
@@ -43,7 +43,8 @@ pub struct Continued<H, D: Disk> {
 }
 
 impl<H: PostHook, D: Disk + Send> PostHook for Continued<H, D> {
-    ghost use Rattle.up_handed.specs.Continues.{GoesOn, IsAllCounted, IsStopped, handed_events, skips_next};
+    ghost use Rattle.up_handed.specs.Continues.{GoesOn, IsAllCounted, IsStopped};
+    ghost use Rattle.up_handed.specs.Continues.{handed_events, inner_hook, skips_next};
 
     ghost is_sound = { GoesOn H.PostHook };
 
@@ -51,8 +52,14 @@ impl<H: PostHook, D: Disk + Send> PostHook for Continued<H, D> {
 
     ghost has_room = { λ c. not c.is_owed && (skips_next c || H.has_room c.hook) };
 
+    ghost is_settled = { λ c. not c.is_owed && H.is_settled c.hook };
+
     ghost may_answer = { λ c event outcome.
         ((c.passed < c.before) × (outcome ≡ Done)) ⊎ H.may_answer c.hook event outcome };
+
+    fn is_settled(&self) -> bool {
+        !self.is_owed && self.hook.is_settled()
+    }
 
     fn ready(&mut self) -> Result<(), NoMemory>
         requires { GoesOn H.PostHook self.old }
@@ -62,24 +69,29 @@ impl<H: PostHook, D: Disk + Send> PostHook for Continued<H, D> {
             → ⟦<Continued<H, D> as PostHook>⟧.may_answer self.new event outcome
             → ⟦<Continued<H, D> as PostHook>⟧.may_answer self.old event outcome }
         ensures room { OnOk result (⟦<Continued<H, D> as PostHook>⟧.has_room self.new ≡ true) }
-        // After `Ok`, each event that was handed over is counted. After an error this holds too, or the disk has
-        // failed.
+        ensures settled { OnOk result (⟦<Continued<H, D> as PostHook>⟧.is_settled self.new ≡ true) }
+        ensures stays_settled { ⟦<Continued<H, D> as PostHook>⟧.is_settled self.old ≡ true
+            → ⟦<Continued<H, D> as PostHook>⟧.is_settled self.new ≡ true }
+        // After `Ok`, each event that was handed over is counted. After an error this holds too, or the inner post-hook
+        // has not settled the last event, or the disk has failed.
         ensures counted { OnOk result (IsAllCounted D.Disk self.new) }
-        ensures cause { OnErr result
-            (IsAllCounted D.Disk self.new ⊎ IsStopped D.Disk self.old self.new) }
+        ensures cause { OnErr result (IsAllCounted D.Disk self.new
+            ⊎ (H.is_settled (inner_hook self.new) ≡ false)
+            ⊎ IsStopped D.Disk self.old self.new) }
     {
-        if self.is_owed {
+        let is_next_skipped = self.passed < self.before;
+        if is_next_skipped && self.hook.is_settled() {
+            return Ok(());
+        }
+        let ready = self.hook.ready();
+        if self.is_owed && self.hook.is_settled() {
             let earlier = self.left_out + self.before;
             if self.handed.add(&self.hook, earlier).is_err() {
                 return Err(NoMemory);
             }
             self.is_owed = false;
         }
-        let is_next_skipped = self.passed < self.before;
-        if is_next_skipped {
-            return Ok(());
-        }
-        self.hook.ready()
+        ready
     }
 
     fn holds_back(&self) -> bool {
@@ -94,7 +106,7 @@ impl<H: PostHook, D: Disk + Send> PostHook for Continued<H, D> {
         }
         let earlier = self.left_out + self.before;
         let outcome = self.hook.hand(event);
-        self.is_owed = self.handed.add(&self.hook, earlier).is_err();
+        self.is_owed = !self.hook.is_settled() || self.handed.add(&self.hook, earlier).is_err();
         outcome
     }
 }

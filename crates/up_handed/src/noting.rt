@@ -39,7 +39,13 @@ impl<H: PostHook, E: Endings> PostHook for Noting<H, E> {
 
     ghost has_room = { λ n. H.has_room n.hook };
 
+    ghost is_settled = { λ n. H.is_settled n.hook };
+
     ghost may_answer = { λ n. H.may_answer n.hook };
+
+    fn is_settled(&self) -> bool {
+        self.hook.is_settled()
+    }
 
     fn ready(&mut self) -> Result<(), NoMemory> {
         self.hook.ready()?;

@@ -37,7 +37,13 @@ impl<H: PostHook, P: Permission> PostHook for Withheld<H, P> {
 
     ghost has_room = { λ w. w.is_open && H.has_room w.hook };
 
+    ghost is_settled = { λ w. H.is_settled w.hook };
+
     ghost may_answer = { λ w. H.may_answer w.hook };
+
+    fn is_settled(&self) -> bool {
+        self.hook.is_settled()
+    }
 
     fn ready(&mut self) -> Result<(), NoMemory> {
         if !self.is_open && !self.permission.is_given() {

@@ -14,7 +14,8 @@ pub enum Outcome {
 }
 
 /// The receiver of a lane's events, one after another, in the thread that runs the lane. For each event, `ready` first
-/// makes room, and then `hand` is given the event.
+/// makes room, and then `hand` is given the event. A post-hook may keep an event until somebody else has acknowledged
+/// it; until then it is not settled, and it has no room for another event.
 pub trait PostHook: Send {
     ghost use Rattle.std.specs.Prelude.{List, Bool};
     ghost use Rattle.up_events.specs.declared.event.Event.{Event};
@@ -29,18 +30,28 @@ pub trait PostHook: Send {
     /// Whether there is room for one more event.
     ghost has_room: { Self → Bool };
 
+    /// Whether all events that it was handed are where they belong.
+    ghost is_settled: { Self → Bool };
+
     /// The outcomes that it may return for an event. A call never adds an outcome that was not possible before.
     ghost may_answer: { Self → Event → Outcome → Type 0 };
 
-    /// Makes room for one more event, before that event is taken from its queue, so that running out of memory loses no
-    /// event. `NoMemory` if memory runs out; it may then be called again.
+    /// Whether all events that it was handed are where they belong. If it is not, `ready` goes on with the last one.
+    fn is_settled(&self) -> bool
+        ensures { result ≡ is_settled self.now };
+
+    /// Settles the last event, and makes room for one more, before that event is taken from its queue, so that no event
+    /// is lost if there is no room. `NoMemory` if the event can't be settled yet, or if memory runs out; it may then be
+    /// called again.
     fn ready(&mut self) -> Result<(), NoMemory>
         requires { is_sound self.old }
         ensures sound { is_sound self.new }
         ensures same { handed self.new ≡ handed self.old }
         ensures alike { (event : Event) (outcome : Outcome)
             → may_answer self.new event outcome → may_answer self.old event outcome }
-        ensures room { OnOk result (has_room self.new ≡ true) };
+        ensures room { OnOk result (has_room self.new ≡ true) }
+        ensures settled { OnOk result (is_settled self.new ≡ true) }
+        ensures stays_settled { is_settled self.old ≡ true → is_settled self.new ≡ true };
 
     /// Whether the last call of `ready` failed because events are held back for now, and not for want of memory. Nobody
     /// is told that the lane waits then.

@@ -25,7 +25,13 @@ impl<F: Fn(&Event) -> Outcome + Send> PostHook for Recorder<F> {
 
     ghost has_room = { λ r. nat_lt (vec_len r.pairs) (vec_capacity r.pairs) };
 
+    ghost is_settled = { λ _. true };
+
     ghost may_answer = { λ r event outcome. FnReturnsAt F.Fn r.answer event outcome };
+
+    fn is_settled(&self) -> bool {
+        true
+    }
 
     fn ready(&mut self) -> Result<(), NoMemory>
         ensures closure { closure_of self.new ≡ closure_of self.old }

@@ -25,7 +25,13 @@ impl<F: Fn(&Event) -> Outcome + Send> PostHook for Teller<F> {
 
     ghost has_room = { λ _. true };
 
+    ghost is_settled = { λ _. true };
+
     ghost may_answer = { λ t event outcome. FnReturnsAt F.Fn t.answer event outcome };
+
+    fn is_settled(&self) -> bool {
+        true
+    }
 
     fn ready(&mut self) -> Result<(), NoMemory> {
         Ok(())

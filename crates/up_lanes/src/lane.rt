@@ -31,7 +31,7 @@ pub enum StepEnd {
     Nothing,
     /// The end was taken, in this step or in an earlier one. No later step does anything.
     Ended,
-    /// The post-hook had no memory for one more event, so nothing was taken.
+    /// The post-hook was not ready for one more event, so nothing was taken.
     NoMemory,
 }
 
@@ -52,7 +52,7 @@ impl<H: PostHook> Model for Lane<H> {
 
     ghost Value = { LaneView H };
 
-    ghost use Rattle.std.specs.Prelude.{◌≡◌, ◌%◌, ◌^◌, length};
+    ghost use Rattle.std.specs.Prelude.{◌≡◌, ◌%◌, ◌^◌, length, true};
     ghost use Rattle.up_events.specs.Log.{IsLawful};
     ghost use Rattle.up_queue.specs.Line.{items_if};
     ghost use Rattle.up_lanes.specs.LaneViews.{lane_view};
@@ -64,6 +64,7 @@ impl<H: PostHook> Model for Lane<H> {
       kept : l.take_end.taken ≡ items_if (H.handed l.hook) l.ended;
       lawful : IsLawful (H.handed l.hook);
       counted : l.taken ≡ length l.take_end.taken % 2 ^ 64;
+      settled : l.ended ≡ true → H.is_settled l.hook ≡ true;
     } };
 }
 

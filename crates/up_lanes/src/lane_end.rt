@@ -1,5 +1,5 @@
 //! What remains of a lane when it ends.
-ghost use Rattle.std.specs.Prelude.{◌≡◌, ◌%◌, ◌^◌, length};
+ghost use Rattle.std.specs.Prelude.{◌≡◌, ◌%◌, ◌^◌, length, true};
 ghost use Rattle.up_events.specs.Log.{IsLawful};
 ghost use Rattle.up_queue.specs.Line.{items_if};
 ghost use Rattle.up_lanes.specs.HowOf.{is_drained};
@@ -13,7 +13,7 @@ use up_queue::TakeEnd;
 pub enum How {
     /// It took the end, which was put after its last event.
     Drained,
-    /// Its post-hook had no memory for one more event.
+    /// Its post-hook was not ready for one more event: it had not settled the last one, or memory ran out.
     Stopped,
 }
 
@@ -30,7 +30,7 @@ impl How {
 }
 
 /// What remains of a lane. What it took from its queue is what it handed to its post-hook, followed by the end exactly
-/// if it is drained.
+/// if it is drained. If it is drained, the post-hook has settled all events.
 #[derive(Drop)]
 pub struct LaneEnd<H: PostHook> {
     /// The lane. The first lane is 0.
@@ -43,4 +43,5 @@ pub struct LaneEnd<H: PostHook> {
     pub ghost kept: { take_end.taken ≡ items_if (H.handed hook) (is_drained how) },
     pub ghost lawful: { IsLawful (H.handed hook) } by { lawful_once (H.handed hook) },
     pub ghost counted: { taken ≡ length take_end.taken % 2 ^ 64 },
+    pub ghost settled: { is_drained how ≡ true → H.is_settled hook ≡ true },
 }

@@ -1,5 +1,5 @@
 -- The report of a board that has ended, and its text.
-use Rattle.std.specs.Prelude.{◌≡◌, ℕ, Bool, true, false, List, length, Result, Ok, Err}
+use Rattle.std.specs.Prelude.{◌≡◌, ℕ, Bool, true, false, List, length, All, Result, Ok, Err}
 use Rattle.std.specs.Io.KnownBytes.{Appends}
 use Rattle.std.specs.List.{list_any}
 use Rattle.up_dispatch.specs.Reports.{HandOver, TellEachUpload}
@@ -8,6 +8,7 @@ use Rattle.up_dispatch.specs.declared.finish.Report.{Report}
 use Rattle.up_events.specs.History.{IsLegal}
 use Rattle.up_events.specs.declared.event.Event.{Event}
 use Rattle.up_hooks.specs.declared.recorder.Recorder.{Recorder}
+use Rattle.up_lanes.specs.HowOf.{is_drained}
 use Rattle.up_lanes.specs.declared.lane_end.How.{How}
 use Rattle.up_lanes.specs.declared.lane_end.How.TheVariants.{Drained, Stopped}
 use Rattle.up_server.specs.ReportText.{report_text}
@@ -23,6 +24,11 @@ pub record IsReportOf {H : Type 0} (handed : H → List Event) (lanes : ℕ) (re
   pub lanes_are : length report.lanes.items ≡ lanes
   pub handed_over : HandOver handed lanes report.accepted.items report.lanes.items
   pub delivered : TellEachUpload handed lanes report.accepted.items report.lanes.items
+
+-- the post-hook of each lane that is drained has settled all events that it was handed. If it delivers them to somebody
+-- who acknowledges each, all were acknowledged
+abbrev pub AreSettled : {H : Type 0} → (H → Bool) → List (LaneReport H) → Type 0
+AreSettled is_settled lanes = All (λ lane. is_drained lane.how ≡ true → is_settled lane.hook ≡ true) lanes
 
 -- whether a lane stopped before it took its end
 abbrev pub is_stopped : How → Bool

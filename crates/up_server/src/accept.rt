@@ -70,6 +70,66 @@ fn serve_in_turn<B: Naming, I: Ids, S: Service, T: Wait>(
     }
 }
 
+/// Where connections are served, once they are let in. A thread is started over any such place, so that what is shown
+/// there is not about what the connections share.
+trait Hall: Sync {
+    ghost use Rattle.std.specs.Prelude.{◌≡◌};
+    ghost use Rattle.logbook.specs.Pages.{Book};
+
+    /// The history that the changes made there follow.
+    ghost history: { Book };
+
+    /// Serves a connection, and then others as they are handed over.
+    fn serve<S: Service, T: Wait>(
+        &self,
+        rt: &T,
+        alloc: Global,
+        hooks: &PreHooks,
+        service: &S,
+        first: TcpStream,
+    )
+        requires same { history ≡ S.history };
+}
+
+impl<B: Naming + Send + Sync, I: Ids + Send> Hall for ConnectionContext<'_, B, I> {
+    ghost history = { B.history };
+
+    fn serve<S: Service, T: Wait>(
+        &self,
+        rt: &T,
+        alloc: Global,
+        hooks: &PreHooks,
+        service: &S,
+        first: TcpStream,
+    ) {
+        serve_in_turn(rt, alloc, self, hooks, service, first);
+    }
+}
+
+/// Starts a thread that serves a connection, and then others that are handed over. If none can be started, the
+/// connection is closed, and that is the error.
+fn start<'s, E, H: Hall + 's, S: Service + Sync + 's, T: Wait + Sync + 's>(
+    scope: &Scope<'s, E>,
+    rt: &'s T,
+    alloc: Global,
+    hall: &'s H,
+    hooks: &'s PreHooks,
+    service: &'s S,
+    stream: TcpStream,
+) -> Result<(), Failed>
+    requires same { H.history ≡ S.history }
+{
+    let visit = move ||
+        requires same { H.history ≡ S.history }
+    {
+        hall.serve(rt, alloc, hooks, service, stream);
+    };
+    match Builder::new().stack_size(STACK).spawn_scoped(scope, visit) {
+        Ok(_) => Ok(()),
+        Err(_) => Err(Failed::Lasting(Entrance::Wanting(Want::Threads))),
+    }
+}
+
 /// Hands a connection to a thread that waits for one. If none does, starts a thread for it, which then takes others
 /// that are handed over. If no thread can be started, the connection is closed, and that is the error.
 fn let_in<
@@ -77,7 +137,7 @@ fn let_in<
     E,
     B: Naming + Send + Sync + 's,
     I: Ids + Send + 's,
-    S: Service + 's,
+    S: Service + Sync + 's,
     T: Wait + Sync + 's,
 >(
     scope: &Scope<'s, E>,
@@ -90,17 +150,9 @@ fn let_in<
 ) -> Result<(), Failed>
     requires same { B.history ≡ S.history }
 {
-    let Some(stream) = context.pool.hand(rt, stream) else {
-        return Ok(());
-    };
-    let visit = move ||
-        requires same { B.history ≡ S.history }
-    {
-        serve_in_turn(rt, alloc, context, hooks, service, stream);
-    };
-    match Builder::new().stack_size(STACK).spawn_scoped(scope, visit) {
-        Ok(_) => Ok(()),
-        Err(_) => Err(Failed::Lasting(Entrance::Wanting(Want::Threads))),
+    match context.pool.hand(rt, stream) {
+        Some(stream) => start(scope, rt, alloc, context, hooks, service, stream),
+        None => Ok(()),
     }
 }
 
@@ -206,7 +258,7 @@ fn accept_all<
     B: Naming + Send + Sync + 's,
     I: Ids + Send + 's,
     N: Notices,
-    S: Service + 's,
+    S: Service + Sync + 's,
     T: Wait + Sync + 's,
 >(
     scope: &Scope<'s, E>,
@@ -244,7 +296,7 @@ fn serve_in<
     B: Naming + Send + Sync,
     I: Ids + Send,
     N: Notices,
-    S: Service,
+    S: Service + Sync,
     T: Threads + Wait + Sync,
 >(
     rt: &'x T,
@@ -292,7 +344,7 @@ pub fn serve_connections<
     B: Naming + Send + Sync,
     I: Ids + Send + Drop,
     N: Notices,
-    S: Service,
+    S: Service + Sync,
     T: Threads + Wait + Sync,
 >(
     rt: &T,

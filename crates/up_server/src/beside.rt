@@ -2,8 +2,9 @@
 ghost use Rattle.std.specs.Prelude.{◌≡◌, IfOk, vec_len};
 ghost use Rattle.up_dispatch.specs.Lists.{EachAt};
 
+use crate::lane_notices::LaneNotices;
 use crate::lanes::{end_all, start_each};
-use crate::runner::{LaneNotices, Runner};
+use crate::runner::Runner;
 use std::alloc::{AllocError, Global};
 use std::marker::{Send, Sync};
 use std::sync::Wait;

@@ -2,7 +2,7 @@
 ghost use Rattle.std.specs.Prelude.{◌≡◌, All, IfOk, vec_len, [], length, sum};
 ghost use Rattle.up_dispatch.specs.Lists.{EachAt};
 ghost use Rattle.up_dispatch.specs.Parts.{IsNamed};
-ghost use Rattle.up_server.specs.Reported.{IsReportOf};
+ghost use Rattle.up_server.specs.Reported.{IsReportOf, AreSettled};
 
 use crate::lanes::lanes_over;
 use std::alloc::Global;
@@ -47,6 +47,7 @@ pub fn finish<B: Naming, H: PostHook + Drop>(
     ensures counts { IfOk result (λ r. length r.accepted.items ≡ sum seats.items) }
     ensures report { IfOk result (λ r. IsReportOf H.handed (vec_len ends) r) }
     ensures sound { IfOk result (λ r. All (λ x. H.is_sound x.hook) r.lanes.items) }
+    ensures settled { IfOk result (λ r. AreSettled H.is_settled r.lanes.items) }
 {
     match board.finish(alloc, seats, ends) {
         Ok(report) => Ok(report),

@@ -34,6 +34,8 @@ pub struct Ending {
     most: Option<u64>,
     /// When the input ended, in milliseconds of the system's clock. 0 before that.
     since: AtomicU64,
+    /// When the grace is over, in milliseconds of the system's clock. 0 before the input ended.
+    until: AtomicU64,
     /// Whether only what has arrived is read from any connection.
     is_over: AtomicBool,
     /// Whether every connection is closed.
@@ -68,10 +70,22 @@ impl Ending {
             grace: grace.saturating_mul(1000),
             most,
             since: AtomicU64::new(0),
+            until: AtomicU64::new(0),
             is_over: AtomicBool::new(false),
             is_cut: AtomicBool::new(false),
             sockets: Mutex::new(Vec::with_capacity(alloc, open as usize)?),
         })
+    }
+
+    /// When the lanes have no time left, in milliseconds of the system's clock that never goes back. 0 before the input
+    /// has ended.
+    pub fn until(&self) -> &AtomicU64 {
+        &self.until
+    }
+
+    /// Whether the input has ended, and the lanes have time left.
+    pub(crate) fn has_time(&self) -> bool {
+        milliseconds() < self.until.load(Ordering::SeqCst)
     }
 
     /// Whether only what has arrived is read from any connection.
@@ -159,18 +173,19 @@ impl Ending {
     fn read(&self) {
         let mut dropped = [0; DROPPED];
         if libc::read(self.input, &mut dropped) <= 0 {
-            self.since.store(milliseconds().max(1), Ordering::SeqCst);
+            let since = milliseconds().max(1);
+            let until = since.saturating_add(self.grace);
+            self.until.store(until, Ordering::SeqCst);
+            self.since.store(since, Ordering::SeqCst);
         }
     }
 
     /// Whether connections are still accepted. Closes the board if the input has ended.
     pub(crate) fn goes_on<B: Naming, R: Wait>(&self, rt: &R, board: &Board<B>) -> bool {
-        let since = self.since.load(Ordering::SeqCst);
-        if since == 0 {
+        if self.since.load(Ordering::SeqCst) == 0 {
             return true;
         }
         board.close(rt);
-        let has_time = milliseconds().saturating_sub(since) < self.grace;
-        has_time && board.counts(rt).waiting.iter().any(|count| *count > 0)
+        self.has_time() && board.counts(rt).waiting.iter().any(|count| *count > 0)
     }
 }

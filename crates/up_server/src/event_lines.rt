@@ -1,33 +1,41 @@
 //! Events as lines, written while the server runs.
-ghost use Rattle.std.specs.Prelude.{◌≡◌, ◌≢◌, IsTrue};
+ghost use Rattle.std.specs.Prelude.{◌≡◌, IfOk, IfSome, IsTrue, None};
 ghost use Rattle.std.specs.Io.KnownBytes.{Appends};
 ghost use Rattle.up_hooks.specs.Recorded.{has_code};
-ghost use Rattle.up_hooks.specs.declared.post_hook.Outcome.TheVariants.{Done, Failed};
+ghost use Rattle.up_hooks.specs.declared.post_hook.Outcome.TheVariants.{Done};
 ghost use Rattle.up_wire.specs.Device.{GaveUp};
 ghost use Rattle.up_server.specs.ReportText.{event_line};
+ghost use Rattle.up_server.specs.Written.{written_of};
 
 use crate::report::write_event_line;
 use std::alloc::Global;
 use std::io::{self, BufWriter, ErrorKind, Write};
+use std::snapshot::Snapshot;
 use std::sync::atomic::{AtomicBool, Ordering};
 use std::sync::{Mutex, Wait};
 use up_events::Event;
 use up_hooks::Outcome;
 use up_wire::{Output, Sink};
 
-/// Writes the event as a line, in the form of the report, and makes the sink send it on. `Failed` with the code 1 if
-/// that fails.
-fn write_line<W: Sink>(sink: &mut W, event: &Event) -> Outcome
-    ensures code { IsTrue (has_code result) }
-    ensures written { result ≡ Done
-        → Appends (W.device sink.old).bytes (W.device sink.new).bytes
-        (event_line (event.now, Done)) }
-    ensures failed { result ≢ Done
-        → (result ≡ Failed 1) × GaveUp (W.device sink.new) (W.device sink.new).interruptions }
+/// That the line of an event was written. It is made in one place alone, after that line.
+#[derive(Drop)]
+pub struct Written {
+    event: Snapshot<Event>,
+}
+
+/// Writes the event as a line, in the form of the report, and makes the sink send it on. `None` if that fails.
+fn write_line<W: Sink>(sink: &mut W, event: &Event) -> Option<Written>
+    ensures event { IfSome result (λ written. written_of written ≡ event.now) }
+    ensures written { IfSome result (λ _. Appends (W.device sink.old).bytes
+        (W.device sink.new).bytes (event_line (event.now, Done))) }
+    ensures failed { result ≡ None
+        → GaveUp (W.device sink.new) (W.device sink.new).interruptions }
 {
     match write_event_line(sink, &(*event, Outcome::Done)) {
-        Ok(()) => Outcome::Done,
-        Err(_) => Outcome::Failed(1),
+        Ok(()) => Some(Written {
+            event: Snapshot::of(event),
+        }),
+        Err(_) => None,
     }
 }
 
@@ -94,10 +102,12 @@ impl<W: Write + Drop> EventLines<W> {
 
     /// Writes the event as a line, and makes the sink send it on before any other line is written. If that fails,
     /// returns why. `None` if an earlier line failed.
-    fn write<R: Wait>(&self, rt: &R, event: &Event) -> Option<io::Result<()>> {
+    fn write<R: Wait>(&self, rt: &R, event: &Event) -> Option<io::Result<Written>>
+        ensures { IfSome result (λ r. IfOk r (λ written. written_of written ≡ event.now)) }
+    {
         let mut place = self.lines.lock(rt);
-        if write_line((*place).as_mut()?, event) == Outcome::Done {
-            return Some(Ok(()));
+        if let Some(written) = write_line((*place).as_mut()?, event) {
+            return Some(Ok(written));
         }
         self.have_failed.store(true, Ordering::SeqCst);
         let lines = place.take()?;
@@ -105,18 +115,27 @@ impl<W: Write + Drop> EventLines<W> {
     }
 
     /// Writes the event as a line, in the form of the report, and makes the sink send it on before any other line is
-    /// written. `Failed` with the code 1 if that fails, and from then on. Standard error says once why.
+    /// written. `None` if that fails, and from then on. Standard error says once why.
+    pub fn put<R: Eprint + Wait>(&self, rt: &R, event: &Event) -> Option<Written>
+        ensures { IfSome result (λ written. written_of written ≡ event.now) }
+    {
+        match self.write(rt, event)? {
+            Ok(written) => Some(written),
+            Err(error) => {
+                let _ = eprintln!(rt; "up_server: events can't be written: {error}");
+                None
+            }
+        }
+    }
+
+    /// Does the same. `Failed` with the code 1 if it fails, and from then on.
     pub fn tell<R: Eprint + Wait>(&self, rt: &R, event: &Event) -> Outcome
         ensures { IsTrue (has_code result) }
     {
-        match self.write(rt, event) {
-            Some(Ok(())) => return Outcome::Done,
-            Some(Err(error)) => {
-                let _ = eprintln!(rt; "up_server: events can't be written: {error}");
-            }
-            None => {}
+        match self.put(rt, event) {
+            Some(_) => Outcome::Done,
+            None => Outcome::Failed(1),
         }
-        Outcome::Failed(1)
     }
 }
 

@@ -3,7 +3,8 @@ ghost use Rattle.std.specs.Prelude.{◌≡◌, All, IfOk, vec_len, [], false, sl
 ghost use Rattle.up_lanes.specs.LaneViews.{lane_view};
 ghost use Rattle.up_dispatch.specs.Lists.{EachAt};
 
-use crate::runner::{LaneNotices, Runner};
+use crate::lane_notices::LaneNotices;
+use crate::runner::Runner;
 use crate::status::start_saying;
 use std::alloc::{AllocError, Global};
 use std::marker::{Send, Sync};

@@ -5,15 +5,17 @@ ghost use Rattle.up_dispatch.specs.Parts.{IsNamed};
 ghost use Rattle.up_dispatch.specs.declared.finish.Report.{Report};
 ghost use Rattle.up_hooks.specs.declared.recorder.Recorder.{Recorder};
 ghost use Rattle.up_server.specs.ReportText.{report_by};
-ghost use Rattle.up_server.specs.Reported.{IsReportOf, IsRunOutcome, IsOutcomeOfText, any_stopped};
+ghost use Rattle.up_server.specs.Reported.{AreSettled, IsReportOf, IsRunOutcome, IsOutcomeOfText};
+ghost use Rattle.up_server.specs.Reported.{any_stopped};
 
 use crate::accept::{Visits, serve_connections};
 use crate::beside::run_beside;
 use crate::boards;
 use crate::hooks::Hooks;
+use crate::lane_notices::OnStderr;
 use crate::notices::Notices;
 use crate::run_outcome::report_outcome;
-use crate::runner::{OnStderr, Runner};
+use crate::runner::Runner;
 use crate::server_fault::ServerFault;
 use crate::shown::Shown;
 use crate::status::say;
@@ -39,14 +41,14 @@ pub struct Connections<'a, I, N, S> {
 }
 
 /// Runs the lanes in threads of their own while connections are served, and then closes the board. A lane whose
-/// post-hook is refused memory waits for it. Returns the seats, unless memory ran out for the connections, and the ends
-/// of the lanes.
+/// post-hook is not ready waits for it. Returns the seats, unless memory ran out for the connections, and the ends of the
+/// lanes.
 fn attend<
     B: Naming + Send + Sync,
     H: PostHook + Drop,
     I: Ids + Send + Drop,
     N: Notices,
-    S: Service,
+    S: Service + Sync,
     T: Threads + Wait + Eprint + Sync,
 >(
     rt: &T,
@@ -67,7 +69,7 @@ fn attend<
         visits,
         ids,
     } = connections;
-    let notices = &OnStderr::new(rt, visits.watch);
+    let notices = &OnStderr::new(rt, alloc, lanes.len(), visits.watch, visits.ending)?;
     let runner = &Runner::lasting(board, notices);
     let ended = run_beside(
         rt,
@@ -88,7 +90,7 @@ fn run<
     H: PostHook + Drop,
     I: Ids + Send + Drop,
     N: Notices,
-    S: Service,
+    S: Service + Sync,
     T: Threads + Wait + Eprint + Sync,
 >(
     rt: &T,
@@ -107,6 +109,7 @@ fn run<
     requires new { All (λ h. H.is_sound h × (H.handed h ≡ [])) post_hooks.items }
     ensures report { IfOk result (λ r. IsReportOf H.handed settings.now.lanes r) }
     ensures sound { IfOk result (λ r. All (λ x. H.is_sound x.hook) r.lanes.items) }
+    ensures settled { IfOk result (λ r. AreSettled H.is_settled r.lanes.items) }
 {
     let (board, lanes) = boards::open::<B, _>(alloc, parts, post_hooks, settings)?;
     let (seats, ends) = attend(rt, alloc, &board, lanes, pre_hooks, connections)?;
@@ -119,15 +122,15 @@ fn run<
 /// upload is made, completed or removed. A fault on a connection ends only that connection. An error means that memory
 /// ran out for what all connections share.
 ///
-/// A lane whose post-hook is refused memory is tried again after 100 ms, and then after a pause that doubles up to
-/// 10 s, until the post-hook has room for an event; the lane then continues where it stopped. After the last
-/// connection has ended it is tried three times more, and then it is reported as stopped. Standard error says when a
-/// lane begins to wait, and when it continues.
+/// A lane whose post-hook is not ready for another event is tried again after 100 ms, and then after a pause that
+/// doubles up to 10 s, until the post-hook is ready; the lane then continues where it stopped. After the last connection
+/// has ended it is tried three times more, and then it is reported as stopped. Standard error says when a lane begins to
+/// wait, and when it continues. The post-hook of a lane that is reported as drained has settled all of its events.
 pub fn serve_with<
     H: PostHook + Drop,
     I: Ids + Send + Drop,
     N: Notices,
-    S: Service,
+    S: Service + Sync,
     T: Threads + Wait + Eprint + Sync,
 >(
     rt: &T,
@@ -140,6 +143,7 @@ pub fn serve_with<
     requires new { All (λ h. H.is_sound h × (H.handed h ≡ [])) hooks.post.items }
     ensures report { IfOk result (λ r. IsReportOf H.handed settings.now.lanes r) }
     ensures sound { IfOk result (λ r. All (λ x. H.is_sound x.hook) r.lanes.items) }
+    ensures settled { IfOk result (λ r. AreSettled H.is_settled r.lanes.items) }
 {
     let parts = BoardParts::new(alloc, settings.lanes, settings.capacity)?;
     let Hooks { pre, post } = hooks;
@@ -152,7 +156,7 @@ pub fn serve<
     F: Fn(&Event) -> Outcome + Send + Drop,
     I: Ids + Send + Drop,
     N: Notices,
-    S: Service,
+    S: Service + Sync,
     W: Sink,
     T: Threads + Wait + Eprint + Sync,
 >(
@@ -169,6 +173,7 @@ pub fn serve<
     ensures { (result ≡ Err ServerFault.Memory) ⊎ ((report : Report (Recorder F))
         × IsReportOf ⟦<Recorder<F> as PostHook>⟧.handed settings.now.lanes report
         × All (λ lane. ⟦<Recorder<F> as PostHook>⟧.is_sound lane.hook) report.lanes.items
+        × AreSettled ⟦<Recorder<F> as PostHook>⟧.is_settled report.lanes.items
         × IsRunOutcome report (W.device sink.old) (W.device sink.new) result) }
 {
     keep_serving(rt, alloc, hooks, settings, connections, sink)
@@ -181,7 +186,7 @@ pub fn keep_serving<
     H: Shown + Drop,
     I: Ids + Send + Drop,
     N: Notices,
-    S: Service,
+    S: Service + Sync,
     W: Sink,
     T: Threads + Wait + Eprint + Sync,
 >(
@@ -197,6 +202,7 @@ pub fn keep_serving<
     ensures { (result ≡ Err ServerFault.Memory) ⊎ ((report : Report H)
         × IsReportOf H.handed settings.now.lanes report
         × All (λ lane. H.is_sound lane.hook) report.lanes.items
+        × AreSettled H.is_settled report.lanes.items
         × IsOutcomeOfText (report_by H.count H.text report) (any_stopped report.lanes.items)
         (W.device sink.old) (W.device sink.new) result) }
 {

@@ -1,18 +1,18 @@
-//! Running the lanes of a board. A lane can go on after its post-hook ran out of memory.
+//! Running the lanes of a board. A lane can go on after its post-hook was not ready for another event.
 ghost use Rattle.std.specs.Prelude.{◌≡◌};
 
-use crate::status::Status;
-use crate::watch::Watch;
+use crate::lane_notices::{LaneNotices, LaneWait};
+use crate::patience::milliseconds;
 use std::marker::{Send, Sync};
 use std::sync::Wait;
 use std::sync::atomic::{AtomicU64, Ordering};
 use std::time::Duration;
-use up_dispatch::{Board, Counts, Naming};
+use up_dispatch::{Board, Naming};
 use up_hooks::PostHook;
 use up_lanes::{Lane, LaneEnd, StepEnd};
 
-/// How many milliseconds a lane waits before it is tried again after its post-hook ran out of memory. Each further wait
-/// is twice as long.
+/// How many milliseconds a lane waits before it is tried again after its post-hook was not ready. Each further wait is
+/// twice as long.
 const FIRST_PAUSE: u64 = 100;
 
 /// The longest wait, in milliseconds.
@@ -21,92 +21,13 @@ const MAX_PAUSE: u64 = 10_000;
 /// How many milliseconds a lane waits before it is tried again while its post-hook holds events back.
 const HELD_PAUSE: u64 = 5;
 
-/// How many times a lane is tried after the board was closed, with the first pause between two tries.
+/// How many times a lane is tried after the board was closed, with the first pause between two tries. While a run that
+/// ends in order has time left, the tries of a lane that waits with its last event don't count.
 const LAST_TRIES: u32 = 3;
 
-/// Who is told about lanes that wait for memory, and about the state of the server. For each lane, the two calls
-/// alternate: it waits, and it goes on.
-pub trait LaneNotices: Sync {
-    /// The post-hook of this lane ran out of memory. The lane waits until there is some.
-    fn waits(&self, lane: u64);
-
-    /// The lane goes on.
-    fn goes_on(&self, lane: u64);
-
-    /// How often the state of the server is reported, if it is.
-    fn watch(&self) -> Option<&Watch>;
-
-    /// The state of the server. These are the counts of its board.
-    fn state(&self, counts: Counts);
-}
-
-/// Prints a line on standard error. If that is closed, nobody is told.
-#[derive(Drop)]
-pub struct OnStderr<'a, R> {
-    rt: &'a R,
-    watch: Option<&'a Watch>,
-    /// The lanes that wait, as one bit per lane.
-    stopped: AtomicU64,
-}
-
-/// The bit of a lane.
-pub fn bit(lane: u64) -> u64 {
-    1 << (lane % 64)
-}
-
-impl<'a, R> OnStderr<'a, R> {
-    /// No lane waits.
-    pub fn new(rt: &'a R, watch: Option<&'a Watch>) -> Self {
-        OnStderr {
-            rt,
-            watch,
-            stopped: AtomicU64::new(0),
-        }
-    }
-}
-
-impl<R: Eprint + Sync> LaneNotices for OnStderr<'_, R> {
-    fn waits(&self, lane: u64) {
-        self.stopped.fetch_add(bit(lane), Ordering::SeqCst);
-        let _ = eprintln!(self.rt; "up_server: lane {lane} waits for memory");
-    }
-
-    fn goes_on(&self, lane: u64) {
-        self.stopped.fetch_sub(bit(lane), Ordering::SeqCst);
-        let _ = eprintln!(self.rt; "up_server: lane {lane} goes on");
-    }
-
-    fn watch(&self) -> Option<&Watch> {
-        self.watch
-    }
-
-    fn state(&self, counts: Counts) {
-        let Some(watch) = self.watch else {
-            return;
-        };
-        let status = Status {
-            counts,
-            open: watch.open(),
-            stopped: self.stopped.load(Ordering::SeqCst),
-        };
-        let _ = eprintln!(self.rt; "up_server: {status}");
-    }
-}
-
-/// Nobody is told.
-pub struct Nobody;
-
-impl LaneNotices for Nobody {
-    fn waits(&self, _lane: u64) {}
-
-    fn goes_on(&self, _lane: u64) {}
-
-    fn watch(&self) -> Option<&Watch> {
-        None
-    }
-
-    fn state(&self, _counts: Counts) {}
-}
+/// After how many tries somebody is told of a lane that waits with its last event: after a second and a half, so that a
+/// receiver that fails now and then isn't spoken of.
+const QUIET_TRIES: u32 = 4;
 
 /// Runs the lanes of a board, each in the thread that calls it.
 #[derive(Drop)]
@@ -114,7 +35,7 @@ pub struct Runner<'a, B: Naming, N> {
     pub board: &'a Board<B>,
     /// Who is told about lanes that stop and go on. If there is none, a lane that stops has ended.
     pub notices: Option<&'a N>,
-    /// 0 while the board is open, and 1 after it was closed. Lanes that wait for memory sleep on it.
+    /// 0 while the board is open, and 1 after it was closed. Lanes that wait sleep on it.
     closed: AtomicU64,
 }
 
@@ -128,6 +49,74 @@ fn has_room<H: PostHook, T: Wait>(rt: &T, lane: &mut Lane<H>) -> bool
     }
 }
 
+/// Why a lane waits that has stopped.
+fn wait_of<H: PostHook>(end: &LaneEnd<H>) -> LaneWait {
+    if end.hook.is_settled() {
+        LaneWait::ForMemory
+    } else {
+        LaneWait::WithLastEvent
+    }
+}
+
+/// A lane that waits.
+#[derive(Drop)]
+struct Waiting {
+    lane: u64,
+    why: LaneWait,
+    /// Since when it waits, in milliseconds of the system's clock.
+    since: u64,
+    /// How many tries have failed since it waits.
+    tried: u32,
+    /// Whether somebody was told.
+    is_told: bool,
+}
+
+impl Waiting {
+    /// The lane that ended so waits now. Somebody is told at once if it waits for memory.
+    fn new<H: PostHook, N: LaneNotices>(end: &LaneEnd<H>, notices: &N) -> Self {
+        let why = wait_of(end);
+        let mut waiting = Waiting {
+            lane: end.lane,
+            why,
+            since: milliseconds(),
+            tried: 0,
+            is_told: false,
+        };
+        if why == LaneWait::ForMemory {
+            waiting.tell(notices);
+        }
+        waiting
+    }
+
+    /// Tells that the lane waits, unless that was told.
+    fn tell<N: LaneNotices>(&mut self, notices: &N) {
+        if !self.is_told {
+            self.is_told = true;
+            notices.waits(self.lane, self.why, self.since);
+        }
+    }
+
+    /// Notes that a try has failed.
+    fn fail<N: LaneNotices>(&mut self, notices: &N) {
+        self.tried = self.tried.saturating_add(1);
+        if self.tried >= QUIET_TRIES {
+            self.tell(notices);
+        }
+    }
+
+    /// Tells that the lane goes on, if it was told that it waits.
+    fn end<N: LaneNotices>(&self, notices: &N) {
+        if self.is_told {
+            notices.goes_on(self.lane);
+        }
+    }
+
+    /// Whether the lane may be tried any number of times, although the board is closed.
+    fn has_time<N: LaneNotices>(&self, notices: &N) -> bool {
+        self.why == LaneWait::WithLastEvent && notices.has_time()
+    }
+}
+
 /// How many milliseconds a lane waits after it has waited for `pause` milliseconds.
 fn next_pause(pause: u64, is_closed: bool) -> u64 {
     if is_closed {
@@ -138,7 +127,7 @@ fn next_pause(pause: u64, is_closed: bool) -> u64 {
 }
 
 impl<'a, B: Naming + Send + Sync, N: LaneNotices> Runner<'a, B, N> {
-    /// For an open board. A lane whose post-hook runs out of memory has ended.
+    /// For an open board. A lane whose post-hook is not ready has ended.
     pub fn new(board: &'a Board<B>) -> Self {
         Runner {
             board,
@@ -147,7 +136,7 @@ impl<'a, B: Naming + Send + Sync, N: LaneNotices> Runner<'a, B, N> {
         }
     }
 
-    /// For an open board. A lane whose post-hook runs out of memory waits until there is some, and goes on.
+    /// For an open board. A lane whose post-hook is not ready waits until it is, and goes on.
     pub fn lasting(board: &'a Board<B>, notices: &'a N) -> Self {
         Runner {
             board,
@@ -185,14 +174,22 @@ impl<'a, B: Naming + Send + Sync, N: LaneNotices> Runner<'a, B, N> {
     }
 
     /// Tries a lane that stopped, again and again, until its post-hook has room for an event. Returns whether it has.
-    /// After the board was closed, each try uses up one of `tries`, and the last one is left to the caller.
-    fn try_again<H: PostHook, T: Wait>(&self, rt: &T, lane: &mut Lane<H>, tries: &mut u32) -> bool
+    /// After the board was closed, each try uses up one of `tries` unless there is time left, and the last one is left
+    /// to the caller.
+    fn try_again<H: PostHook, T: Wait>(
+        &self,
+        rt: &T,
+        notices: &N,
+        waiting: &mut Waiting,
+        lane: &mut Lane<H>,
+        tries: &mut u32,
+    ) -> bool
         ensures same { (lane.new.lane ≡ lane.old.lane) × (lane.new.queue ≡ lane.old.queue) }
     {
         let mut pause = FIRST_PAUSE;
         for _ in rt.forever() {
             let is_closed = self.rest(rt, pause);
-            if is_closed {
+            if is_closed && !waiting.has_time(notices) {
                 *tries = tries.saturating_sub(1);
                 if *tries == 0 {
                     break;
@@ -201,6 +198,7 @@ impl<'a, B: Naming + Send + Sync, N: LaneNotices> Runner<'a, B, N> {
             if has_room(rt, lane) {
                 return true;
             }
+            waiting.fail(notices);
             pause = next_pause(pause, is_closed);
         }
         false
@@ -219,16 +217,18 @@ impl<'a, B: Naming + Send + Sync, N: LaneNotices> Runner<'a, B, N> {
         ensures sound { H.is_sound result.hook }
         ensures same { (result.lane ≡ end.lane) × (result.take_end.queue ≡ end.take_end.queue) }
     {
-        let number = end.lane;
-        notices.waits(number);
+        let mut waiting = Waiting::new(&end, notices);
         let mut lane = Lane::resume(end);
-        let has_room = self.try_again(rt, &mut lane, tries);
+        let has_room = self.try_again(rt, notices, &mut waiting, &mut lane, tries);
         if has_room {
-            notices.goes_on(number);
+            waiting.end(notices);
+            return lane.run(rt, self.board);
         }
         let end = lane.run(rt, self.board);
-        if !has_room && end.how.is_drained() {
-            notices.goes_on(number);
+        if end.how.is_drained() {
+            waiting.end(notices);
+        } else {
+            waiting.tell(notices);
         }
         end
     }

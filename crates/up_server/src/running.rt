@@ -10,7 +10,8 @@ ghost use Rattle.up_server.specs.Run.{IsServedRun};
 use crate::beside::run_beside;
 use crate::boards;
 use crate::hooks::Hooks;
-use crate::runner::{Nobody, Runner};
+use crate::lane_notices::Nobody;
+use crate::runner::Runner;
 use crate::served::Served;
 use std::alloc::{AllocError, Global};
 use std::marker::{Send, Sync};
@@ -44,7 +45,12 @@ fn exchange_of<'x, R: Source, W: Sink>(
     ensures source { result.source.now ≡ source.old }
     ensures sink { result.sink.now ≡ sink.old }
 {
-    Exchange { ids, source, sink }
+    Exchange {
+        ids,
+        source,
+        sink,
+        client: None,
+    }
 }
 
 /// Serves one conversation from a seat, its ids counted from 1.

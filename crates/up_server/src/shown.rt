@@ -8,7 +8,7 @@ use sqlite_disk::Disk;
 use std::marker::Send;
 use up_events::Event;
 use up_handed::{Continued, Endings, Noting, Permission, Withheld};
-use up_hooks::{Outcome, PostHook, Recorder, Teller};
+use up_hooks::{Courier, Delivery, Outcome, PostHook, Recorder, Teller};
 use up_wire::{Sink, WriteFailed};
 
 /// A post-hook about which a report says something.
@@ -53,6 +53,24 @@ impl<F: Fn(&Event) -> Outcome + Send> Shown for Teller<F> {
     ghost use Rattle.std.specs.Prelude.{◌-◌, ◌^◌, [], length, min};
 
     ghost count = { λ t. min (length (⟦<Teller<F> as PostHook>⟧.handed t)) (2 ^ 64 - 1) };
+
+    ghost text = { λ _. [] };
+
+    fn count_handed(&self) -> u64 {
+        self.count()
+    }
+
+    fn write_text<W: Sink>(&self, _sink: &mut W) -> Result<(), WriteFailed> {
+        Ok(())
+    }
+}
+
+impl<D: Delivery + Send> Shown for Courier<D> {
+    ghost use Rattle.std.specs.Prelude.{◌-◌, ◌^◌, [], length, min};
+    ghost use Rattle.up_hooks.specs.Couriers.{delivery_of};
+
+    // How many of its events were acknowledged.
+    ghost count = { λ c. min (length (D.acknowledged (delivery_of c))) (2 ^ 64 - 1) };
 
     ghost text = { λ _. [] };
 

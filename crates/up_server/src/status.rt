@@ -1,6 +1,7 @@
 //! The lines on standard error about the state of a server.
+use crate::lane_notices::{LaneNotices, bit};
 use crate::patience::milliseconds;
-use crate::runner::{LaneNotices, Runner, bit};
+use crate::runner::Runner;
 use crate::watch::Watch;
 use std::alloc::AllocError;
 use std::fmt;
@@ -9,13 +10,19 @@ use std::sync::Wait;
 use std::thread::{Scope, Threads};
 use up_dispatch::{Board, Counts, Naming};
 
-/// The state of a server: what is counted on its board, the number of open connections, and the lanes that wait for
-/// memory, a bit for each.
+/// The state of a server.
 #[derive(Clone, Copy)]
 pub struct Status {
+    /// What is counted on its board.
     pub counts: Counts,
+    /// The number of open connections.
     pub open: u64,
+    /// The lanes that wait, a bit for each.
     pub stopped: u64,
+    /// Those of them that wait with their last event, which the board doesn't count as waiting.
+    pub unsettled: u64,
+    /// For how many seconds the longest of these waits.
+    pub oldest: Option<u64>,
 }
 
 impl Status {
@@ -46,6 +53,8 @@ impl Status {
         } else {
             "stopped"
         };
+        let held = u64::from(self.unsettled & bit(lane) != 0);
+        let waiting = waiting.saturating_add(held);
         write!(f, ", lane {lane} {how} ({waiting} waiting)")
     }
 }
@@ -56,7 +65,10 @@ impl fmt::Display for Status {
         for (lane, waiting) in (0..self.counts.lanes).zip(&self.counts.waiting) {
             self.write_lane(f, lane, *waiting)?;
         }
-        Ok(())
+        match self.oldest {
+            Some(seconds) => write!(f, ", the oldest for {seconds} s"),
+            None => Ok(()),
+        }
     }
 }
 

@@ -6,7 +6,7 @@ use crate::ending::Ending;
 use crate::patience::{Pace, Reading, Writing, milliseconds};
 use std::alloc::Global;
 use std::io::{self, BufReader, BufWriter, Read};
-use std::net::{Shutdown, TcpStream};
+use std::net::{Shutdown, SocketAddr, TcpStream};
 use std::os::fd::AsRawFd;
 use std::sync::Wait;
 use std::time::Duration;
@@ -55,6 +55,15 @@ fn buffered<'a>(
     Ok((source, sink))
 }
 
+/// The address of the client, if a closure sees it and the system knows it.
+fn client_of(hooks: &PreHooks, stream: &TcpStream) -> Option<SocketAddr> {
+    if hooks.see_requests() {
+        stream.peer_addr().ok()
+    } else {
+        None
+    }
+}
+
 /// Serves a connection from a seat. An error means that the connection can't be set up, or that memory ran out for its
 /// buffers. Nothing was served then.
 fn serve_stream<'x, B: Naming, I: Ids, S: Service, T: Wait>(
@@ -79,6 +88,7 @@ fn serve_stream<'x, B: Naming, I: Ids, S: Service, T: Wait>(
         ids: &mut ids,
         source: &mut source,
         sink: &mut sink,
+        client: client_of(hooks, stream),
     };
     let (ended, _known) = service.converse(rt, alloc, context.board, seat, hooks, &mut exchange);
     Ok(ended)

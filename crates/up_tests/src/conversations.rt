@@ -49,7 +49,12 @@ fn exchange_of<'x, I: Ids, R: Source, W: Sink>(
     source: &'x mut R,
     sink: &'x mut W,
 ) -> Exchange<'x, I, R, W> {
-    Exchange { ids, source, sink }
+    Exchange {
+        ids,
+        source,
+        sink,
+        client: None,
+    }
 }
 
 /// How a conversation ends, and what it writes.

@@ -4,17 +4,18 @@ ghost use Rattle.up_handed.specs.Counts.{count_of, device_of};
 ghost use Rattle.up_handed.specs.OnDisk.{IsOnDisk};
 ghost use Rattle.up_hooks.specs.Recorded.{AnswersWithCodes};
 
+use crate::desk::Desk;
 use crate::limited::full_once;
 use crate::same::expect_same;
-use sqlite_disk::{Disk, Fuse, Memory};
+use sqlite_disk::{Crash, Disk, Fuse, Memory};
 use sqlite_std_file::Unknown;
 use std::alloc::Global;
 use std::fs;
 use std::process::Abort;
-use std::sync::atomic::{AtomicBool, Ordering};
+use std::sync::atomic::{AtomicBool, AtomicU64, Ordering};
 use up_events::{Event, Hook, Id};
 use up_handed::{Continued, Handed, HandedFault, Permission, Withheld, open_handed, restart};
-use up_hooks::{Outcome, PostHook, Recorder};
+use up_hooks::{Courier, Outcome, PostHook, Recorder};
 
 /// The count in this file.
 pub fn opened<D: Disk + Drop>(device: D) -> Result<Handed<D>, HandedFault>
@@ -278,4 +279,38 @@ fn held<F: Fn(&Event) -> Outcome + Send + Copy, R: Abort>(
 fn events_are_held_back_until_they_may_be_handed_over(rt: HostRuntime) {
     let found = held(&rt, rt.alloc(), |_: &Event| Outcome::Done);
     expect_same(&rt, &found, &[((0, 0), true, 3), ((4, 2), false, 5)]);
+}
+
+/// A run with this file that is handed the events from the first to this number, as far as they are acknowledged.
+fn delivered<'a, D: Disk + Send + Drop>(
+    left: &'a AtomicU64,
+    device: D,
+    events: u64,
+) -> Result<Continued<Courier<Desk<'a>>, D>, HandedFault> {
+    let handed = opened(device)?;
+    let mut run = Continued::new(Courier::new(Desk::new(left)), handed);
+    hand_over(&mut run, events);
+    Ok(run)
+}
+
+/// How many of three events are counted if so many are acknowledged, how many events the next run counts after a crash,
+/// and the first one that it delivers.
+fn acknowledged(alloc: Global, count: u64) -> Result<(u64, u64, u64), HandedFault> {
+    let left = AtomicU64::new(count);
+    let first = delivered(&left, Memory::new(alloc), 3)?;
+    let counted = first.count();
+    let (_, handed) = first.into_parts();
+    let mut device = handed.into_device();
+    device.crash();
+    left.store(9, Ordering::SeqCst);
+    let next = delivered(&left, device, 4)?;
+    Ok((counted, next.count(), next.hook().delivery().first))
+}
+
+#[test]
+fn an_event_counts_once_it_is_acknowledged(rt: HostRuntime) {
+    for count in 0..=3 {
+        let found = acknowledged(rt.alloc(), count).expect(&rt, "a count");
+        expect_same(&rt, &found, &(count, 4, count + 1));
+    }
 }

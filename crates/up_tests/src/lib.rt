@@ -14,6 +14,8 @@ mod connections;
 #[cfg(test)]
 mod conversations;
 #[cfg(test)]
+mod desk;
+#[cfg(test)]
 mod failing;
 #[cfg(test)]
 mod fifteen;
@@ -27,6 +29,10 @@ mod gates;
 mod handing;
 #[cfg(test)]
 mod heads;
+#[cfg(test)]
+mod hook_names;
+#[cfg(test)]
+mod hook_server;
 #[cfg(test)]
 mod hooks;
 #[cfg(test)]
@@ -61,3 +67,5 @@ mod together;
 mod twins;
 #[cfg(test)]
 mod unfinished;
+#[cfg(test)]
+mod ways;

@@ -3,8 +3,8 @@ ghost use Rattle.std.specs.Prelude.{◌≡◌, ◌≤◌, IfOk, IfSome, option_m
 ghost use Rattle.clap.specs.Words.{first_value, found_of};
 
 use crate::settings::{
-    MAX_CAPACITY, MAX_CONNECTIONS, MAX_GRACE, MAX_OPEN, MAX_PATIENCE, MAX_SHARD, MAX_STATUS,
-    Serving, Settings, Words,
+    HookWords, MAX_CAPACITY, MAX_CONNECTIONS, MAX_GRACE, MAX_HOOK_TIMEOUT, MAX_OPEN, MAX_PATIENCE,
+    MAX_SHARD, MAX_STATUS, Serving, Settings, Words,
 };
 use clap::builder::ValueParser;
 use clap::error::ErrorKind;
@@ -178,6 +178,37 @@ static WORDS: [Word<'static>; 18] = [
 /// Where the words of every server begin: its size, and what it refuses. `replay` has only these.
 const COMMON: usize = 11;
 
+/// The word that asks for a hook server.
+const HOOKS: &str = "hooks-http";
+
+/// The words of `serve` about a hook server. The others need the first.
+static HOOK_WORDS: [Word<'static>; 4] = [
+    Word {
+        name: "hooks-http",
+        kind: Kind::Text("URL"),
+        default: None,
+        help: "Ask and tell the hook server at URL, which begins with http://, in the JSON of tusd's hooks",
+    },
+    Word {
+        name: "hooks-http-timeout",
+        kind: Kind::Number(1, MAX_HOOK_TIMEOUT),
+        default: Some("10"),
+        help: "How many seconds it has for an answer, from 1 to 600",
+    },
+    Word {
+        name: "hooks-http-forward-headers",
+        kind: Kind::Text("LIST"),
+        default: None,
+        help: "Tell it these fields of a request, their names with commas between",
+    },
+    Word {
+        name: "hooks-enabled-events",
+        kind: Kind::Text("LIST"),
+        default: None,
+        help: "Ask and tell it of these hooks alone, their names with commas between",
+    },
+];
+
 /// What `replay` does.
 const REPLAY: &str =
     "Serves the messages on standard input as one conversation, and reports what was handed over";
@@ -216,22 +247,37 @@ fn subcommand<'a>(
     Ok(command)
 }
 
+/// The subcommand, with these words about a hook server.
+fn with_hook_words<'a>(
+    alloc: Global,
+    command: Command<'a>,
+    words: &[Word<'a>],
+) -> Result<Command<'a>, AllocError> {
+    let mut command = command;
+    for word in words {
+        let arg = arg_of(alloc, *word);
+        let arg = if word.name == HOOKS {
+            arg
+        } else {
+            arg.requires_arg(HOOKS)?
+        };
+        command = command.arg(arg)?;
+    }
+    Ok(command)
+}
+
 /// The command with all words.
 fn command<'a>(alloc: Global) -> Result<Command<'a>, AllocError> {
-    let subcommands: [(&str, &str, &[Word]); 2] = [
-        ("replay", REPLAY, &WORDS[COMMON..]),
-        ("serve", SERVE, &WORDS),
-    ];
-    let mut command = Command::new(alloc, "up")
+    let replay = subcommand(alloc, "replay", REPLAY, &WORDS[COMMON..])?;
+    let serve = subcommand(alloc, "serve", SERVE, &WORDS)?;
+    let serve = with_hook_words(alloc, serve, &HOOK_WORDS)?;
+    let command = Command::new(alloc, "up")
         .about("An upload server for the tus resumable upload protocol 1.0.0")
         .version(VERSION)
         .no_binary_name(true)
         .subcommand_required(true)
         .bin_name("up")?;
-    for (name, about, words) in &subcommands {
-        command = command.subcommand(subcommand(alloc, *name, *about, *words)?)?;
-    }
-    Ok(command)
+    command.subcommand(replay)?.subcommand(serve)
 }
 
 /// The number of a word that has a default. `clap` has checked its limits.
@@ -268,6 +314,19 @@ fn text_of(alloc: Global, matches: &ArgMatches<'_>, id: &str) -> Result<Option<S
     }
 }
 
+/// The hook server that the words after `serve` ask for, if they ask for one.
+fn hooks_of(alloc: Global, serve: &ArgMatches<'_>) -> Result<Option<HookWords>, AllocError> {
+    let Some(url) = text_of(alloc, serve, "hooks-http")? else {
+        return Ok(None);
+    };
+    Ok(Some(HookWords {
+        url,
+        timeout: value_of(serve, "hooks-http-timeout", MAX_HOOK_TIMEOUT),
+        forwarded: text_of(alloc, serve, "hooks-http-forward-headers")?,
+        enabled: text_of(alloc, serve, "hooks-enabled-events")?,
+    }))
+}
+
 /// The connections that the words after `serve` ask for.
 fn serving_of(alloc: Global, serve: &ArgMatches<'_>) -> Result<Serving, AllocError> {
     Ok(Serving {
@@ -282,6 +341,7 @@ fn serving_of(alloc: Global, serve: &ArgMatches<'_>) -> Result<Serving, AllocErr
         grace: value_of(serve, "grace", MAX_GRACE),
         shard: shard_of(serve),
         store: text_of(alloc, serve, "store")?,
+        hooks: hooks_of(alloc, serve)?,
     })
 }
 

@@ -6,4 +6,4 @@ mod command_line;
 mod settings;
 
 pub use command_line::{VERSION, WordsFault, words};
-pub use settings::{Serving, Settings, Words, limits_are_exact};
+pub use settings::{HookWords, Serving, Settings, Words, limits_are_exact};

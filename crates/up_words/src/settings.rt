@@ -2,7 +2,7 @@
 ghost use Rattle.std.specs.Prelude.{◌≡◌, ℕ, ◌≤◌, Some, option_and_then};
 ghost use Rattle.up_events.specs.declared.limits.TheConstants.{MAX_UPLOAD_BYTES, MAX_LANES};
 ghost use Rattle.up_words.specs.Limits.{max_capacity, max_connections, max_open, max_shard};
-ghost use Rattle.up_words.specs.declared.settings.TheConstants.{MAX_CAPACITY, MAX_CONNECTIONS, MAX_OPEN};
+ghost use Rattle.up_words.specs.declared.settings.TheConstants.{MAX_CAPACITY, MAX_CONNECTIONS, MAX_HOOK_TIMEOUT, MAX_OPEN};
 
 /// The maximum number of items in the queue of a lane.
 pub const MAX_CAPACITY: u64 = 4096;
@@ -33,6 +33,9 @@ pub const MAX_STATUS: u64 = 86_400;
 /// The maximum number of seconds for the lanes after the end of a run: a day.
 pub const MAX_GRACE: u64 = 86_400;
 
+/// The maximum number of seconds that a hook server has for an answer.
+pub const MAX_HOOK_TIMEOUT: u64 = 600;
+
 /// The size of a server.
 #[derive(Clone, Copy, Debug, PartialEq, Eq)]
 pub struct Settings {
@@ -56,6 +59,20 @@ impl Default for Settings {
             max_size: 1 << 20,
         }
     }
+}
+
+/// The hook server that is asked and told.
+#[derive(Debug, Drop, PartialEq, Eq)]
+pub struct HookWords {
+    /// Its URL, as it was written.
+    pub url: String,
+    /// How many seconds it has for an answer, from 1 to 600.
+    pub timeout: u64,
+    /// The names of the fields of a request that it is told, with commas between. `None` if it is told none.
+    pub forwarded: Option<String>,
+    /// The names of the hooks that it is asked or told of, with commas between. `None` for all hooks.
+    pub enabled: Option<String>,
+    ghost timeout_within: { (1 ≤ timeout) × (timeout ≤ MAX_HOOK_TIMEOUT) },
 }
 
 /// Which connections are served, and where.
@@ -84,6 +101,8 @@ pub struct Serving {
     pub shard: Option<u8>,
     /// The folder that keeps uploads and changes. `None` if they are only in memory.
     pub store: Option<String>,
+    /// The hook server. `None` if there is none.
+    pub hooks: Option<HookWords>,
     ghost connections_within: { (count : ℕ) → connections ≡ Some count → (1 ≤ count) × (count ≤ MAX_CONNECTIONS) },
     ghost open_within: { (1 ≤ «open») × («open» ≤ MAX_OPEN) },
 }

@@ -20,6 +20,27 @@ use up_machine::{Ask, Point, Verdict};
 
 const MAX_SIZE: u64 = 1 << 20;
 
+/// Who holds a conversation from one seat of a board. A thread is started over any such place, so that what is shown
+/// there is not about the board.
+trait Place: Send {
+    ghost use Rattle.std.specs.Prelude.{◌≡◌};
+    ghost use Rattle.logbook.specs.Pages.{Book};
+    ghost use Rattle.up_dispatch.specs.Free.{no_history};
+
+    /// The history that the changes made there follow.
+    ghost history: { Book };
+
+    /// How a conversation ends, and what it writes.
+    fn talk<R: Wait>(
+        &mut self,
+        rt: &R,
+        alloc: Global,
+        hooks: &PreHooks,
+        asked: &[u8],
+    ) -> (Ended, Vec<u8>)
+        requires free { history ≡ no_history };
+}
+
 /// How a conversation from the seat ends, and what it writes.
 fn talk_from<B: Naming, R: Wait>(
     rt: &R,
@@ -35,43 +56,62 @@ fn talk_from<B: Naming, R: Wait>(
     talk(alloc, &mut keeper, hooks, &mut Counting::new(), asked)
 }
 
-/// Sends a request from the seat once the closure was called.
-fn talk_meanwhile<B: Naming, R: Wait>(
+/// A seat of a board.
+#[derive(Drop)]
+struct Placed<'a, B: Naming> {
+    board: &'a Board<B>,
+    seat: Seat<B>,
+}
+
+impl<B: Naming + Send + Sync> Place for Placed<'_, B> {
+    ghost history = { B.history };
+
+    fn talk<R: Wait>(
+        &mut self,
+        rt: &R,
+        alloc: Global,
+        hooks: &PreHooks,
+        asked: &[u8],
+    ) -> (Ended, Vec<u8>) {
+        talk_from(rt, alloc, self.board, &mut self.seat, hooks, asked)
+    }
+}
+
+/// Sends a request from the place once the closure was called.
+fn talk_meanwhile<P: Place + Drop, R: Wait>(
     rt: &R,
     alloc: Global,
-    board: &Board<B>,
-    mut seat: Seat<B>,
+    mut place: P,
     hooks: &PreHooks,
     gate: &Gate,
 ) -> (bool, Vec<u8>)
-    requires free { B.history ≡ no_history }
+    requires free { P.history ≡ no_history }
 {
     let was_called = gate.is_called_in_time();
-    let (_, written) = talk_from(rt, alloc, board, &mut seat, hooks, HEAD);
+    let (_, written) = place.talk(rt, alloc, hooks, HEAD);
     gate.open();
     (was_called, written)
 }
 
-/// An upload is created from one seat, and requested from the other.
-fn talk_from_two_seats<B: Naming + Send + Sync, R: Threads + Wait + Abort + Sync>(
+/// An upload is created from one place, and requested from the other.
+fn talk_from_two_places<P: Place + Drop, R: Threads + Wait + Abort + Sync>(
     rt: &R,
     alloc: Global,
-    board: &Board<B>,
+    mut first: P,
+    second: P,
     hooks: &PreHooks,
     gate: &Gate,
 )
-    requires free { B.history ≡ no_history }
+    requires free { P.history ≡ no_history }
 {
-    let mut first = board.seat(rt).expect(rt, "a seat");
-    let second = board.seat(rt).expect(rt, "another seat");
     let ((ended, made), (was_called, shown)) = thread::join(
         rt,
         || -> (Ended, Vec<u8>)
-            requires { B.history ≡ no_history }
-        { talk_from(rt, alloc, board, &mut first, hooks, POST) },
+            requires { P.history ≡ no_history }
+        { first.talk(rt, alloc, hooks, POST) },
         || -> (bool, Vec<u8>)
-            requires { B.history ≡ no_history }
-        { talk_meanwhile(rt, alloc, board, second, hooks, gate) },
+            requires { P.history ≡ no_history }
+        { talk_meanwhile(rt, alloc, second, hooks, gate) },
     );
     expect_same(rt, &(was_called, ended), &(true, Ended::Closed));
     assert!(rt; shown.starts_with(b"HTTP/1.1 404 "));
@@ -92,7 +132,16 @@ fn two_seats<B: Naming + Send + Sync, R: Threads + Wait + Abort + Sync>(
     requires free { B.history ≡ no_history }
 {
     let (board, _takes) = Board::<B>::new(alloc, parts, MAX_SIZE).expect(rt, "memory");
-    talk_from_two_seats(rt, alloc, &board, hooks, gate);
+    let board = &board;
+    let first = Placed {
+        board,
+        seat: board.seat(rt).expect(rt, "a seat"),
+    };
+    let second = Placed {
+        board,
+        seat: board.seat(rt).expect(rt, "another seat"),
+    };
+    talk_from_two_places(rt, alloc, first, second, hooks, gate);
 }
 
 #[test]

@@ -156,7 +156,13 @@ impl PostHook for Listing {
 
     ghost has_room = { λ k. nat_lt (vec_len k.events) (vec_capacity k.events) };
 
+    ghost is_settled = { λ _. true };
+
     ghost may_answer = { λ _ _ outcome. outcome ≡ Done };
+
+    fn is_settled(&self) -> bool {
+        true
+    }
 
     fn ready(&mut self) -> Result<(), NoMemory>
         ensures same { self.new.events.items ≡ self.old.events.items }

@@ -2,12 +2,15 @@
 ghost use Rattle.std.specs.Prelude.{◌≡◌, [], IfOk};
 
 use super::parts::{Listing, fill, hold, items, put_at};
+use crate::desk::Desk;
 use crate::same::expect_same;
 use std::alloc::Global;
 use std::process::Abort;
 use std::sync::Wait;
+use std::sync::atomic::{AtomicU64, Ordering};
 use std::test::Fail;
-use up_lanes::{How, Lane, Refill, StepEnd};
+use up_hooks::{Courier, PostHook};
+use up_lanes::{How, Lane, LaneEnd, Refill, StepEnd};
 use up_queue::{Item, PutEnd, QueueFault, lane_queue};
 
 /// A lane for which everything was put already.
@@ -114,4 +117,30 @@ fn stops_and_ends(
 fn goes_on_where_it_stood(rt: HostRuntime) -> Result<(), Fail> {
     stops_and_ends(&rt, rt.alloc(), 1, How::Drained, 4)?;
     stops_and_ends(&rt, rt.alloc(), u64::MAX, How::Stopped, 1)
+}
+
+/// Checks how a lane ended, how many of its events were acknowledged, and whether all were that it took.
+fn hold_acknowledged(
+    rt: &impl Abort,
+    end: &LaneEnd<Courier<Desk<'_>>>,
+    how: How,
+    count: u64,
+    is_settled: bool,
+) {
+    let found = (end.how, end.hook.count(), end.hook.is_settled());
+    expect_same(rt, &found, &(how, count, is_settled));
+}
+
+#[test]
+fn waits_with_an_event_until_it_is_acknowledged(rt: HostRuntime) {
+    let items = items(rt.alloc(), 4).expect(&rt, "memory");
+    let (mut put_end, take_end) = lane_queue(rt.alloc(), 9).expect(&rt, "a queue");
+    expect_same(&rt, &fill(&rt, &mut put_end, &items, 0), &9);
+    let left = AtomicU64::new(3);
+    let lane = Lane::new(0, take_end, Courier::new(Desk::new(&left)));
+    let end = lane.run(&rt, &NoMore);
+    hold_acknowledged(&rt, &end, How::Stopped, 3, false);
+    left.store(9, Ordering::SeqCst);
+    let end = Lane::resume(end).run(&rt, &NoMore);
+    hold_acknowledged(&rt, &end, How::Drained, 8, true);
 }

@@ -2,11 +2,12 @@
 use super::full_writer::FullWriter;
 use crate::same::expect_same;
 use std::alloc::Global;
+use std::marker::Sync;
 use std::process::Abort;
 use std::sync::Wait;
 use up_events::{Event, Hook, Id};
-use up_hooks::Outcome;
-use up_server::EventLines;
+use up_hooks::{Outcome, PostHook};
+use up_server::{EventLines, line_couriers};
 
 fn event(number: u64, hook: Hook, offset: u64, length: Option<u64>) -> Event {
     Event {
@@ -59,4 +60,50 @@ fn writes_each_event_until_a_line_is_not_written(rt: HostRuntime) {
     let lines = LINES.as_bytes();
     hold_room(&rt, rt.alloc(), lines, [Outcome::Done; 3]);
     hold_room(&rt, rt.alloc(), &lines[..60], ONE_LINE);
+}
+
+/// Hands over the first two events, if there is room for them, and makes room for another one.
+fn hand_two<H: PostHook>(hook: &mut H)
+    requires { H.is_sound hook.old }
+{
+    if hook.ready().is_ok() {
+        hook.hand(&event(1, Hook::Create, 0, None));
+    }
+    if hook.ready().is_ok() {
+        hook.hand(&event(2, Hook::Receive, 11, Some(11)));
+    }
+    let _is_written = hook.ready().is_ok();
+}
+
+/// Hands the first two events to a courier over lines, with a writer that fails after these bytes, or over no lines.
+/// Checks how many events were acknowledged, whether all were, and what was written.
+fn hold_couriers(
+    rt: &(impl Eprint + Wait + Abort + Sync),
+    alloc: Global,
+    has_lines: bool,
+    written: &[u8],
+    count: u64,
+) {
+    let mut taken = Vec::new(alloc);
+    let writer = FullWriter {
+        taken: &mut taken,
+        room: written.len(),
+    };
+    let lines = EventLines::new(alloc, writer).expect(rt, "lines");
+    let asked = if has_lines { Some(&lines) } else { None };
+    let mut couriers = line_couriers(rt, alloc, 1, asked).expect(rt, "a courier");
+    hand_two(&mut couriers[0]);
+    let found = (couriers[0].count(), couriers[0].is_settled());
+    expect_same(rt, &found, &(count, count == 2));
+    drop(couriers);
+    drop(lines);
+    expect_same(rt, &taken.as_slice(), &written);
+}
+
+#[test]
+fn an_event_is_acknowledged_once_its_line_is_written(rt: HostRuntime) {
+    let lines = LINES.as_bytes();
+    hold_couriers(&rt, rt.alloc(), true, &lines[..115], 2);
+    hold_couriers(&rt, rt.alloc(), true, &lines[..60], 1);
+    hold_couriers(&rt, rt.alloc(), false, &[], 2);
 }

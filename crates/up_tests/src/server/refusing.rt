@@ -13,8 +13,9 @@ use std::sync::atomic::{AtomicU64, Ordering};
 use std::sync::{Arc, Wait};
 use std::thread::Threads;
 use up_events::{Event, Hook};
-use up_hooks::{Outcome, PreHook, PreHooks};
+use up_hooks::{Links, Origin, Outcome, PreHook, PreHooks, RequestHook};
 use up_machine::{Ask, Point, Reason, Verdict};
+use up_message::same_name;
 use up_wire::{Input, Output};
 
 const EIGHTY: &str =
@@ -100,6 +101,52 @@ fn refuses_with_the_status_and_reason_of_a_closure(rt: HostRuntime) {
         ONE_TO_SEVEN,
         ALL_REFUSED,
     );
+}
+
+/// Allows a request that has this token, and refuses any other.
+fn by_token(origin: &Origin) -> Verdict
+    ensures { IsTrue (is_allowed_verdict result) }
+{
+    for field in origin.fields.as_slice() {
+        if same_name(field.0.as_slice(), b"authorization")
+            && field.1.as_slice() == b"Bearer abc".as_slice()
+        {
+            return Verdict::Allow;
+        }
+    }
+    match Reason::new(b"who are you?") {
+        Some(reason) => Verdict::Refuse {
+            status: 403,
+            reason,
+        },
+        None => Verdict::Allow,
+    }
+}
+
+/// Two creations, of which one has the token.
+static ONE_TOKEN: &str =
+    "POST /files/ HTTP/1.1\r\nHost: a\r\nTus-Resumable: 1.0.0\r\nUpload-Length: 1\r\n\r\n\
+    POST /files/ HTTP/1.1\r\nHost: a\r\nTus-Resumable: 1.0.0\r\nUpload-Length: 1\r\n\
+    AUTHORIZATION: Bearer abc\r\n\r\n";
+
+/// Their responses, and the report.
+static ONE_KNOWN: &str =
+    "HTTP/1.1 403 Forbidden\r\nTus-Resumable: 1.0.0\r\nCache-Control: no-store\r\n\
+    Content-Type: text/plain\r\nContent-Length: 13\r\n\r\nwho are you?\n\
+    HTTP/1.1 201 Created\r\nTus-Resumable: 1.0.0\r\nCache-Control: no-store\r\n\
+    Location: /files/00000000000000000000000000000002\r\nContent-Length: 0\r\n\r\n\
+    \naccepted 1\nlane 0 drained 1\n\
+    00000000000000000000000000000002 1 post-create 0/1 done\nlane 1 drained 0\n";
+
+#[test]
+fn a_closure_may_see_the_fields_of_the_request(rt: HostRuntime) {
+    let alloc = rt.alloc();
+    let judge = |_: &Ask, origin: &Origin| -> Verdict
+        ensures { IsTrue (is_allowed_verdict result) }
+    { by_token(origin) };
+    let last = RequestHook::new(Box::new(alloc, judge).expect(&rt, "memory"));
+    let hooks = PreHooks::ending_with(Vec::new(alloc), last, Links::none(alloc));
+    hold_with(&rt, alloc, hooks, ONE_TOKEN, ONE_KNOWN);
 }
 
 /// Counts a call, and allows.

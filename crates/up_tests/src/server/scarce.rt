@@ -58,11 +58,20 @@ impl<'a> PostHook for Scarce<'a> {
 
     ghost has_room = { λ k. nat_lt (vec_len k.events) (vec_capacity k.events) };
 
+    ghost is_settled = { λ _. true };
+
     ghost may_answer = { λ _ _ outcome. outcome ≡ Done };
+
+    fn is_settled(&self) -> bool {
+        true
+    }
 
     fn ready(&mut self) -> Result<(), NoMemory>
         ensures same { self.new.events.items ≡ self.old.events.items }
         ensures room { OnOk result (⟦<Scarce<'a> as PostHook>⟧.has_room self.new ≡ true) }
+        ensures settled { OnOk result (⟦<Scarce<'a> as PostHook>⟧.is_settled self.new ≡ true) }
+        ensures stays_settled { ⟦<Scarce<'a> as PostHook>⟧.is_settled self.old ≡ true
+            → ⟦<Scarce<'a> as PostHook>⟧.is_settled self.new ≡ true }
     {
         if self.refusals.count > 0 {
             self.refusals.count -= 1;

@@ -8,3 +8,6 @@ returns-clause-report g c =
 
 pub returns-clause-sound : goal.returns-clause-sound
 returns-clause-sound g c = c.finish.ensures.sound
+
+pub returns-clause-settled : goal.returns-clause-settled
+returns-clause-settled g c = c.finish.ensures.settled

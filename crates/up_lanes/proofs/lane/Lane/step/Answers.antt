@@ -22,6 +22,7 @@ invariant_of-self-in-Event g c =
           ∙ ap (items_if (g.H.PostHook.handed c.hand.new.self)) (sym c.if-self.false);
       lawful = subst IsLawful (sym now) (handed_lawful after before handed event was more c.take.ensures.orderly);
       counted = counted_next _ (length before) (length after) c.self.invariant.counted (ap length more ∙ length-append before (item.Event event ∷ []));
+      settled = (λ e. cc);
     }
 
 pub returns-in-Event-clause-lawful : goal.returns-in-Event-clause-lawful

@@ -1,0 +1,99 @@
+//! A hook server, as it is asked and told.
+ghost use Rattle.std.specs.Prelude.{◌≡◌, IfOk, IfSome, string_bytes};
+ghost use Rattle.up_hook_client.specs.Answers.{asked_of};
+ghost use Rattle.up_hook_client.specs.Judgements.{asked_by, point_of};
+
+use crate::connection::{Answer, Connection};
+use crate::deadline::Deadline;
+use crate::enabled::Enabled;
+use crate::heard::Judged;
+use crate::no_answer::NoAnswer;
+use crate::server::HookServer;
+use crate::told::ask_text;
+use std::net::{Net, TcpListener, TcpStream};
+use std::sync::atomic::AtomicU64;
+use std::time::{Clock, Duration};
+use up_hooks::Origin;
+use up_machine::Ask;
+
+/// A hook server, and how it is reached.
+#[derive(Clone, Drop)]
+pub struct HookClient<R> {
+    /// By what connections to it are opened.
+    pub rt: R,
+    pub server: HookServer,
+    /// How many seconds it has for an answer, connecting included.
+    pub timeout: u64,
+    /// The names of the fields of a client's request that it is told.
+    pub forwarded: Vec<String>,
+    /// The hooks that it is asked or told of.
+    pub enabled: Enabled,
+}
+
+impl<R: Net<Listener = TcpListener, Stream = TcpStream> + Clock + AllocGlobal> HookClient<R> {
+    /// Sends a text over the kept connection, if there is one. `None` if there is none, or if the server has closed it
+    /// while it was idle, so that a new one is needed.
+    fn exchange_again(
+        &self,
+        kept: &mut Option<TcpStream>,
+        text: &String,
+        deadline: Deadline<'_>,
+    ) -> Option<Result<Answer, NoAnswer>>
+        ensures asked { IfSome result (λ came. IfOk came
+            (λ answer. asked_of answer ≡ string_bytes text.now)) }
+    {
+        let mut connection = Connection::over(&self.rt, kept.take()?);
+        match connection.ask(&self.rt, &self.server, text, deadline) {
+            Ok(answer) => {
+                *kept = connection.into_idle();
+                Some(Ok(answer))
+            }
+            Err(NoAnswer::Late) => Some(Err(NoAnswer::Late)),
+            Err(error) if connection.has_begun() => Some(Err(error)),
+            Err(_) => None,
+        }
+    }
+
+    /// Sends a text in JSON, over the kept connection if there is one that the server hasn't closed meanwhile, and else
+    /// over a new one. Waits for the answer as long as the server has time, or until the run is over, whose end is in
+    /// milliseconds of the system's clock, and 0 while nobody knows it. The connection is kept if it can be used again.
+    pub fn exchange(
+        &self,
+        kept: &mut Option<TcpStream>,
+        text: &String,
+        end: Option<&AtomicU64>,
+    ) -> Result<Answer, NoAnswer>
+        ensures asked { IfOk result (λ answer. asked_of answer ≡ string_bytes text.now) }
+    {
+        let deadline = Deadline::after(&self.rt, Duration::from_secs(self.timeout), end)?;
+        if let Some(came) = self.exchange_again(kept, text, deadline) {
+            return came;
+        }
+        let mut connection = Connection::open(&self.rt, &self.server, deadline)?;
+        let answer = connection.ask(&self.rt, &self.server, text, deadline)?;
+        *kept = connection.into_idle();
+        Ok(answer)
+    }
+
+    /// Asks whether a request passes. If the server gives no answer, it doesn't. If the server isn't asked at this point,
+    /// it does. Uses the connection that `origin` lends, and leaves it there for the next question.
+    pub fn judge(&self, ask: &Ask, origin: &Origin) -> Judged
+        ensures enabled { asked_by result ≡ self.now.enabled }
+        ensures point { point_of result ≡ ask.now.point }
+    {
+        if !self.enabled.asks_at(ask.point) {
+            return Judged::unasked(self.enabled, ask.point);
+        }
+        let alloc = self.rt.alloc();
+        let Ok(text) = ask_text(alloc, ask, origin, self.forwarded.as_slice()) else {
+            return Judged::unanswered(self.enabled, ask.point);
+        };
+        let mut kept = origin.take();
+        let came = self.exchange(&mut kept, &text, None);
+        origin.leave(kept);
+        match came {
+            Ok(answer) => Judged::of(alloc, self.enabled, ask.point, answer),
+            Err(_) => Judged::unanswered(self.enabled, ask.point),
+        }
+    }
+}

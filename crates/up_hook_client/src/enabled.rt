@@ -1,0 +1,88 @@
+//! Which hooks a hook server is asked or told of.
+ghost use Rattle.std.specs.Prelude.{◌≡◌};
+ghost use Rattle.up_hook_client.specs.Chosen.{is_asked_at, is_told_of};
+
+use up_events::Hook;
+use up_machine::Point;
+
+/// Which hooks a hook server is asked or told of.
+#[derive(Clone, Copy, Debug, PartialEq, Eq)]
+pub struct Enabled {
+    pub pre_create: bool,
+    pub pre_finish: bool,
+    pub pre_terminate: bool,
+    pub post_create: bool,
+    pub post_receive: bool,
+    pub post_finish: bool,
+    pub post_terminate: bool,
+}
+
+impl Enabled {
+    /// All hooks if `enabled`, else none.
+    fn each(enabled: bool) -> Self {
+        Enabled {
+            pre_create: enabled,
+            pre_finish: enabled,
+            pre_terminate: enabled,
+            post_create: enabled,
+            post_receive: enabled,
+            post_finish: enabled,
+            post_terminate: enabled,
+        }
+    }
+
+    /// All hooks.
+    pub fn all() -> Self {
+        Enabled::each(true)
+    }
+
+    /// Enables the hook of this name. Returns whether there is one.
+    fn enable(&mut self, name: &str) -> bool {
+        match name {
+            "pre-create" => self.pre_create = true,
+            "pre-finish" => self.pre_finish = true,
+            "pre-terminate" => self.pre_terminate = true,
+            "post-create" => self.post_create = true,
+            "post-receive" => self.post_receive = true,
+            "post-finish" => self.post_finish = true,
+            "post-terminate" => self.post_terminate = true,
+            _ => return false,
+        }
+        true
+    }
+
+    /// The hooks of these names, which have commas between and may have spaces around them. `None` if one is no name of
+    /// a hook.
+    pub fn parse(names: &str) -> Option<Self> {
+        let mut enabled = Enabled::each(false);
+        for name in names.split(',') {
+            if !enabled.enable(name.trim()) {
+                return None;
+            }
+        }
+        Some(enabled)
+    }
+
+    /// Whether the server is asked at this point.
+    pub fn asks_at(self, point: Point) -> bool
+        ensures { result ≡ is_asked_at self point }
+    {
+        match point {
+            Point::Create => self.pre_create,
+            Point::Finish => self.pre_finish,
+            Point::Terminate => self.pre_terminate,
+        }
+    }
+
+    /// Whether the server is told of the events of this hook.
+    pub fn tells_of(self, hook: Hook) -> bool
+        ensures { result ≡ is_told_of self hook }
+    {
+        match hook {
+            Hook::Create => self.post_create,
+            Hook::Receive => self.post_receive,
+            Hook::Finish => self.post_finish,
+            Hook::Terminate => self.post_terminate,
+        }
+    }
+}

@@ -1,0 +1,111 @@
+//! Events on their way to a hook server.
+ghost use Rattle.std.specs.Prelude.{◌≡◌, [], IfOk};
+ghost use Rattle.up_hook_client.specs.Answers.{asked_of};
+ghost use Rattle.up_hook_client.specs.Posts.{acknowledged_by, enabled_by};
+ghost use Rattle.up_hook_client.specs.Told.{TellsOf};
+
+use crate::acknowledged::Acknowledged;
+use crate::client::HookClient;
+use crate::connection::Answer;
+use crate::heard::is_acknowledgement;
+use crate::no_answer::NoAnswer;
+use crate::told::event_text;
+use std::marker::Sync;
+use std::net::{Net, TcpListener, TcpStream};
+use std::sync::atomic::AtomicU64;
+use std::time::Clock;
+use up_events::Event;
+use up_hooks::Delivery;
+
+/// How many times an event is sent, with the pauses of its lane between, before standard error says why that fails: over
+/// a second.
+const QUIET_FAILURES: u32 = 5;
+
+/// The way of a lane's events to a hook server. An event of a hook that the server isn't told of counts as acknowledged.
+#[derive(Drop)]
+pub struct Post<'a, R> {
+    client: &'a HookClient<R>,
+    /// When the run ends, in milliseconds of the system's clock. 0 while nobody knows.
+    end: Option<&'a AtomicU64>,
+    kept: Option<TcpStream>,
+    acknowledged: Acknowledged,
+    /// How many times in a row the server has not acknowledged the event.
+    failures: u32,
+}
+
+impl<'a, R> Post<'a, R> {
+    /// Events to this server, of which none was sent yet. No answer is waited for after the end of the run, in
+    /// milliseconds of the system's clock, which is 0 while nobody knows it.
+    pub fn new(client: &'a HookClient<R>, end: Option<&'a AtomicU64>) -> Self
+        ensures enabled { enabled_by result ≡ client.now.enabled }
+        ensures none { acknowledged_by result ≡ [] }
+    {
+        Post {
+            client,
+            end,
+            kept: None,
+            acknowledged: Acknowledged::none(client.enabled),
+            failures: 0,
+        }
+    }
+}
+
+impl<R: Net<Listener = TcpListener, Stream = TcpStream> + Clock + Eprint + AllocGlobal> Post<
+    '_,
+    R,
+> {
+    /// Sends the event, and waits for the answer.
+    fn send(&mut self, event: &Event) -> Result<Answer, NoAnswer>
+        ensures enabled { enabled_by self.new ≡ enabled_by self.old }
+        ensures same { acknowledged_by self.new ≡ acknowledged_by self.old }
+        ensures told { IfOk result (λ answer. TellsOf event.now (asked_of answer)) }
+    {
+        let text = event_text(self.client.rt.alloc(), event)?;
+        self.client.exchange(&mut self.kept, &text, self.end)
+    }
+
+    /// Notes that the server hasn't acknowledged the event. Says so on standard error, once, after several tries.
+    fn note_failure(&mut self, event: &Event, came: &Result<Answer, NoAnswer>)
+        ensures { acknowledged_by self.new ≡ acknowledged_by self.old }
+    {
+        self.failures = self.failures.saturating_add(1);
+        if self.failures != QUIET_FAILURES {
+            return;
+        }
+        let (id, hook) = (event.id, event.hook.name());
+        let _ = match came {
+            Ok(answer) => {
+                let status = answer.status();
+                eprintln!(&self.client.rt;
+                    "up_server: the hook answers {status} to {hook} of {id}, which is sent again"
+                )
+            }
+            Err(why) => eprintln!(&self.client.rt;
+                "up_server: {hook} of {id} is sent again: {why}"
+            ),
+        };
+    }
+}
+
+impl<
+    R: Net<Listener = TcpListener, Stream = TcpStream> + Clock + Eprint + AllocGlobal + Sync,
+> Delivery for Post<'_, R> {
+    ghost acknowledged = { acknowledged_by };
+
+    fn deliver(&mut self, event: &Event) -> bool {
+        if !self.acknowledged.takes(event) {
+            self.acknowledged.pass(event);
+            return true;
+        }
+        let came = self.send(event);
+        if let Ok(answer) = &came
+            && is_acknowledgement(answer)
+        {
+            self.acknowledged.add(event, answer);
+            self.failures = 0;
+            return true;
+        }
+        self.note_failure(event, &came);
+        false
+    }
+}

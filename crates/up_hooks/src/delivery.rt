@@ -1,0 +1,19 @@
+//! The way of an event to somebody who acknowledges it.
+ghost use Rattle.std.specs.Prelude.{◌≡◌, ◌++◌, ◌∷◌, [], if◌then◌else◌};
+
+use up_events::Event;
+
+/// The way of a lane's events to somebody outside of the server who acknowledges each of them.
+pub trait Delivery {
+    ghost use Rattle.std.specs.Prelude.{List};
+    ghost use Rattle.up_events.specs.declared.event.Event.{Event};
+
+    /// The events that were acknowledged, in order.
+    ghost acknowledged: { Self → List Event };
+
+    /// Sends the event, and waits a limited time until it is acknowledged. Returns whether it was. If it wasn't, it may
+    /// have arrived all the same, and may be sent again.
+    fn deliver(&mut self, event: &Event) -> bool
+        ensures { acknowledged self.new ≡ (if result
+            then acknowledged self.old ++ event.now ∷ [] else acknowledged self.old) };
+}
