@@ -1,5 +1,7 @@
 //! The hook server that the arguments ask for.
 use crate::fault::Fault;
+use std::sync::Arc;
+use std::sync::atomic::AtomicBool;
 use up_hook_client::{Enabled, HookClient, HookServer, field_names};
 use up_words::{HookWords, Words};
 
@@ -21,6 +23,7 @@ fn client_by(rt: &HostRuntime, wanted: &HookWords) -> Result<HookClient<HostRunt
         timeout: wanted.timeout,
         forwarded,
         enabled,
+        has_remarked: Arc::new(alloc, AtomicBool::new(false))?,
     })
 }
 

@@ -22,7 +22,7 @@ use up_headers::Request;
 use up_history::{Front, Receipt};
 use up_lanes::Refill;
 use up_log::Entry;
-use up_machine::{Asked, Book, Done, Plan, Refusal};
+use up_machine::{Asked, Book, Details, Done, Plan, Refusal};
 use up_queue::TakeEnd;
 
 /// A book that threads share, under one lock. Whenever the lock is free, what lies under it is a lawful board.
@@ -32,6 +32,8 @@ pub struct Board<B: Naming> {
     /// One for each lane. It wakes the lane when there may be an item for it.
     pub(crate) bells: Vec<Condvar>,
     pub(crate) max_size: u64,
+    /// By what it is copied that lanes ask about uploads, if they do.
+    pub(crate) describes: Option<Global>,
     ghost one_for_each: { vec_len bells ≡ B.lanes },
     ghost small: { max_size ≤ max_upload_bytes },
     ghost sized: { max_size ≡ B.max_size },
@@ -112,9 +114,29 @@ impl<B: Naming> Board<B> {
                 locked,
                 bells,
                 max_size,
+                describes: None,
             },
             takes,
         ))
+    }
+
+    /// The same board, which keeps what uploads were created with also after they were removed, until all of their
+    /// events are settled, so that lanes can ask for that. Takes no memory.
+    pub fn describing(self, alloc: Global) -> Board<B> {
+        let Board {
+            locked,
+            bells,
+            max_size,
+            ..
+        } = self;
+        let mut locked = locked.into_inner();
+        locked.inside.keep_removed(alloc);
+        Board {
+            locked: Mutex::new(locked),
+            bells,
+            max_size,
+            describes: Some(alloc),
+        }
     }
 
     /// The most bytes that an upload may have.
@@ -291,6 +313,20 @@ impl<B: Naming + Send> Refill for Board<B> {
                 self.locked.lock(rt),
                 |locked| locked.inside.is_idle(lane, taken),
             );
+        }
+    }
+
+    fn describe<R: Wait>(&self, rt: &R, id: Id) -> Option<Details> {
+        let alloc = self.describes?;
+        let locked = self.locked.lock(rt);
+        let details = locked.inside.describe(alloc, id);
+        drop(locked);
+        details
+    }
+
+    fn forget<R: Wait>(&self, rt: &R, id: Id) {
+        if self.describes.is_some() {
+            self.locked.lock(rt).inside.forget_removed(id);
         }
     }
 }

@@ -303,6 +303,7 @@ impl<B: Naming> Board<B> {
             locked,
             bells,
             max_size,
+            describes,
         } = self;
         let Locked {
             inside,
@@ -329,6 +330,7 @@ impl<B: Naming> Board<B> {
                     }),
                     bells,
                     max_size,
+                    describes,
                 },
                 seats,
                 lanes,

@@ -6,6 +6,7 @@ ghost use Rattle.up_queue.specs.Line.{items_if};
 ghost use Rattle.up_queue.specs.EndViews.{MayBeFull};
 ghost use Rattle.up_headers.specs.Table.{FitsWithin};
 ghost use Rattle.up_machine.specs.Decision.{IsExpectedOrNoMemory, decide, decide_plan, is_asked, is_refusal};
+ghost use Rattle.up_machine.specs.Details.{details_id, details_in};
 ghost use Rattle.up_dispatch.specs.Lists.{EachAt};
 ghost use Rattle.up_dispatch.specs.Puts.{end_at, Extends, FillsOnly, IsFilled};
 ghost use Rattle.up_dispatch.specs.Commits.{changed, noted_in, IsCommitOf};
@@ -25,7 +26,7 @@ use std::sync::ledger::Share;
 use std::sync::{Wait, ledger};
 use up_events::{Id, MAX_UPLOAD_BYTES};
 use up_headers::Request;
-use up_machine::{Asked, Book, Done, Plan, Refusal, Remains};
+use up_machine::{Asked, Book, Details, Done, Plan, Refusal, Remains};
 use up_queue::TakeEnd;
 
 /// The book, how far each lane's queue was filled, and the ledger of the changes that were made from seats.
@@ -174,6 +175,29 @@ impl<B: Naming> Inside<B> {
             Some(cursor) => cursor.waiting(rt, all),
             None => 0,
         }
+    }
+
+    /// From now on, keeps what removed uploads were created with, until it is to forget them.
+    pub fn keep_removed(&mut self, alloc: Global)
+        ensures { self.new ≡ self.old }
+    {
+        self.book.keep_removed(alloc);
+    }
+
+    /// What the upload with this id was or is created with. `None` if that isn't known, or if memory runs out.
+    pub fn describe(&self, alloc: Global, id: Id) -> Option<Details>
+        ensures own { IfSome result (λ details. details_id details ≡ id) }
+        ensures there { IfSome (details_in self.now.book.content id) (λ details.
+            IfSome result (λ found. found ≡ details)) }
+    {
+        self.book.details(alloc, id).ok()?
+    }
+
+    /// Forgets what a removed upload was created with.
+    pub fn forget_removed(&mut self, id: Id)
+        ensures { self.new ≡ self.old }
+    {
+        self.book.forget_removed(id);
     }
 
     /// For the prover: what lies under the lock is a lawful board. Does nothing.

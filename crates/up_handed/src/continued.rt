@@ -9,8 +9,9 @@ ghost use Rattle.up_hooks.specs.declared.post_hook.Outcome.TheVariants.{Done};
 
 use crate::handed::Handed;
 use sqlite_disk::Disk;
-use up_events::{Event, NoMemory, Trace};
+use up_events::{Event, Id, NoMemory, Trace};
 use up_hooks::{Outcome, PostHook};
+use up_machine::Details;
 
 /// A post-hook for a run after earlier runs have handed over the first events of the lane. The lane hands it all of its
 /// events, from the first one on. It skips those that earlier runs handed over, hands each further event to the inner
@@ -96,6 +97,18 @@ impl<H: PostHook, D: Disk + Send> PostHook for Continued<H, D> {
 
     fn holds_back(&self) -> bool {
         self.hook.holds_back()
+    }
+
+    fn needs_details(&self) -> bool {
+        self.hook.needs_details()
+    }
+
+    fn asks_about(&self) -> Option<Id> {
+        self.hook.asks_about()
+    }
+
+    fn learn(&mut self, details: Details) {
+        self.hook.learn(details);
     }
 
     fn hand(&mut self, event: &Event) -> Outcome {

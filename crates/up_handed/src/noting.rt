@@ -4,6 +4,7 @@ ghost use Rattle.std.specs.Prelude.{◌≡◌};
 use std::marker::Send;
 use up_events::{Event, Hook, Id, NoMemory};
 use up_hooks::{Outcome, PostHook};
+use up_machine::Details;
 
 /// An upload that has ended.
 #[derive(Clone, Copy, PartialEq, Eq)]
@@ -58,6 +59,18 @@ impl<H: PostHook, E: Endings> PostHook for Noting<H, E> {
 
     fn holds_back(&self) -> bool {
         self.hook.holds_back()
+    }
+
+    fn needs_details(&self) -> bool {
+        self.hook.needs_details()
+    }
+
+    fn asks_about(&self) -> Option<Id> {
+        self.hook.asks_about()
+    }
+
+    fn learn(&mut self, details: Details) {
+        self.hook.learn(details);
     }
 
     fn hand(&mut self, event: &Event) -> Outcome {

@@ -4,8 +4,9 @@ ghost use Rattle.up_handed.specs.Withholds.{withheld_hooks};
 
 use std::alloc::{AllocError, Global};
 use std::marker::Send;
-use up_events::{Event, NoMemory};
+use up_events::{Event, Id, NoMemory};
 use up_hooks::{Outcome, PostHook};
+use up_machine::Details;
 
 /// Who knows whether events may be handed over.
 pub trait Permission: Send {
@@ -55,6 +56,18 @@ impl<H: PostHook, P: Permission> PostHook for Withheld<H, P> {
 
     fn holds_back(&self) -> bool {
         !self.is_open
+    }
+
+    fn needs_details(&self) -> bool {
+        self.hook.needs_details()
+    }
+
+    fn asks_about(&self) -> Option<Id> {
+        self.hook.asks_about()
+    }
+
+    fn learn(&mut self, details: Details) {
+        self.hook.learn(details);
     }
 
     fn hand(&mut self, event: &Event) -> Outcome {

@@ -17,10 +17,7 @@ pub(crate) fn is_final(text: &[u8]) -> bool
 
 /// The kind of an upload and the parts that it joins, from the text of its `Upload-Concat` (tus 1.0.0, Upload-Concat):
 /// no text, `partial`, or `final;` and a list of parts. `None` for any other text.
-pub(crate) fn concat_of(
-    alloc: Global,
-    text: &[u8],
-) -> Result<Option<(Kind, Sequence<Id>)>, AllocError>
+pub fn concat_of(alloc: Global, text: &[u8]) -> Result<Option<(Kind, Sequence<Id>)>, AllocError>
     ensures { IfOk result (IsConcat text.now) }
 {
     if let Some(list) = text.strip_prefix(b"final;") {

@@ -17,6 +17,7 @@ mod verb;
 mod words;
 
 pub use checks::request_of;
+pub use concat::concat_of;
 pub use header_fault::HeaderFault;
 pub use law::{concat_reads_once, metadata_reads_once};
 pub use metadata::pairs_of;

@@ -1,41 +1,20 @@
 -- What a hook server is told and asked, in the form of tusd's hooks.
-use Rattle.std.specs.Prelude.{◌≡◌, ℕ, Bool, true, false, List, [], ◌∷◌, codes, Option, Some, None, is_none, unwrap_or}
+use Rattle.std.specs.Prelude.{◌≡◌, ℕ, Bool, true, false, List, [], ◌∷◌, map, codes, Option, Some, None, is_none, unwrap_or}
 use Rattle.std.specs.Str.Lossy.{utf8_lossy}
-use Rattle.serde_json.specs.Data.{Data, null, boolean, number, unsigned, string, object, Members, no_members, member, put}
-use Rattle.serde_json.specs.Read.{read}
+use Rattle.serde_json.specs.Data.{Data, null, boolean, number, unsigned, string, array, object, Members, no_members, member, put}
+use Rattle.serde_json.specs.View.{items_of}
+use Rattle.serde_json.specs.Written.{IsInOrder}
 use Rattle.up_events.specs.IdText.{text_of}
 use Rattle.up_events.specs.Names.{name_of}
 use Rattle.up_events.specs.declared.event.Event.{Event}
 use Rattle.up_events.specs.declared.event.Kind.{Kind}
 use Rattle.up_events.specs.declared.event.Kind.TheVariants.{Plain, Partial, Final}
+use Rattle.up_headers.specs.Concat.{Concat, IsConcat}
+use Rattle.up_machine.specs.Details.{details_concat, details_kind, details_pairs}
 use Rattle.up_machine.specs.declared.ask.Ask.{Ask}
 use Rattle.up_machine.specs.declared.ask.Point.{Point}
 use Rattle.up_machine.specs.declared.ask.Point.TheVariants.{Create, Finish, Terminate}
-
--- the upload of an event; a length that isn't known counts as 0
-abbrev pub event_upload : Event → Data
-event_upload event =
-    object
-    (member (codes "ID") (string (text_of event.id))
-    (member (codes "Offset") (number (unsigned event.offset))
-    (member (codes "Size") (number (unsigned (unwrap_or event.length 0)))
-    (member (codes "SizeIsDeferred") (boolean (is_none event.length))
-    (member (codes "Storage") null no_members)))))
-
--- what is told of an event
-abbrev pub event_data : Event → Data
-event_data event =
-    object
-    (member (codes "Event")
-    (object
-    (member (codes "HTTPRequest") null
-    (member (codes "Number") (number (unsigned event.number))
-    (member (codes "Upload") (event_upload event) no_members))))
-    (member (codes "Type") (string (name_of event.hook)) no_members))
-
--- the bytes tell of the event
-abbrev pub TellsOf : Event → List ℕ → Type 0
-TellsOf event bytes = read bytes ≡ Some (event_data event)
+use Rattle.up_machine.specs.declared.details.Details.{Details}
 
 -- the name of the hook that is asked at a point
 abbrev pub point_name : Point → List ℕ
@@ -54,28 +33,86 @@ is_final Plain = false
 is_final Partial = false
 is_final Final = true
 
--- the pairs of metadata, put into an object one after another
-abbrev pub metadata : List (List ℕ × List ℕ) → Members → Members
-metadata [] made = made
-metadata (pair ∷ pairs) made = metadata pairs (put (utf8_lossy pair.0) (string (utf8_lossy pair.1)) made)
+-- the pairs of metadata, put into an object one after another. What is no UTF-8 is replaced
+abbrev pub put_pairs : List (List ℕ × List ℕ) → Members → Members
+put_pairs [] made = made
+put_pairs (pair ∷ pairs) made = put_pairs pairs (put (utf8_lossy pair.0) (string (utf8_lossy pair.1)) made)
 
--- the upload that a closure is asked about, with the text of its id
-abbrev pub ask_upload : Ask → List ℕ → Data
-ask_upload ask id =
+abbrev pub metadata : List (List ℕ × List ℕ) → Data
+metadata pairs = object (put_pairs pairs no_members)
+
+-- the ids of uploads
+abbrev pub id_string : ℕ → Data
+id_string id = string (text_of id)
+
+abbrev pub id_strings : List ℕ → Data
+id_strings ids = array (items_of (map id_string ids))
+
+-- the parts of an upload: none unless it is joined of parts
+abbrev pub parts_in : Option Concat → Data
+parts_in None = null
+parts_in (Some (Plain, parts)) = null
+parts_in (Some (Partial, parts)) = null
+parts_in (Some (Final, parts)) = id_strings parts
+
+-- these are the parts that a text of `Upload-Concat` names, if there is one
+abbrev pub AreParts : Option (List ℕ) → Data → Type 0
+AreParts text parts = (said : Option Concat) × IsConcat (unwrap_or text []) said × (parts ≡ parts_in said)
+
+-- an upload, with the text of its id; a length that isn't known counts as 0
+abbrev pub upload_data : List ℕ → Kind → Data → Data → ℕ → Option ℕ → Data
+upload_data id kind pairs parts offset length =
     object
     (member (codes "ID") (string id)
-    (member (codes "IsFinal") (boolean (is_final ask.kind))
-    (member (codes "IsPartial") (boolean (is_partial ask.kind))
-    (member (codes "MetaData") (object (metadata ask.pairs no_members))
-    (member (codes "Offset") (number (unsigned ask.offset))
-    (member (codes "Size") (number (unsigned (unwrap_or ask.length 0)))
-    (member (codes "SizeIsDeferred") (boolean (is_none ask.length))
-    (member (codes "Storage") null no_members))))))))
+    (member (codes "IsFinal") (boolean (is_final kind))
+    (member (codes "IsPartial") (boolean (is_partial kind))
+    (member (codes "MetaData") pairs
+    (member (codes "Offset") (number (unsigned offset))
+    (member (codes "PartialUploads") parts
+    (member (codes "Size") (number (unsigned (unwrap_or length 0)))
+    (member (codes "SizeIsDeferred") (boolean (is_none length))
+    (member (codes "Storage") null no_members)))))))))
 
--- what is asked, with what is told of the request, and the text of the upload's id
-abbrev pub ask_data : Ask → Data → List ℕ → Data
-ask_data ask request id =
+-- the upload of an event, which was created with these details, of these parts
+abbrev pub event_upload : Event → Details → Data → Data
+event_upload event details parts =
+    upload_data (text_of event.id) (details_kind details) (metadata (details_pairs details)) parts event.offset event.length
+
+-- what is told of an event
+abbrev pub event_data : Event → Data → Data
+event_data event upload =
     object
     (member (codes "Event")
-    (object (member (codes "HTTPRequest") request (member (codes "Upload") (ask_upload ask id) no_members)))
+    (object
+    (member (codes "HTTPRequest") null
+    (member (codes "Number") (number (unsigned event.number)) (member (codes "Upload") upload no_members))))
+    (member (codes "Type") (string (name_of event.hook)) no_members))
+
+-- the bytes tell of the event, and of what its upload was created with
+abbrev pub TellsOf : Event → Details → List ℕ → Type 0
+TellsOf event details bytes =
+    (parts : Data) × AreParts (details_concat details) parts
+    × IsInOrder bytes (event_data event (event_upload event details parts))
+
+-- the text of an id; empty if there is none
+abbrev pub id_text : Option ℕ → List ℕ
+id_text None = []
+id_text (Some id) = text_of id
+
+-- the upload that a closure is asked about
+abbrev pub ask_upload : Ask → Option ℕ → Data → Data
+ask_upload ask id parts = upload_data (id_text id) ask.kind (metadata ask.pairs) parts ask.offset ask.length
+
+-- what is asked, with what is told of the request
+abbrev pub ask_data : Ask → Data → Data → Data
+ask_data ask upload request =
+    object
+    (member (codes "Event")
+    (object (member (codes "HTTPRequest") request (member (codes "Upload") upload no_members)))
     (member (codes "Type") (string (point_name ask.point)) no_members))
+
+-- the bytes ask about an upload with this id
+abbrev pub AsksAbout : Ask → Option ℕ → List ℕ → Type 0
+AsksAbout ask id bytes =
+    (parts : Data) × (request : Data) × AreParts ask.concat parts
+    × IsInOrder bytes (ask_data ask (ask_upload ask id parts) request)

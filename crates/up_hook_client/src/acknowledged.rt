@@ -5,13 +5,16 @@ ghost use Rattle.up_hook_client.specs.Chosen.{is_told_of};
 ghost use Rattle.up_hook_client.specs.Heard.{IsSuccess};
 ghost use Rattle.up_hook_client.specs.Posts.{enabled_of, events_of};
 ghost use Rattle.up_hook_client.specs.Told.{TellsOf};
+ghost use Rattle.up_machine.specs.Details.{details_id};
 
 use crate::connection::Answer;
 use crate::enabled::Enabled;
 use up_events::{Event, Trace};
+use up_machine::Details;
 
 /// The events that a hook server has acknowledged, in order. An event gets into this list only by a whole answer of a
-/// status of 200 to 299 to a request that told of this event, or because the server isn't told of events of its hook.
+/// status of 200 to 299 to a request that told of this event and of what its upload was created with, or because the server
+/// isn't told of events of its hook.
 #[derive(Drop)]
 pub struct Acknowledged {
     enabled: Enabled,
@@ -30,10 +33,11 @@ impl Acknowledged {
         }
     }
 
-    /// Adds an event that was acknowledged by this answer.
-    pub fn add(&mut self, event: &Event, _answer: &Answer)
+    /// Adds an event that was acknowledged by this answer. `_details` is what its upload was created with.
+    pub fn add(&mut self, event: &Event, _details: &Details, _answer: &Answer)
         requires success { IsSuccess (status_of _answer.now) }
-        requires told { TellsOf event.now (asked_of _answer.now) }
+        requires own { details_id _details.now ≡ event.now.id }
+        requires told { TellsOf event.now _details.now (asked_of _answer.now) }
         ensures enabled { enabled_of self.new ≡ enabled_of self.old }
         ensures added { events_of self.new ≡ events_of self.old ++ event.now ∷ [] }
     {

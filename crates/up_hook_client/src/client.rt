@@ -6,12 +6,13 @@ ghost use Rattle.up_hook_client.specs.Judgements.{asked_by, point_of};
 use crate::connection::{Answer, Connection};
 use crate::deadline::Deadline;
 use crate::enabled::Enabled;
-use crate::heard::Judged;
+use crate::heard::{Judged, says_more};
 use crate::no_answer::NoAnswer;
 use crate::server::HookServer;
 use crate::told::ask_text;
 use std::net::{Net, TcpListener, TcpStream};
-use std::sync::atomic::AtomicU64;
+use std::sync::Arc;
+use std::sync::atomic::{AtomicBool, AtomicU64, Ordering};
 use std::time::{Clock, Duration};
 use up_hooks::Origin;
 use up_machine::Ask;
@@ -28,6 +29,8 @@ pub struct HookClient<R> {
     pub forwarded: Vec<String>,
     /// The hooks that it is asked or told of.
     pub enabled: Enabled,
+    /// Whether standard error says already that something in its answers is ignored.
+    pub has_remarked: Arc<AtomicBool>,
 }
 
 impl<R: Net<Listener = TcpListener, Stream = TcpStream> + Clock + AllocGlobal> HookClient<R> {
@@ -74,6 +77,20 @@ impl<R: Net<Listener = TcpListener, Stream = TcpStream> + Clock + AllocGlobal> H
         *kept = connection.into_idle();
         Ok(answer)
     }
+}
+
+impl<R: Net<Listener = TcpListener, Stream = TcpStream> + Clock + Eprint + AllocGlobal> HookClient<
+    R,
+> {
+    /// Says on standard error that something in answers is ignored, unless it was said.
+    fn remark(&self) {
+        if self.has_remarked.swap(true, Ordering::SeqCst) {
+            return;
+        }
+        let _ = eprintln!(&self.rt;
+            "up_server: the hook says StopUpload or HTTPResponse without a rejection, which is ignored"
+        );
+    }
 
     /// Asks whether a request passes. If the server gives no answer, it doesn't. If the server isn't asked at this point,
     /// it does. Uses the connection that `origin` lends, and leaves it there for the next question.
@@ -92,7 +109,14 @@ impl<R: Net<Listener = TcpListener, Stream = TcpStream> + Clock + AllocGlobal> H
         let came = self.exchange(&mut kept, &text, None);
         origin.leave(kept);
         match came {
-            Ok(answer) => Judged::of(alloc, self.enabled, ask.point, answer),
+            Ok(answer) => {
+                let says_more = says_more(alloc, &answer);
+                let judged = Judged::of(alloc, self.enabled, ask, origin, answer);
+                if says_more && judged.lets_pass() {
+                    self.remark();
+                }
+                judged
+            }
             Err(_) => Judged::unanswered(self.enabled, ask.point),
         }
     }

@@ -74,6 +74,11 @@ impl Enabled {
         }
     }
 
+    /// Whether the server is told of any events.
+    pub fn tells_of_any(self) -> bool {
+        self.post_create || self.post_receive || self.post_finish || self.post_terminate
+    }
+
     /// Whether the server is told of the events of this hook.
     pub fn tells_of(self, hook: Hook) -> bool
         ensures { result ≡ is_told_of self hook }

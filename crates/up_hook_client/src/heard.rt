@@ -1,12 +1,14 @@
 //! What a hook server's answer says.
 ghost use Rattle.std.specs.Prelude.{◌≡◌, ◌≢◌, ◌↔◌, IsSomeAnd, IsTrue, None, Some, codes};
 ghost use Rattle.std.specs.Prelude.{false, true};
+ghost use Rattle.std.specs.Option.{option_or};
 ghost use Rattle.serde_json.specs.View.{view};
 ghost use Rattle.up_hooks.specs.Verdicts.{is_allowed_verdict, is_refusal_status};
-ghost use Rattle.up_hook_client.specs.Answers.{body_of, status_of};
+ghost use Rattle.up_hook_client.specs.Answers.{asked_of, body_of, status_of};
 ghost use Rattle.up_hook_client.specs.Chosen.{is_asked_at};
 ghost use Rattle.up_hook_client.specs.Heard.{Allows, IsEmptyAt, IsFalseAt};
 ghost use Rattle.up_hook_client.specs.Heard.{IsSuccess, LetsPass};
+ghost use Rattle.up_hook_client.specs.Told.{AsksAbout};
 ghost use Rattle.up_machine.specs.declared.ask.Point.TheVariants.{Terminate};
 ghost use Rattle.up_machine.specs.declared.ask.Verdict.TheVariants.{Allow};
 ghost use Rattle.up_machine.specs.Reasons.{is_reason};
@@ -15,7 +17,8 @@ use crate::connection::Answer;
 use crate::enabled::Enabled;
 use serde_json::Value;
 use std::alloc::Global;
-use up_machine::{Point, Reason, Verdict};
+use up_hooks::Origin;
+use up_machine::{Ask, Point, Reason, Verdict};
 
 /// The status of a refusal because the hook server gave no answer, or one that can't be understood.
 const UNANSWERED: u16 = 409;
@@ -87,14 +90,33 @@ fn is_false_at(value: &Value, key: &str) -> bool
     )
 }
 
+/// Whether the object has no such member, or the member is `null` or an empty object.
+fn is_empty_at(value: &Value, key: &str) -> bool
+    ensures { IsTrue result → IsEmptyAt key.now (view value.now) }
+{
+    match value.get(key) {
+        None | Some(Value::Null) => true,
+        Some(Value::Object(map)) => map.is_empty(),
+        Some(_) => false,
+    }
+}
+
 /// Whether an answer asks for no change of the upload.
 fn changes_nothing(value: &Value) -> bool
     ensures { IsTrue result → IsEmptyAt (codes "ChangeFileInfo") (view value.now) }
 {
-    match value.get("ChangeFileInfo") {
-        None | Some(Value::Null) => true,
-        Some(Value::Object(map)) => map.is_empty(),
-        Some(_) => false,
+    is_empty_at(value, "ChangeFileInfo")
+}
+
+/// Whether the answer says something that is ignored if it rejects nothing: that the upload is to stop, or what is to be
+/// answered to the client. False if memory runs out.
+pub fn says_more(alloc: Global, answer: &Answer) -> bool {
+    let Ok(text) = str::from_utf8(answer.body()) else {
+        return false;
+    };
+    match Value::from_str(alloc, text) {
+        Ok(value) => !is_false_at(&value, "StopUpload") || !is_empty_at(&value, "HTTPResponse"),
+        Err(_) => false,
     }
 }
 
@@ -161,16 +183,19 @@ pub struct Judged {
 impl Judged {
     ghost use Rattle.up_hook_client.specs.Judgements.{answer_of, asked_by, point_of, said_by};
 
-    /// What the answer says of a request at this point, from a server that is asked at these points.
-    pub fn of(alloc: Global, enabled: Enabled, point: Point, answer: Answer) -> Judged
+    /// What the answer says of a request, about which a server was asked that is asked at these points.
+    pub fn of(alloc: Global, enabled: Enabled, ask: &Ask, origin: &Origin, answer: Answer) -> Judged
+        requires asked { AsksAbout ask.now (option_or ask.now.target origin.now.id) (asked_of answer) }
         ensures enabled { asked_by result ≡ enabled }
-        ensures point { point_of result ≡ point }
+        ensures point { point_of result ≡ ask.now.point }
         ensures answer { answer_of result ≡ Some answer }
     {
-        let verdict = verdict_of(alloc, point, &answer);
+        // For the prover: the request is the one that the server was asked about.
+        let _ = origin;
+        let verdict = verdict_of(alloc, ask.point, &answer);
         Judged {
             enabled,
-            point,
+            point: ask.point,
             verdict,
             answer: Some(answer),
         }
@@ -204,6 +229,11 @@ impl Judged {
             verdict: Verdict::Allow,
             answer: None,
         }
+    }
+
+    /// Whether the request may pass.
+    pub fn lets_pass(&self) -> bool {
+        self.verdict == Verdict::Allow
     }
 
     /// The verdict, which refuses only as a closure may.

@@ -13,6 +13,7 @@ mod no_answer;
 mod post;
 mod server;
 mod told;
+mod upload;
 
 pub use acknowledged::Acknowledged;
 pub use client::HookClient;

@@ -1,8 +1,9 @@
 //! Events on their way to a hook server.
-ghost use Rattle.std.specs.Prelude.{◌≡◌, [], IfOk};
+ghost use Rattle.std.specs.Prelude.{◌≡◌, [], IfOk, IfSome};
 ghost use Rattle.up_hook_client.specs.Answers.{asked_of};
 ghost use Rattle.up_hook_client.specs.Posts.{acknowledged_by, enabled_by};
 ghost use Rattle.up_hook_client.specs.Told.{TellsOf};
+ghost use Rattle.up_machine.specs.Details.{details_id};
 
 use crate::acknowledged::Acknowledged;
 use crate::client::HookClient;
@@ -16,6 +17,7 @@ use std::sync::atomic::AtomicU64;
 use std::time::Clock;
 use up_events::Event;
 use up_hooks::Delivery;
+use up_machine::Details;
 
 /// How many times an event is sent, with the pauses of its lane between, before standard error says why that fails: over
 /// a second.
@@ -29,6 +31,8 @@ pub struct Post<'a, R> {
     end: Option<&'a AtomicU64>,
     kept: Option<TcpStream>,
     acknowledged: Acknowledged,
+    /// What the upload of the next event was created with, if that is known.
+    details: Option<Details>,
     /// How many times in a row the server has not acknowledged the event.
     failures: u32,
 }
@@ -45,6 +49,7 @@ impl<'a, R> Post<'a, R> {
             end,
             kept: None,
             acknowledged: Acknowledged::none(client.enabled),
+            details: None,
             failures: 0,
         }
     }
@@ -54,13 +59,24 @@ impl<R: Net<Listener = TcpListener, Stream = TcpStream> + Clock + Eprint + Alloc
     '_,
     R,
 > {
-    /// Sends the event, and waits for the answer.
-    fn send(&mut self, event: &Event) -> Result<Answer, NoAnswer>
+    /// What the event's upload was created with, if that is known.
+    fn details_of(&mut self, event: &Event) -> Option<Details>
+        ensures own { IfSome result (λ details. details_id details ≡ event.now.id) }
         ensures enabled { enabled_by self.new ≡ enabled_by self.old }
         ensures same { acknowledged_by self.new ≡ acknowledged_by self.old }
-        ensures told { IfOk result (λ answer. TellsOf event.now (asked_of answer)) }
     {
-        let text = event_text(self.client.rt.alloc(), event)?;
+        self.details
+            .take()
+            .filter(|details| details.id() == event.id)
+    }
+
+    /// Sends the event of an upload that was created with these details, and waits for the answer.
+    fn send(&mut self, event: &Event, details: &Details) -> Result<Answer, NoAnswer>
+        ensures enabled { enabled_by self.new ≡ enabled_by self.old }
+        ensures same { acknowledged_by self.new ≡ acknowledged_by self.old }
+        ensures told { IfOk result (λ answer. TellsOf event.now details.now (asked_of answer)) }
+    {
+        let text = event_text(self.client.rt.alloc(), event, details)?;
         self.client.exchange(&mut self.kept, &text, self.end)
     }
 
@@ -92,19 +108,36 @@ impl<
 > Delivery for Post<'_, R> {
     ghost acknowledged = { acknowledged_by };
 
+    fn needs_details(&self) -> bool {
+        self.client.enabled.tells_of_any()
+    }
+
+    fn asks_about(&self, event: &Event) -> bool {
+        self.acknowledged.takes(event) && self.details.is_none()
+    }
+
+    fn learn(&mut self, details: Details) {
+        self.details = Some(details);
+    }
+
     fn deliver(&mut self, event: &Event) -> bool {
         if !self.acknowledged.takes(event) {
             self.acknowledged.pass(event);
             return true;
         }
-        let came = self.send(event);
+        let Some(details) = self.details_of(event) else {
+            self.note_failure(event, &Err(NoAnswer::Memory));
+            return false;
+        };
+        let came = self.send(event, &details);
         if let Ok(answer) = &came
             && is_acknowledgement(answer)
         {
-            self.acknowledged.add(event, answer);
+            self.acknowledged.add(event, &details, answer);
             self.failures = 0;
             return true;
         }
+        self.details = Some(details);
         self.note_failure(event, &came);
         false
     }

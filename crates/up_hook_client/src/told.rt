@@ -1,37 +1,38 @@
 //! What a hook server is told and asked, as JSON in the form of tusd's hooks.
 ghost use Rattle.std.specs.Prelude.{◌≡◌, IfOk, string_bytes};
-ghost use Rattle.serde_json.specs.Data.{object, no_members};
+ghost use Rattle.std.specs.Option.{option_copied, option_or};
 ghost use Rattle.serde_json.specs.View.{view};
-ghost use Rattle.up_hook_client.specs.Told.{TellsOf, ask_data, ask_upload, event_data};
-ghost use Rattle.up_hook_client.specs.Told.{event_upload, is_final, is_partial, metadata};
-ghost use Rattle.up_hook_client.specs.Told.{point_name};
+ghost use Rattle.up_hook_client.specs.Told.{AsksAbout, TellsOf, ask_data, ask_upload};
+ghost use Rattle.up_hook_client.specs.Told.{event_data, event_upload, id_text, point_name};
 
 use crate::headers::headers_of;
-use serde_json::{Map, Value, json};
+use crate::upload::{metadata_of, parts_of, upload_value};
+use serde_json::{Value, json};
 use std::alloc::{AllocError, Global};
-use up_events::{Event, Id, Kind};
+use up_events::{Event, Id};
 use up_hooks::Origin;
-use up_machine::{Ask, Point};
+use up_machine::{Ask, Details, Point};
 use up_message::Sequence;
 
-/// The upload of an event.
-fn event_upload(alloc: Global, event: &Event) -> Result<Value, AllocError>
-    ensures { IfOk result (λ value. view value ≡ event_upload event.now) }
+/// The upload of an event, with its parts.
+fn event_upload(
+    alloc: Global,
+    event: &Event,
+    details: &Details,
+    parts: &Value,
+) -> Result<Value, AllocError>
+    ensures { IfOk result (λ value. view value
+        ≡ event_upload event.now details.now (view parts.now)) }
 {
     let id = event.id.to_string(alloc)?;
-    json!(in alloc; {
-        "ID": &id,
-        "Offset": event.offset,
-        "Size": event.length.unwrap_or(0),
-        "SizeIsDeferred": event.length.is_none(),
-        "Storage": null
-    })
+    let pairs = metadata_of(alloc, details.pairs())?;
+    let (kind, length) = (details.kind(), event.length);
+    upload_value(alloc, &id, kind, &pairs, parts, event.offset, length)
 }
 
 /// The value that tells of an event of this upload.
 fn event_value(alloc: Global, event: &Event, upload: &Value) -> Result<Value, AllocError>
-    requires { view upload.now ≡ event_upload event.now }
-    ensures { IfOk result (λ value. view value ≡ event_data event.now) }
+    ensures { IfOk result (λ value. view value ≡ event_data event.now (view upload.now)) }
 {
     json!(in alloc; {
         "Type": event.hook.name(),
@@ -39,11 +40,12 @@ fn event_value(alloc: Global, event: &Event, upload: &Value) -> Result<Value, Al
     })
 }
 
-/// What is told of an event. `AllocError` if memory runs out.
-pub fn event_text(alloc: Global, event: &Event) -> Result<String, AllocError>
-    ensures { IfOk result (λ text. TellsOf event.now (string_bytes text)) }
+/// What is told of an event of an upload that was created with these details. `AllocError` if memory runs out.
+pub fn event_text(alloc: Global, event: &Event, details: &Details) -> Result<String, AllocError>
+    ensures { IfOk result (λ text. TellsOf event.now details.now (string_bytes text)) }
 {
-    let upload = event_upload(alloc, event)?;
+    let parts = parts_of(alloc, details.concat())?;
+    let upload = event_upload(alloc, event, details, &parts)?;
     let value = event_value(alloc, event, &upload)?;
     value.to_string(alloc)
 }
@@ -59,56 +61,23 @@ fn point_name(point: Point) -> &'static str
     }
 }
 
-/// The pairs of metadata, as an object. What is no UTF-8 is replaced, and of two keys that become one the later counts.
-fn metadata_of(alloc: Global, pairs: &[(Sequence<u8>, Sequence<u8>)]) -> Result<Value, AllocError>
-    ensures { IfOk result (λ value. view value ≡ object (metadata pairs.now no_members)) }
-{
-    let mut members = Map::new(alloc);
-    for pair in pairs {
-        let key = String::from_utf8_lossy(alloc, pair.0.as_slice())?;
-        let value = String::from_utf8_lossy(alloc, pair.1.as_slice())?;
-        serde_json::put(&mut members, alloc, key.as_str(), Value::String(value))?;
-    }
-    Ok(Value::Object(members))
-}
-
 /// The text of an id; empty if there is none.
-fn id_text(alloc: Global, id: Option<Id>) -> Result<String, AllocError> {
+fn id_text(alloc: Global, id: Option<Id>) -> Result<String, AllocError>
+    ensures { IfOk result (λ text. string_bytes text ≡ id_text id) }
+{
     match id {
         Some(id) => id.to_string(alloc),
         None => Ok(String::new(alloc)),
     }
 }
 
-/// Whether an upload is joined of parts.
-fn is_final(kind: Kind) -> bool
-    ensures { result ≡ is_final kind }
+/// The upload that a closure is asked about, with its parts.
+fn ask_upload(alloc: Global, ask: &Ask, id: Option<Id>, parts: &Value) -> Result<Value, AllocError>
+    ensures { IfOk result (λ value. view value ≡ ask_upload ask.now id (view parts.now)) }
 {
-    kind == Kind::Final
-}
-
-/// Whether an upload is a part.
-fn is_partial(kind: Kind) -> bool
-    ensures { result ≡ is_partial kind }
-{
-    kind == Kind::Partial
-}
-
-/// The upload that a closure is asked about, with the pairs of its metadata as an object.
-fn ask_upload(alloc: Global, ask: &Ask, id: &String, pairs: &Value) -> Result<Value, AllocError>
-    requires { view pairs.now ≡ object (metadata ask.now.pairs no_members) }
-    ensures { IfOk result (λ value. view value ≡ ask_upload ask.now (string_bytes id.now)) }
-{
-    json!(in alloc; {
-        "ID": id,
-        "IsFinal": is_final(ask.kind),
-        "IsPartial": is_partial(ask.kind),
-        "MetaData": pairs,
-        "Offset": ask.offset,
-        "Size": ask.length.unwrap_or(0),
-        "SizeIsDeferred": ask.length.is_none(),
-        "Storage": null
-    })
+    let id = id_text(alloc, id)?;
+    let pairs = metadata_of(alloc, ask.pairs.as_slice())?;
+    upload_value(alloc, &id, ask.kind, &pairs, parts, ask.offset, ask.length)
 }
 
 /// The request that a closure is asked about, with the fields of these names. A target that is no UTF-8 isn't told.
@@ -128,22 +97,25 @@ fn request_of(alloc: Global, origin: &Origin, names: &[String]) -> Result<Value,
     })
 }
 
-/// The value that asks about an upload.
-fn ask_value(
-    alloc: Global,
-    ask: &Ask,
-    id: &String,
-    upload: &Value,
-    request: &Value,
-) -> Result<Value, AllocError>
-    requires { view upload.now ≡ ask_upload ask.now (string_bytes id.now) }
+/// The value that asks about an upload, with what is told of the request.
+fn ask_value(alloc: Global, ask: &Ask, upload: &Value, request: &Value) -> Result<Value, AllocError>
     ensures { IfOk result (λ value. view value
-        ≡ ask_data ask.now (view request.now) (string_bytes id.now)) }
+        ≡ ask_data ask.now (view upload.now) (view request.now)) }
 {
     json!(in alloc; {
         "Type": point_name(ask.point),
         "Event": {"HTTPRequest": request, "Upload": upload}
     })
+}
+
+/// The bytes of a text, if there is one.
+fn bytes_of(text: &Option<Sequence<u8>>) -> Option<&[u8]>
+    ensures { option_copied result ≡ text.now }
+{
+    match text {
+        Some(text) => Some(text.as_slice()),
+        None => None,
+    }
 }
 
 /// What is asked before a change, about a request of which the fields of these names are told. A new upload has the id
@@ -153,11 +125,13 @@ pub fn ask_text(
     ask: &Ask,
     origin: &Origin,
     names: &[String],
-) -> Result<String, AllocError> {
-    let id = id_text(alloc, ask.target.or(origin.id))?;
-    let pairs = metadata_of(alloc, ask.pairs.as_slice())?;
-    let upload = ask_upload(alloc, ask, &id, &pairs)?;
+) -> Result<String, AllocError>
+    ensures { IfOk result (λ text.
+        AsksAbout ask.now (option_or ask.now.target origin.now.id) (string_bytes text)) }
+{
+    let parts = parts_of(alloc, bytes_of(&ask.concat))?;
+    let upload = ask_upload(alloc, ask, ask.target.or(origin.id), &parts)?;
     let request = request_of(alloc, origin, names)?;
-    let value = ask_value(alloc, ask, &id, &upload, &request)?;
+    let value = ask_value(alloc, ask, &upload, &request)?;
     value.to_string(alloc)
 }

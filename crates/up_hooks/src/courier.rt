@@ -6,7 +6,8 @@ ghost use Rattle.up_hooks.specs.declared.post_hook.Outcome.TheVariants.{Done};
 use crate::delivery::Delivery;
 use crate::post_hook::{Outcome, PostHook};
 use std::marker::Send;
-use up_events::{Event, NoMemory, Trace};
+use up_events::{Event, Id, NoMemory, Trace};
+use up_machine::Details;
 
 /// A post-hook that delivers each event to somebody who acknowledges it. It has a place for one event, which it keeps
 /// until that is acknowledged. Until then it has no room for another one, so its lane waits and tries again, as it does
@@ -49,6 +50,23 @@ impl<D: Delivery + Send> PostHook for Courier<D> {
             self.count = self.count.saturating_add(1);
         }
         Ok(())
+    }
+
+    fn needs_details(&self) -> bool {
+        self.delivery.needs_details()
+    }
+
+    fn asks_about(&self) -> Option<Id> {
+        let event = self.waiting?;
+        if self.delivery.asks_about(&event) {
+            Some(event.id)
+        } else {
+            None
+        }
+    }
+
+    fn learn(&mut self, details: Details) {
+        self.delivery.learn(details);
     }
 
     fn hand(&mut self, event: &Event) -> Outcome {

@@ -4,6 +4,7 @@ ghost use Rattle.up_hooks.specs.Waiting.{as_list};
 
 use crate::delivery::Delivery;
 use up_events::Event;
+use up_machine::Details;
 
 /// Delivers each event by one way, and then by another. It is acknowledged once it is acknowledged on both. An event
 /// that only the first way has acknowledged isn't sent there again, and until the second way acknowledges it too, no
@@ -51,6 +52,26 @@ impl<A: Delivery, B: Delivery> InTurn<A, B> {
 
 impl<A: Delivery, B: Delivery> Delivery for InTurn<A, B> {
     ghost acknowledged = { λ d. B.acknowledged d.second };
+
+    fn needs_details(&self) -> bool {
+        self.first.needs_details() || self.second.needs_details()
+    }
+
+    fn asks_about(&self, event: &Event) -> bool {
+        if self.half.is_none() {
+            self.first.asks_about(event)
+        } else {
+            self.second.asks_about(event)
+        }
+    }
+
+    fn learn(&mut self, details: Details) {
+        if self.half.is_none() {
+            self.first.learn(details);
+        } else {
+            self.second.learn(details);
+        }
+    }
 
     fn deliver(&mut self, event: &Event) -> bool {
         if !self.deliver_first(event) || !self.second.deliver(event) {

@@ -1,7 +1,8 @@
 //! The receiver of a lane's events.
 ghost use Rattle.std.specs.Prelude.{◌≡◌, ◌++◌, ◌∷◌, [], true, OnOk};
 
-use up_events::{Event, NoMemory};
+use up_events::{Event, Id, NoMemory};
+use up_machine::Details;
 
 /// The result of handing an event to a post-hook. In both cases the event has been handed over: it is not handed over
 /// again, and the lane continues.
@@ -58,6 +59,26 @@ pub trait PostHook: Send {
     fn holds_back(&self) -> bool {
         false
     }
+
+    /// Whether it ever asks what uploads were created with, so that this is kept of removed ones.
+    fn needs_details(&self) -> bool {
+        false
+    }
+
+    /// The upload of its last event, if it has to learn what that was created with before it can settle the event.
+    fn asks_about(&self) -> Option<Id> {
+        None
+    }
+
+    /// Learns what the upload was created with that it asks about.
+    fn learn(&mut self, _details: Details)
+        requires { is_sound self.old }
+        ensures sound { is_sound self.new }
+        ensures same { handed self.new ≡ handed self.old }
+        ensures alike { (event : Event) (outcome : Outcome)
+            → may_answer self.new event outcome → may_answer self.old event outcome }
+        ensures settled { is_settled self.new ≡ is_settled self.old }
+    {}
 
     /// Hands over an event. `ready` must have made room for it. Takes no memory.
     fn hand(&mut self, event: &Event) -> Outcome

@@ -4,7 +4,7 @@ ghost use Rattle.up_events.specs.Delivery.{IsPrefix};
 ghost use Rattle.up_events.specs.Log.{IsLawful};
 ghost use Rattle.up_lanes.specs.HowOf.{is_drained};
 ghost use Rattle.up_lanes.specs.LaneViews.{lane_view, StaysAlike};
-ghost use Rattle.up_lanes.specs.StepsTo.{StepsTo};
+ghost use Rattle.up_lanes.specs.StepsTo.{IsLaneAt, StepsTo};
 
 use crate::lane_end::{How, LaneEnd};
 use crate::refill::Refill;
@@ -12,6 +12,7 @@ use std::marker::Model;
 use std::sync::Wait;
 use std::thread::Parker;
 use std::time::Duration;
+use up_events::{Event, Hook, Id};
 use up_hooks::PostHook;
 use up_queue::{Item, TakeEnd};
 
@@ -45,6 +46,17 @@ pub struct Lane<H: PostHook> {
     ended: bool,
     /// The number of items that were taken, modulo 2^64.
     taken: u64,
+    /// The upload of the last event, if this was its removal and may not be settled yet.
+    removed: Option<Id>,
+}
+
+/// The upload that was removed, if the event is the one of its removal.
+fn removed_by(event: &Event) -> Option<Id> {
+    if event.hook == Hook::Terminate {
+        Some(event.id)
+    } else {
+        None
+    }
 }
 
 impl<H: PostHook> Model for Lane<H> {
@@ -82,6 +94,7 @@ impl<H: PostHook> Lane<H> {
             hook,
             ended: false,
             taken: 0,
+            removed: None,
         }
     }
 
@@ -98,6 +111,7 @@ impl<H: PostHook> Lane<H> {
             take_end,
             how,
             taken,
+            removed,
         } = end;
         Lane {
             lane,
@@ -105,6 +119,7 @@ impl<H: PostHook> Lane<H> {
             hook,
             ended: how.is_drained(),
             taken,
+            removed,
         }
     }
 
@@ -121,6 +136,7 @@ impl<H: PostHook> Lane<H> {
         if self.hook.ready().is_err() {
             return StepEnd::NoMemory;
         }
+        self.removed = None;
         let Some(item) = self.take_end.take(rt) else {
             return StepEnd::Nothing;
         };
@@ -131,10 +147,41 @@ impl<H: PostHook> Lane<H> {
                 StepEnd::Ended
             }
             Item::Event(event) => {
+                self.removed = removed_by(&event);
                 self.hook.hand(&event);
                 StepEnd::Handed
             }
         }
+    }
+
+    /// Finds out for the post-hook what it asks about.
+    fn inform<R: Wait, T: Refill>(&mut self, rt: &R, refill: &T)
+        ensures same { IsLaneAt self.old self.new self.old.handed self.old.ended }
+        ensures alike { StaysAlike H.may_answer self.old.hook self.new.hook }
+    {
+        if let Some(id) = self.hook.asks_about()
+            && let Some(details) = refill.describe(rt, id)
+        {
+            self.hook.learn(details);
+        }
+    }
+
+    /// Takes a step as `step` does, after it has found out what the post-hook asks about. What a removed upload was
+    /// created with is forgotten once all of its events are settled.
+    pub fn advance<R: Wait, T: Refill>(&mut self, rt: &R, refill: &T) -> StepEnd
+        ensures step { StepsTo result self.old self.new }
+        ensures lawful { IsLawful self.new.handed }
+        ensures alike { StaysAlike H.may_answer self.old.hook self.new.hook }
+    {
+        self.inform(rt, refill);
+        let removed = self.removed;
+        let end = self.step(rt);
+        if !matches!(end, StepEnd::NoMemory)
+            && let Some(id) = removed
+        {
+            refill.forget(rt, id);
+        }
+        end
     }
 
     /// Repeats steps until the end was taken, or until the post-hook has no memory for one more event. If the queue is
@@ -150,7 +197,7 @@ impl<H: PostHook> Lane<H> {
         let mut found_empty: u32 = 0;
         let alarm = Parker::new();
         for _ in rt.forever() {
-            match self.step(rt) {
+            match self.advance(rt, refill) {
                 StepEnd::Handed => found_empty = 0,
                 StepEnd::Nothing if found_empty == 0 => {
                     refill.refill(rt, self.lane);
@@ -190,6 +237,7 @@ impl<H: PostHook> Lane<H> {
             take_end: self.take_end,
             how,
             taken: self.taken,
+            removed: self.removed,
         }
     }
 }

@@ -8,7 +8,7 @@ use Rattle.up_machine.specs.declared.ask.Point.{Point}
 -- the question about this upload
 abbrev pub ask_of : Point → Option ℕ → Content → Ask
 ask_of point target x =
-    record { point = point; target = target; kind = x.kind; offset = length x.bytes; length = x.length; pairs = x.pairs }
+    record { point = point; target = target; kind = x.kind; offset = length x.bytes; length = x.length; pairs = x.pairs; concat = x.concat }
 
 -- the value of the first pair with this key
 abbrev pub value_of : List ℕ → List (List ℕ × List ℕ) → Option (List ℕ)

@@ -7,6 +7,7 @@ pub mod Kept
 pub mod Stored
 pub mod State
 pub mod StateCode
+pub mod Details
 pub mod Responses
 pub mod Refusals
 pub mod Decision

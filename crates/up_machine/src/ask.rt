@@ -1,12 +1,13 @@
 //! The question for a closure, and its verdict.
-ghost use Rattle.std.specs.Prelude.{◌≡◌, ◌++◌, ◌∷◌, [], None, Some, IfOk, if◌then◌else◌};
+ghost use Rattle.std.specs.Prelude.{◌≡◌, None, Some, IfOk, if◌then◌else◌};
 ghost use Rattle.std.specs.Option.{option_copied};
 ghost use Rattle.up_events.specs.History.{is_final_kind};
 ghost use Rattle.up_machine.specs.Asks.{ask_of, value_of};
 
 use crate::checks::PatchOutcome;
+use crate::copies::{copy_pairs, copy_text};
 use crate::reason::Reason;
-use crate::upload::Upload;
+use crate::upload::{Upload, text};
 use std::alloc::Global;
 use up_events::{Id, Kind, NoMemory};
 use up_headers::{NewUpload, Pairs, Patch};
@@ -37,6 +38,8 @@ pub struct Ask {
     pub length: Option<u64>,
     /// The pairs of the metadata text of the upload.
     pub pairs: Pairs,
+    /// The text of `Upload-Concat` of the upload as it was sent, if it is not empty.
+    pub concat: Option<Sequence<u8>>,
 }
 
 /// The answer of a closure.
@@ -45,30 +48,6 @@ pub enum Verdict {
     Allow,
     /// The request is not carried out. The status of the response is 400, 403, 409, 413, 422 or 429.
     Refuse { status: u16, reason: Reason },
-}
-
-/// A copy of a pair.
-fn copy_pair(
-    alloc: Global,
-    pair: &(Sequence<u8>, Sequence<u8>),
-) -> Result<(Sequence<u8>, Sequence<u8>), NoMemory>
-    ensures { IfOk result (λ made. made ≡ pair.now) }
-{
-    Ok((
-        Sequence::from_slice(alloc, pair.0.as_slice())?,
-        Sequence::from_slice(alloc, pair.1.as_slice())?,
-    ))
-}
-
-/// A copy of all pairs.
-fn copy_pairs(alloc: Global, pairs: &[(Sequence<u8>, Sequence<u8>)]) -> Result<Pairs, NoMemory>
-    ensures { IfOk result (λ made. made ≡ pairs.now) }
-{
-    let mut made = Sequence::new(alloc);
-    for pair in pairs {
-        made.push(copy_pair(alloc, pair)?)?;
-    }
-    Ok(made)
 }
 
 /// The length of a new upload whose first bytes are `offset` in number.
@@ -101,6 +80,7 @@ impl Ask {
           offset = offset;
           length = if is_final_kind new.now.kind then Some offset else new.now.length;
           pairs = new.now.pairs;
+          concat = new.now.concat;
         }) }
     {
         Ok(Ask {
@@ -110,6 +90,7 @@ impl Ask {
             offset,
             length: first_size(new, offset),
             pairs: copy_pairs(alloc, new.pairs.as_slice())?,
+            concat: copy_text(alloc, text(&new.concat))?,
         })
     }
 
@@ -131,6 +112,7 @@ impl Ask {
             offset: step.offset,
             length: step.size,
             pairs: copy_pairs(alloc, upload.pairs())?,
+            concat: copy_text(alloc, upload.concat())?,
         })
     }
 
@@ -145,6 +127,7 @@ impl Ask {
             offset: upload.offset(),
             length: upload.length(),
             pairs: copy_pairs(alloc, upload.pairs())?,
+            concat: copy_text(alloc, upload.concat())?,
         })
     }
 

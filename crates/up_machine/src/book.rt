@@ -7,9 +7,9 @@ use crate::checks::{change_by, check_asked, check_commit, check_patch};
 use crate::plan::{Asked, Done, Plan};
 use crate::refusal::Refusal;
 use crate::remains::Remains;
+use crate::removed::{Removed, remove_noted};
 use crate::upload::Upload;
 use crate::uploads::Uploads;
-use crate::view::View;
 use crate::{answer, parts};
 use std::alloc::Global;
 use std::marker::Model;
@@ -22,10 +22,12 @@ use up_message::Response;
 /// small body and a tail of at most 64 KiB, no matter how many bytes it sends, asks for, joins or removes.
 #[derive(Drop)]
 pub struct Book {
-    uploads: Uploads,
+    pub(crate) uploads: Uploads,
     journal: Journal,
     closed: bool,
-    max_size: u64,
+    pub(crate) max_size: u64,
+    /// What removed uploads were created with, if that is kept.
+    pub(crate) removed: Option<Removed>,
 }
 
 impl Model for Book {
@@ -60,10 +62,9 @@ impl Book {
     ghost use Rattle.up_headers.specs.declared.request.Request.TheVariants as request;
     ghost use Rattle.up_events.specs.Records.{first_of, forgot, lane_log};
     ghost use Rattle.up_machine.specs.State.{empty_state, counting_state, after, first_bytes};
-    ghost use Rattle.up_machine.specs.Decision.{IsExpectedOrNoMemory, answer_to, decide, decide_plan, is_asked};
+    ghost use Rattle.up_machine.specs.Decision.{IsExpectedOrNoMemory, decide, decide_plan, is_asked};
     ghost use Rattle.up_machine.specs.Decision.{is_refusal, planned_rows, rows_of, checked};
     ghost use Rattle.up_machine.specs.Fits.{IsSoundBook};
-    ghost use Rattle.up_machine.specs.Views.{IsViewIfAny};
     ghost use Rattle.up_machine.specs.declared.plan.Plan.TheVariants.{Ready as is_ready};
 
     /// A book without uploads, with a log for each lane. `max_size` is the maximum size of an upload, in bytes.
@@ -79,6 +80,7 @@ impl Book {
             journal: Journal::new(alloc, lanes)?,
             closed: false,
             max_size,
+            removed: None,
         })
     }
 
@@ -94,6 +96,7 @@ impl Book {
             journal: Journal::forgetting(alloc, lanes)?,
             closed: false,
             max_size,
+            removed: None,
         })
     }
 
@@ -135,46 +138,6 @@ impl Book {
         ensures keeps { result.keeps ≡ self.journal.keeps }
     {
         self.journal.into_accepted()
-    }
-
-    /// The upload with this id, if there is one.
-    pub fn upload(&self, id: Id) -> Option<View>
-        ensures { IsViewIfAny (map.get self.now.content id) result }
-    {
-        match self.uploads.get(id) {
-            Some(upload) => Some(upload.view()),
-            None => None,
-        }
-    }
-
-    /// What the server supports (tus 1.0.0, OPTIONS).
-    fn options(&self, alloc: Global) -> Result<Response, Refusal>
-        ensures { IsExpectedOrNoMemory result (answer_to self.now request.Options) }
-    {
-        Ok(answer::to_options(alloc, self.max_size)?)
-    }
-
-    /// The state of an upload (tus 1.0.0, HEAD).
-    fn head(&self, alloc: Global, id: Id) -> Result<Response, Refusal>
-        ensures { IsExpectedOrNoMemory result (answer_to self.now (request.Head id)) }
-    {
-        let Some(upload) = self.uploads.get(id) else {
-            return Err(Refusal::NotFound);
-        };
-        Ok(answer::to_head(alloc, upload)?)
-    }
-
-    /// The bytes of a complete upload.
-    fn get(&self, alloc: Global, id: Id) -> Result<Response, Refusal>
-        ensures { IsExpectedOrNoMemory result (answer_to self.now (request.Get id)) }
-    {
-        let Some(upload) = self.uploads.get(id) else {
-            return Err(Refusal::NotFound);
-        };
-        if !upload.is_complete() {
-            return Err(Refusal::Unfinished);
-        }
-        Ok(answer::to_get(alloc, upload)?)
     }
 
     /// The refusal of a creation at planning, or else the number of first bytes of the upload.
@@ -342,8 +305,14 @@ impl Book {
         self.check_delete(id)?;
         check_asked(false, asked)?;
         let response = answer::to_delete(alloc);
-        self.journal.note(Accepted::Terminated { id })?;
-        self.uploads.remove(id, remains);
+        let Book {
+            uploads,
+            journal,
+            removed,
+            ..
+        } = self;
+        let change = Accepted::Terminated { id };
+        remove_noted(removed, uploads, journal, change, id, remains)?;
         let change = Some(Accepted::Terminated { id });
         Ok(Done { response, change })
     }

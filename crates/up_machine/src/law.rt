@@ -1,4 +1,5 @@
 //! Laws about the decisions on requests, and about the events that they result in.
+ghost use Rattle.up_machine.specs.Details.{DetailsAreOfCreation, DetailsStay};
 ghost use Rattle.up_machine.specs.Finishing.{CompletingTellsFinish, FinishIsAllowed};
 ghost use Rattle.up_machine.specs.Plans.{RefusalsAreKept};
 
@@ -13,4 +14,11 @@ pub fn refusals_of_plans_are_kept()
 pub fn post_finish_is_asked()
     ensures complete { CompletingTellsFinish }
     ensures allowed { FinishIsAllowed }
+{}
+
+/// What is told of an upload with its events is what its creation said: its kind, its metadata and its parts. No other
+/// request changes that, as long as the upload is there.
+pub fn details_are_of_the_creation()
+    ensures creation { DetailsAreOfCreation }
+    ensures stay { DetailsStay }
 {}

@@ -2,13 +2,15 @@
 ghost use Rattle.std.specs.Prelude.{◌≡◌, [], false, length, IfOk, OnOk, OnErr};
 ghost use Rattle.std.specs.Option.{option_copied};
 
+use crate::copies::{copy_pairs, copy_text};
+use crate::details::Details;
 use crate::pieces::Pieces;
 use crate::store::Store;
 use crate::view::View;
 use std::alloc::{AllocError, Global};
 use std::marker::Model;
 use std::mem;
-use up_events::{Accepted, Journal, Kind, MAX_UPLOAD_BYTES, NoMemory};
+use up_events::{Accepted, Id, Journal, Kind, MAX_UPLOAD_BYTES, NoMemory};
 use up_headers::{NewUpload, Pairs};
 use up_message::{Piece, Segments, Sequence};
 
@@ -44,7 +46,7 @@ impl Model for Upload {
 }
 
 /// The bytes of a text, if there is one.
-fn text(sent: &Option<Sequence<u8>>) -> Option<&[u8]>
+pub fn text(sent: &Option<Sequence<u8>>) -> Option<&[u8]>
     ensures { option_copied result ≡ sent.now }
 {
     match sent {
@@ -55,6 +57,7 @@ fn text(sent: &Option<Sequence<u8>>) -> Option<&[u8]>
 
 impl Upload {
     ghost use Rattle.up_machine.specs.Content.{made_of, is_complete, with_more, IsWithinLength, CanTake};
+    ghost use Rattle.up_machine.specs.Details.{details_of};
     ghost use Rattle.up_machine.specs.Views.{IsViewOf};
     ghost use Rattle.up_events.specs.History.{is_final_kind, CanFollow};
     ghost use Rattle.up_events.specs.Records.{noted};
@@ -154,6 +157,31 @@ impl Upload {
             tail,
             spare: self.bytes.spare(),
         }
+    }
+
+    /// What the upload was created with, under this id. `NoMemory` if memory runs out.
+    pub fn details(&self, alloc: Global, id: Id) -> Result<Details, NoMemory>
+        ensures { IfOk result (λ details. details ≡ details_of id self.now) }
+    {
+        Ok(Details {
+            id,
+            kind: self.kind,
+            pairs: copy_pairs(alloc, self.pairs())?,
+            concat: copy_text(alloc, self.concat())?,
+        })
+    }
+
+    /// The same of an upload that is removed, and its bytes. Takes no memory.
+    pub fn into_parts(self, id: Id) -> (Details, Store)
+        ensures { result.0 ≡ details_of id self }
+    {
+        let details = Details {
+            id,
+            kind: self.kind,
+            pairs: self.pairs,
+            concat: self.concat,
+        };
+        (details, self.bytes)
     }
 
     /// The bytes for a response or for another upload, shared if all have arrived. `AllocError` if memory runs out.

@@ -30,6 +30,12 @@ pub fn open<B: Naming, H: PostHook + Drop>(
         EachAt (λ k l. (l.lane ≡ k) × (l.queue ≡ B.queue k)) r.1.items) }
 {
     let (board, takes) = Board::<B>::forgetting(alloc, parts, settings.max_size)?;
+    let describes = post_hooks.iter().any(|hook| hook.needs_details());
+    let board = if describes {
+        board.describing(alloc)
+    } else {
+        board
+    };
     let lanes = lanes_over(alloc, takes, post_hooks)?;
     Ok((board, lanes))
 }

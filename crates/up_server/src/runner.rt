@@ -40,10 +40,14 @@ pub struct Runner<'a, B: Naming, N> {
 }
 
 /// Takes a step. Returns whether the post-hook had room for an event.
-fn has_room<H: PostHook, T: Wait>(rt: &T, lane: &mut Lane<H>) -> bool
+fn has_room<H: PostHook, B: Naming + Send, T: Wait>(
+    rt: &T,
+    board: &Board<B>,
+    lane: &mut Lane<H>,
+) -> bool
     ensures same { (lane.new.lane ≡ lane.old.lane) × (lane.new.queue ≡ lane.old.queue) }
 {
-    match lane.step(rt) {
+    match lane.advance(rt, board) {
         StepEnd::NoMemory => false,
         StepEnd::Handed | StepEnd::Nothing | StepEnd::Ended => true,
     }
@@ -195,7 +199,7 @@ impl<'a, B: Naming + Send + Sync, N: LaneNotices> Runner<'a, B, N> {
                     break;
                 }
             }
-            if has_room(rt, lane) {
+            if has_room(rt, self.board, lane) {
                 return true;
             }
             waiting.fail(notices);

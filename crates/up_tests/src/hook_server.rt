@@ -2,97 +2,22 @@
 ghost use Rattle.std.specs.Prelude.{IsTrue};
 ghost use Rattle.up_hooks.specs.Verdicts.{is_allowed_verdict};
 
+use crate::hook_texts::{ask, details, event, origin};
 use crate::same::expect_same;
 use std::alloc::Global;
 use std::io::{Read, Write};
 use std::marker::Sync;
 use std::net::TcpListener;
 use std::process::Abort;
-use std::sync::Wait;
-use std::sync::atomic::AtomicU64;
+use std::sync::atomic::{AtomicBool, AtomicU64};
+use std::sync::{Arc, Wait};
 use std::thread;
 use std::thread::Threads;
 use std::time::{Clock, Duration};
-use up_events::{Event, Hook, Id, Kind};
-use up_hook_client::{Enabled, HookClient, HookServer, Post, ask_text, event_text, field_names};
+use up_events::{Event, Hook};
+use up_hook_client::{Enabled, HookClient, HookServer, Post};
 use up_hooks::{Delivery, Links, Origin, PreHooks, RequestHook};
 use up_machine::{Ask, Asked, Point, Reason, Verdict};
-use up_message::Sequence;
-
-/// An event.
-fn event() -> Event {
-    Event {
-        id: Id::new(255),
-        number: 2,
-        hook: Hook::Receive,
-        offset: 11,
-        length: None,
-    }
-}
-
-/// What a hook server is told of it.
-static TOLD: &str = "{\"Event\":{\"HTTPRequest\":null,\"Number\":2,\
-    \"Upload\":{\"ID\":\"000000000000000000000000000000ff\",\"Offset\":11,\"Size\":0,\
-    \"SizeIsDeferred\":true,\"Storage\":null}},\"Type\":\"post-receive\"}";
-
-#[test]
-fn an_event_is_told_in_the_form_of_tusd(rt: HostRuntime) {
-    let text = event_text(rt.alloc(), &event()).expect(&rt, "memory");
-    expect_same(&rt, &text.as_str(), &TOLD);
-}
-
-/// What a hook server is asked about a new part, by a request with two fields of a name that it is told.
-static ASKED: &str = "{\"Event\":{\"HTTPRequest\":{\"Header\":{\"X-Key\":[\"1\",\"2\"]},\
-    \"Method\":\"POST\",\"RemoteAddr\":\"\",\"URI\":\"/files/\"},\
-    \"Upload\":{\"ID\":\"000000000000000000000000000000ff\",\"IsFinal\":false,\"IsPartial\":true,\
-    \"MetaData\":{\"filename\":\"a.txt\"},\"Offset\":0,\"Size\":3,\"SizeIsDeferred\":false,\
-    \"Storage\":null}},\"Type\":\"pre-create\"}";
-
-/// These bytes.
-fn bytes(rt: &impl Abort, alloc: Global, text: &str) -> Sequence<u8> {
-    Sequence::from_slice(alloc, text.as_bytes()).expect(rt, "memory")
-}
-
-/// The request for a part.
-fn origin(rt: &impl Abort, alloc: Global) -> Origin {
-    let mut origin = Origin::unknown(alloc);
-    origin.id = Some(Id::new(255));
-    origin.method = bytes(rt, alloc, "POST");
-    origin.target = bytes(rt, alloc, "/files/");
-    for (name, value) in [("x-key", "1"), ("Host", "a"), ("X-KEY", "2")] {
-        let field = (bytes(rt, alloc, name), bytes(rt, alloc, value));
-        origin.fields.push(field).expect(rt, "memory");
-    }
-    origin
-}
-
-/// The question about an upload of three bytes with a file's name.
-fn ask(rt: &impl Abort, alloc: Global, point: Point) -> Ask {
-    let mut pairs = Sequence::new(alloc);
-    let pair = (bytes(rt, alloc, "filename"), bytes(rt, alloc, "a.txt"));
-    pairs.push(pair).expect(rt, "memory");
-    Ask {
-        point,
-        target: None,
-        kind: Kind::Partial,
-        offset: 0,
-        length: Some(3),
-        pairs,
-    }
-}
-
-#[test]
-fn a_request_is_asked_about_in_the_form_of_tusd(rt: HostRuntime) {
-    let alloc = rt.alloc();
-    let mut names = Vec::new(alloc);
-    for name in ["x-key", "authorization"] {
-        let name = String::from_str(alloc, name).expect(&rt, "memory");
-        names.push(name).expect(&rt, "memory");
-    }
-    let ask = ask(&rt, alloc, Point::Create);
-    let text = ask_text(alloc, &ask, &origin(&rt, alloc), &names).expect(&rt, "memory");
-    expect_same(&rt, &text.as_str(), &ASKED);
-}
 
 /// URLs, each with the address and the target of the hook server there.
 static URLS: [(&str, Option<(&str, &str)>); 8] = [
@@ -145,8 +70,17 @@ fn listen(rt: &impl Abort, net: HostRuntime) -> (TcpListener, HookClient<HostRun
         timeout: 10,
         forwarded: Vec::new(alloc),
         enabled: Enabled::all(),
+        has_remarked: Arc::new(alloc, AtomicBool::new(false)).expect(rt, "memory"),
     };
     (listener, client)
+}
+
+/// Delivers an event, once it is known what its upload was created with. Returns whether it was acknowledged.
+fn tell<D: Delivery>(rt: &impl Abort, alloc: Global, way: &mut D, event: &Event) -> bool {
+    if way.asks_about(event) {
+        way.learn(details(rt, alloc, &["partial"]));
+    }
+    way.deliver(event)
 }
 
 /// How many of the first events are acknowledged, of as many as there are answers on one connection.
@@ -155,6 +89,7 @@ fn acknowledged(
     net: HostRuntime,
     answers: &[&str],
 ) -> usize {
+    let alloc = net.alloc();
     let (listener, client) = listen(rt, net);
     let (_, count) = thread::join(
         rt,
@@ -162,7 +97,7 @@ fn acknowledged(
         || {
             let mut post = Post::new(&client, None);
             for count in 0..answers.len() {
-                if !post.deliver(&event()) {
+                if !tell(rt, alloc, &mut post, &event()) {
                     return count;
                 }
             }
@@ -313,12 +248,13 @@ fn a_server_hears_of_enabled_hooks_alone(rt: HostRuntime) {
     let ask = ask(&rt, alloc, Point::Finish);
     let verdict = client.judge(&ask, &origin(&rt, alloc)).verdict();
     let mut post = Post::new(&client, None);
+    let created = Event {
+        hook: Hook::Create,
+        ..event()
+    };
     let told = [
-        post.deliver(&event()),
-        post.deliver(&Event {
-            hook: Hook::Create,
-            ..event()
-        }),
+        tell(&rt, alloc, &mut post, &event()),
+        tell(&rt, alloc, &mut post, &created),
     ];
     assert!(&rt; verdict == Verdict::Allow);
     expect_same(&rt, &told, &[true, false]);
@@ -330,7 +266,7 @@ fn no_answer_is_waited_for_after_the_end(rt: HostRuntime) {
     let end = AtomicU64::new(1);
     let mut post = Post::new(&client, Some(&end));
     let begun = rt.monotonic().expect(&rt, "a clock");
-    let is_acknowledged = post.deliver(&event());
+    let is_acknowledged = tell(&rt, rt.alloc(), &mut post, &event());
     let took = rt.monotonic().expect(&rt, "a clock").saturating_sub(begun);
     expect_same(
         &rt,

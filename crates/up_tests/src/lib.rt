@@ -16,6 +16,8 @@ mod conversations;
 #[cfg(test)]
 mod desk;
 #[cfg(test)]
+mod details;
+#[cfg(test)]
 mod failing;
 #[cfg(test)]
 mod fifteen;
@@ -33,6 +35,8 @@ mod heads;
 mod hook_names;
 #[cfg(test)]
 mod hook_server;
+#[cfg(test)]
+mod hook_texts;
 #[cfg(test)]
 mod hooks;
 #[cfg(test)]

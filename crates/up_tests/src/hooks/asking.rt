@@ -67,6 +67,7 @@ fn ask_of(alloc: Global, point: Point, length: u64) -> Ask {
         offset: 0,
         length: Some(length),
         pairs: Sequence::new(alloc),
+        concat: None,
     }
 }
 

@@ -14,5 +14,5 @@ invariant_of-self-2 c =
     let x = c.in_ok-check_delete.field-0.now in
     let found : map.get a.uploads c.args.id ≡ Some x = ap (λ (t : State). map.get t.content c.args.id) c.self.view_is ∙ c.in_ok-check_delete.ensures.ok.1 in
     let can : is_alive a.journal.accepted c.args.id ≡ true = alive_at a.uploads a.journal.accepted c.args.id x c.self.invariant.fits found in
-    sound_after s (Terminated c.args.id) c.remove.new.self c.note.new.self c.self.invariant can c.in_ok-note.ensures.ok
-    (subst (λ (m : Contents). Fits m (a.journal.accepted ++ Terminated c.args.id ∷ [])) (sym c.remove.ensures) (fits_terminated a.uploads a.journal.accepted c.args.id c.self.invariant.fits))
+    sound_after s (Terminated c.args.id) c.remove_noted.new.uploads c.remove_noted.new.journal c.self.invariant can c.in_ok-remove_noted.ensures.noted
+    (subst (λ (m : Contents). Fits m (a.journal.accepted ++ Terminated c.args.id ∷ [])) (sym c.in_ok-remove_noted.ensures.ok) (fits_terminated a.uploads a.journal.accepted c.args.id c.self.invariant.fits))
