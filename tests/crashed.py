@@ -28,12 +28,12 @@ SAMPLE = 20
 
 
 class Upload:
-    """An upload as its accepted changes make it: its mark, its `Upload-Concat`, its length, None if it is unknown,
-    its bytes, whether it exists, the number of its changes, and its events. It is immutable: each change makes
-    another one."""
+    """An upload as its accepted changes make it: its mark, the pairs of its metadata, which are bytes, its
+    `Upload-Concat`, its length, None if it is unknown, its bytes, whether it exists, the number of its changes, and its
+    events. It is immutable: each change makes another one."""
 
-    def __init__(self, mark, concat, length, body=b"", is_there=True, changes=0, events=()):
-        self.mark, self.concat, self.length, self.body = mark, concat, length, body
+    def __init__(self, mark, pairs, concat, length, body=b"", is_there=True, changes=0, events=()):
+        self.mark, self.pairs, self.concat, self.length, self.body = mark, pairs, concat, length, body
         self.is_there, self.changes, self.events = is_there, changes, events
 
     def changed(self, length, body, is_there, *hooks):
@@ -43,7 +43,8 @@ class Upload:
         at = f"{len(body)}/{'-' if length is None else length}"
         hooks = [*hooks, *(["post-finish"] if is_whole else [])]
         events = [f"{number} {hook} {at} done" for number, hook in enumerate(hooks, 1 + len(self.events))]
-        return Upload(self.mark, self.concat, length, body, is_there, self.changes + 1, (*self.events, *events))
+        changes, events = self.changes + 1, (*self.events, *events)
+        return Upload(self.mark, self.pairs, self.concat, length, body, is_there, changes, events)
 
     def made(self):
         return self.changed(self.length, self.body, True, "post-create")
@@ -63,11 +64,17 @@ class Upload:
         if not self.is_there:
             return (404,)
         length = ("1", None) if self.length is None else (None, str(self.length))
-        return 200, str(len(self.body)), *length, f"mark {coded(self.mark)}", self.concat
+        return 200, str(len(self.body)), *length, metadata_of(self.pairs), self.concat
 
 
 def coded(text):
     return base64.b64encode(text.encode()).decode()
+
+
+def metadata_of(pairs):
+    """The `Upload-Metadata` with these pairs, or None if there are none."""
+    parts = [(key + b" " + base64.b64encode(value)).rstrip(b" ") for key, value in pairs]
+    return b",".join(parts).decode(errors="surrogateescape") or None
 
 
 def said_of(reply):
@@ -89,7 +96,7 @@ class Client:
     """A client of one server after another, with its own uploads, by their paths. Once `ending` is set, its
     connection may end within a change, or the change may be refused. It may also be refused if the server's disk
     fails. Such a change is `asked` until its result is known: the path of an upload, and the upload as it is if the
-    change is done. A creation without an answer is in `lost`, by its mark."""
+    change is done. A creation without an answer is in `lost`, by its mark. `sent` has what each creation asked for."""
 
     def __init__(self, number):
         self.number = number
@@ -97,12 +104,12 @@ class Client:
         self.asked = None
         self.lost = {}
         self.touched = set()
-        self.made = 0
+        self.sent = []
 
     def copy(self):
         """A client that knows the same, and is at no server. There is nothing that this one doesn't know."""
         other = Client(self.number)
-        other.uploads, other.made = dict(self.uploads), self.made
+        other.uploads, other.sent = dict(self.uploads), list(self.sent)
         return other
 
     def meet(self, server, ending, may_fail=False):
@@ -147,11 +154,16 @@ class Client:
 
     # Changes.
 
+    def pairs(self, mark):
+        """The metadata of a new upload with this mark."""
+        return [(b"mark", mark.encode())]
+
     def create(self, length, concat=None, body=b"", parts=()):
         """Makes an upload, and returns its path."""
-        self.made += 1
-        mark = f"{self.number}.{self.made}"
-        fields = {"Upload-Metadata": f"mark {coded(mark)}"}
+        mark = f"{self.number}.{len(self.sent) + 1}"
+        pairs, fields = self.pairs(mark), {}
+        if pairs:
+            fields["Upload-Metadata"] = metadata_of(pairs)
         if parts:
             concat = "final;" + " ".join(parts)
         elif length is None:
@@ -160,7 +172,8 @@ class Client:
             fields["Upload-Length"] = length
         if concat:
             fields["Upload-Concat"] = concat
-        return self.change(head("POST", "/files/", fields), None, Upload(mark, concat, length, body).made())
+        self.sent.append(Upload(mark, pairs, concat, length, body).made())
+        return self.change(head("POST", "/files/", fields), None, self.sent[-1])
 
     def join(self, parts):
         """Makes a final upload of these parts."""

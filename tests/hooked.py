@@ -10,6 +10,7 @@ In each round sixteen clients create, append, declare lengths, concatenate and r
 slow, answers badly, and is killed and started again, and in one case the program is killed too. The hook server must be
 told of the events that the accepted changes define, each once and in order. An event may come again if it wasn't
 acknowledged, and at most once in each lane after a kill of the program. What the hook server didn't allow isn't done.
+Each question and each event must have the metadata, the kind and the parts with which a client created the upload.
 
 For each case, one line says whether it passed. The last line is `N passed, M failed`, and the exit status is 1 if a
 case failed.
@@ -24,12 +25,13 @@ import tempfile
 import threading
 import time
 
+import crashed
 import operators
 import stored
-from copied import Lone
+from copied import HEAPED, PIECE, Lone
 from crashed import LANES, coded, lane_of
 from endings import MAX_BUSY
-from hooking import Client, HookServer, Stock, answer, at_random, by_mark, hold_asked, rejection
+from hooking import Client, HookServer, Stock, answer, at_random, by_mark, hold_allowed, hold_created, rejection
 from operators import made
 from serving import Connection, at_once, below, build, events_of, head, numbered, same, soon, try_all
 
@@ -103,7 +105,8 @@ def work_to_end(clients, server, hooks):
     work(clients, server, hooks, lambda: reports.append(server.finish()[1]))
     told = hooks.told()
     told.hold(clients, is_whole=True)
-    hold_asked(hooks.notes, clients, told)
+    hold_created(hooks.notes, clients)
+    hold_allowed(hooks.notes, told)
     accepted, *lanes = reports[0].splitlines()
     same(lanes, [f"lane {lane} drained {count}" for lane, count in enumerate(told.counts())], "the report")
     known = sum(upload.changes for client in clients for upload in client.uploads.values())
@@ -198,23 +201,26 @@ def later_answers():
 
 
 def fields():
-    """A pre-hook is told of the request, and of the fields that are named, as Go writes them, and of no others."""
+    """A pre-hook is told of the request, and of the fields that are named, as Go writes them, and of no others. What
+    isn't UTF-8 in metadata is replaced."""
     given = {"authorization": "Bearer x", "x-KEY": "1", "Cookie": "a=b", "X-Key": "2"}
-    metadata = {"Upload-Length": 0, "Upload-Metadata": f"filename {coded('ä.txt')},empty"}
+    metadata = f"filename {coded('ä.txt')},empty,raw /w==,\udcff MQ==,\udcfe Mg=="
+    decoded = {"filename": "ä.txt", "empty": "", "raw": "\ufffd", "\ufffd": "2"}
     forwarded = {"Authorization": ["Bearer x"], "X-Key": ["1", "2"]}
     for words, wanted in ((["--hooks-http-forward-headers", "Authorization, X-KEY,x-none"], forwarded), ([], {})):
         with HookServer() as hooks, Hooked(hooks.url, *words) as server, Connection(server) as client:
-            client.send(head("POST", "/files/", {**given, **metadata}))
+            client.send(head("POST", "/files/", {**given, "Upload-Length": 0, "Upload-Metadata": metadata}))
             path = client.reply().fields["location"]
             client.send(head("DELETE", path, given))
             same(client.reply().status, 204, "the status of a DELETE")
+            told(hooks, 3)
             asked = [note for note in hooks.notes if note.is_pre]
             address = "{}:{}".format(*client.socket.getsockname())
         same([note.hook for note in asked], ["pre-create", "pre-finish", "pre-terminate"], "the pre-hooks")
         for note, method, uri in zip(asked, ("POST", "POST", "DELETE"), ("/files/", "/files/", path)):
             said = {"Method": method, "URI": uri, "RemoteAddr": address, "Header": wanted}
             same((note.request, note.id), (said, path[-32:]), f"what {note.hook} is told of the request")
-            same(note.upload["MetaData"], {"filename": "ä.txt", "empty": ""}, "the metadata")
+        same([note.upload["MetaData"] for note in hooks.notes], [decoded] * 6, "the metadata")
 
 
 def enabled():
@@ -234,6 +240,66 @@ def enabled():
             server.finish()
         same([note.hook for note in hooks.notes], ["post-finish"] * 2, "the hooks")
         same(hooks.notes[1].id, path[-32:], "the upload of the second event")
+        hold_created(hooks.notes, [client])
+
+
+class Named(crashed.Client):
+    """A client whose uploads have a name, a part of which is no UTF-8, and a key without a value."""
+
+    def pairs(self, mark):
+        return [*super().pairs(mark), (b"name", b"\xc3\xa4\xff"), (b"none", b"")]
+
+
+def make_two(client, is_removed):
+    """Makes an upload of 5 bytes, and one that is joined of parts and has 6. Removes all if it is told to. Returns the
+    paths of the two."""
+    parts = [client.append(client.create(length, "partial"), bytes(length)) for length in (1, 2, 3)]
+    paths = [client.append(client.append(client.create(5), b"ab"), b"cde"), client.join(parts)]
+    for path in [*parts, *paths] * is_removed:
+        client.remove(path)
+    return paths
+
+
+def make_shorter(client, store, lanes):
+    """Has a log made shorter by the removal of a large upload. Its events all come, as its lane is none of these."""
+    body = PIECE * HEAPED
+    path = client.create(len(body))
+    while lane_of(path) in lanes:
+        path = client.create(len(body))
+    client.remove(client.append(path, body))
+    soon(lambda: store.logs() == ["log.1"], "the log is made shorter")
+
+
+def lanes_told(hooks, hook, paths):
+    """The lanes that have told of this event of these uploads."""
+    return {lane_of(note.id) for note in hooks.posts() if note.hook == hook and f"/files/{note.id}" in paths}
+
+
+def created():
+    """An event that isn't acknowledged before a kill comes afterwards, with the metadata, the kind and the parts of its
+    upload. So it does if the upload is removed and the log is made shorter meanwhile."""
+    for hook, is_alone in ("post-finish", True), ("post-terminate", False):
+        with HookServer() as hooks, stored.store_of(program) as store:
+            words = [hooks.url, "--store", store.folder, *["--hooks-enabled-events", hook] * is_alone]
+            client = Named(0)
+            for is_shorter in (False, True):
+                hooks.plan = lambda note: "silent" if note.hook == hook and note.upload["Size"] in (5, 6) else None
+                with Hooked(*words, timeout=10) as server, Lone(server, client):
+                    paths = make_two(client, is_shorter or hook == "post-terminate")
+                    lanes = {lane_of(path) for path in paths}
+                    soon(lambda: lanes_told(hooks, hook, paths) == lanes, "events are told, and not acknowledged")
+                    if is_shorter:
+                        make_shorter(client, store, lanes)
+                    server.kill()
+                hooks.note_kill()
+                hooks.plan = lambda note: None
+                with Hooked(*words, timeout=10) as server:
+                    server.finish()
+            hold_created(hooks.notes, [client])
+            events = {path: list(upload.events) for path, upload in client.uploads.items()}
+            if is_alone:
+                events = {path: [each for each in of_one if hook in each] for path, of_one in events.items()}
+            same(hooks.told().events(), {path: of_one for path, of_one in events.items() if of_one}, "the events")
 
 
 def away():
@@ -343,5 +409,5 @@ given.add_argument("names", nargs="*", metavar="NAME", help="the cases to be tri
 given = given.parse_args()
 program, rounds = os.path.abspath(given.program or build()), given.rounds
 
-CASES = [faults, kills, answers, later_answers, fields, enabled, away, silent, lines, stock, example, tusd]
+CASES = [faults, kills, answers, later_answers, fields, enabled, created, away, silent, lines, stock, example, tusd]
 sys.exit(try_all(CASES, given.names))

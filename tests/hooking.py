@@ -17,9 +17,9 @@ from serving import same, soon
 # The path and the query of a hook server's URL.
 TARGET = "/hook?from=up"
 
-# The fields of an upload: in an event, and in a question about a request.
-TOLD = {"ID", "Size", "SizeIsDeferred", "Offset", "Storage"}
-ASKED = TOLD | {"MetaData", "IsPartial", "IsFinal"}
+# The fields of an upload, in an event and in a question about a request. The first ones are as it was created.
+CREATED = ["MetaData", "IsPartial", "IsFinal", "PartialUploads"]
+FIELDS = {*CREATED, "ID", "Offset", "Size", "SizeIsDeferred", "Storage"}
 
 # The methods of the requests that each pre-hook is asked about.
 METHODS = {"pre-create": ["POST"], "pre-finish": ["POST", "PATCH"], "pre-terminate": ["DELETE"]}
@@ -54,15 +54,15 @@ def rejection(status, reason, name="RejectUpload"):
     return {name: True, "HTTPResponse": {"StatusCode": status, "Body": reason}}
 
 
-def rejects(hook, mark):
-    """The status with which a pre-hook rejects the upload with this mark, or None."""
+def rejects(hook, metadata):
+    """The status with which a pre-hook rejects an upload with this metadata, or None, as without a mark."""
     number, status = REJECTED[hook]
-    return status if int(mark.partition(".")[2]) % 8 == number else None
+    return status if int(metadata.get("mark", ".0").partition(".")[2]) % 8 == number else None
 
 
 def by_mark(note):
     """What an answer says about an upload with a mark."""
-    status = note.is_pre and rejects(note.hook, note.upload["MetaData"]["mark"])
+    status = note.is_pre and rejects(note.hook, note.upload["MetaData"])
     name = "RejectTermination" if note.hook == "pre-terminate" else "RejectUpload"
     return rejection(status, f"{note.hook} rejects\nand says more\n", name) if status else {}
 
@@ -97,7 +97,7 @@ class Note:
         first, *rest = self.head.split("\r\n")
         same(first, f"POST {TARGET} HTTP/1.1", "the first line")
         same("Content-Type: application/json" in rest, True, f"whether {rest} have the type of the body")
-        same(set(self.upload), ASKED if self.is_pre else TOLD, "what is said of an upload")
+        same(set(self.upload), FIELDS, "what is said of an upload")
         same(self.upload["Storage"], None, "the storage")
         same(not self.upload["SizeIsDeferred"] or self.upload["Size"] == 0, True, "whether an unknown length is 0")
         if not self.is_pre:
@@ -110,6 +110,10 @@ class Note:
         same(self.request["URI"], "/files/" if method == "POST" else "/files/" + self.id, "the URI")
         if self.hook == "pre-finish":
             same(self.upload["Offset"], self.upload["Size"], "the offset where an upload is complete")
+
+    def created(self):
+        """What the note says of the creation of its upload."""
+        return {name: self.upload[name] for name in CREATED}
 
     def key(self):
         return self.id, self.number
@@ -293,16 +297,32 @@ def add_events(lines, notes):
     return repeated
 
 
-def hold_asked(notes, clients, told):
-    """Checks that what a hook server was asked fits the uploads of the clients, and that it has allowed each change
-    with an event that a pre-hook was asked about."""
+def created(upload):
+    """What each note of an upload has to say of its creation."""
+    pairs = [[text.decode(errors="replace") for text in pair] for pair in upload.pairs]
+    kind, _, parts = (upload.concat or "").partition(";")
+    ids = [path[-32:] for path in parts.split()] if kind == "final" else None
+    return dict(zip(CREATED, (dict(pairs), kind == "partial", kind == "final", ids)))
+
+
+def hold_created(notes, clients):
+    """Checks that each note has the metadata, the kind and the parts with which its upload was created. If no client
+    knows the upload, they are those of a creation that made none as far as its client knows."""
+    wanted = {path[-32:]: created(upload) for client in clients for path, upload in client.uploads.items()}
+    others = [created(upload) for client in clients for upload in client.sent]
+    for known in wanted.values():
+        others.remove(known)
+    for note in [note for note in notes if note is not KILL]:
+        if note.id not in wanted:
+            same(note.created() in others, True, f"whether a client asked for {note.created()} of {note.id}")
+            others.remove(note.created())
+            wanted[note.id] = note.created()
+        same(note.created(), wanted[note.id], f"what {note.hook} says of {note.id}")
+
+
+def hold_allowed(notes, told):
+    """Checks that a hook server has allowed each change with an event that a pre-hook was asked about."""
     asked = [note for note in notes if note is not KILL and note.is_pre]
-    uploads = {path[-32:]: upload for client in clients for path, upload in client.uploads.items()}
-    for note in asked:
-        if upload := uploads.get(note.id):
-            kind = (upload.concat or "").partition(";")[0]
-            said = [note.upload[name] for name in ("MetaData", "IsPartial", "IsFinal")]
-            same(said, [{"mark": upload.mark}, kind == "partial", kind == "final"], f"what is said of {note.id}")
     allowed = {(note.id, note.hook) for note in asked if note.passes}
     for path, events in told.events().items():
         before = [BEFORE[hook] for hook in (event.split()[1] for event in events) if hook in BEFORE]
@@ -344,6 +364,11 @@ class Client(crashed.Client):
         super().__init__(number)
         self.rejected, self.refused = set(), 0
 
+    def pairs(self, mark):
+        """None, or a mark, alone or with a value that is no UTF-8, a key without a value, or keys that become one."""
+        pairs, raw, none = super().pairs(mark), (b"raw", random.randbytes(9)), (b"none", b"")
+        return random.choice([[], pairs, [*pairs, raw], [none, *pairs], [(b"\xff", b"1"), *pairs, (b"\xfe", b"2")]])
+
     def hear(self, message, bare=False):
         reply = super().hear(message, bare)
         if self.asked and not bare and 400 <= reply.status < 500:
@@ -355,7 +380,8 @@ class Client(crashed.Client):
         """The pre-hooks that are asked about the change, each with the status with which it rejects it, or None."""
         path, after = self.asked
         names = ["pre-create"] * (path is None) + ["pre-finish"] * after.is_whole()
-        return {name: rejects(name, after.mark) for name in (names if after.is_there else ["pre-terminate"])}
+        names = names if after.is_there else ["pre-terminate"]
+        return {name: rejects(name, created(after)["MetaData"]) for name in names}
 
     def note_refusal(self, reply):
         """Checks that the change may be refused so, and notes it."""

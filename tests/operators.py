@@ -32,13 +32,20 @@ def running(words):
             process.kill()
 
 
-def filled(client, name, body, key):
-    """The id of an upload with this name of a file and these bytes, made with a key."""
-    path = made(client, name, len(body), **key).fields["location"]
+def filled(client, name, body, key, **fields):
+    """The id of an upload with this name of a file, these bytes and these fields, made with a key."""
+    path = made(client, name, len(body), **key, **fields).fields["location"]
     media = {"Content-Type": MEDIA_TYPE, "Upload-Offset": 0, "Content-Length": len(body)}
     client.send(head("PATCH", path, {**key, **media}) + body)
     same(client.reply().status, 204, "the status of a PATCH")
     return path[-32:]
+
+
+def joined(client, name, key):
+    """The id of an upload that is joined of parts of one and three bytes, with this name of a file, and their ids."""
+    parts = [filled(client, "part", body, key, upload_concat="partial") for body in (b"d", b"efg")]
+    concat = "final;" + " ".join(f"/files/{part}" for part in parts)
+    return made(client, name, **key, upload_concat=concat).fields["location"][-32:], parts
 
 
 def paid(events):
@@ -61,16 +68,19 @@ def example(hooked):
             same(made(client, "a.EXE", **key).status, 422, "the status for a program")
             good = filled(client, "a/ä", b"abc", key)
             filled(client, "bad", b"EICAR-STANDARD-ANTIVIRUS-TEST-FILE", key)
-            soon(lambda: paid(events)[0] == 8, "all is told, and removed")
-            same(sorted(os.listdir(place)), [".events", f"{good}-a_ä"], "the files")
-            same(paid(events), (8, 3), "how many events there are, and how many bytes are to be paid for")
+            final, parts = joined(client, "b", key)
+            soon(lambda: paid(events)[0] == 19, "all is told, and removed")
+            same(sorted(os.listdir(place)), sorted([".events", f"{good}-a_ä", f"{final}-b"]), "the files")
+            same(paid(events), (19, 7), "how many events there are, and how many bytes are to be paid for")
         os.truncate(events, 5)
         with running(words), Connection(server) as client:
-            said = {"Type": "post-finish", "Event": {"Number": 3, "Upload": {"ID": good, "Size": 3}}}
+            upload = {"ID": final, "Size": 4, "MetaData": {"filename": "b"}}
+            upload |= {"IsPartial": False, "PartialUploads": parts}
+            said = {"Type": "post-finish", "Event": {"Number": 2, "Upload": upload}}
             soon(lambda: made(client).status == 403, "the example listens")
             for _ in range(2):
                 urllib.request.urlopen(f"http://{address}/", json.dumps(said).encode()).close()
-        same(paid(events), (1, 3), "the same after an event was told again")
+        same(paid(events), (1, 4), "the same after an event was told again")
 
 
 @contextlib.contextmanager
@@ -83,6 +93,16 @@ def listening(words):
             process.kill()
 
 
+def logged(upload, name, size, kind=None):
+    """The lines about an upload in the log of tests/tusd_hooks.py."""
+    said = {"id": upload, "size": size, "metadata": {"filename": name}}
+    said |= {"partial": kind == "partial", "final": kind == "final"}
+    hooks = {"post-create": 0, "post-receive": size, "post-finish": size}
+    if kind == "final":
+        hooks = {"post-create": size, "post-finish": size}
+    return [{"type": hook, "offset": offset, **said} for hook, offset in hooks.items()]
+
+
 def tusd(hooked):
     """A hook server that was written for tusd is understood, and understands what it is asked and told."""
     key = {"authorization": "Bearer k"}
@@ -90,17 +110,18 @@ def tusd(hooked):
         log = os.path.join(folder, "log")
         with listening(["--port", "0", "--log", log, "--token", "k", "--keep"]) as port:
             words = [f"http://127.0.0.1:{port}/hook", "--hooks-http-forward-headers", "Authorization"]
-            with hooked(*words, timeout=10) as server, Connection(server) as client:
+            with hooked(*words, timeout=10, lanes=1) as server, Connection(server) as client:
                 replies = [made(client), made(client, "a.EXE", **key)]
                 replies.append(client.ask("POST", "/files/", upload_length=1, **key))
                 path = "/files/" + filled(client, "a.txt", b"abc", key)
                 replies.append(client.ask("DELETE", path, **key))
+                final, parts = joined(client, "b.txt", key)
                 server.finish()
         with open(log, encoding="utf-8") as file:
             lines = [json.loads(line) for line in file]
     texts = [b"missing or wrong token\n", b".exe files are not accepted\n", b"no filename in the metadata\n"]
     wanted = list(zip([403, 422, 422, 403], [*texts, b"uploads are kept\n"]))
     same([(reply.status, reply.body) for reply in replies], wanted, "the replies to what it rejects")
-    events = [(line["type"], line["id"], line["offset"], line["size"]) for line in lines]
-    each = [("post-create", 0), ("post-receive", 3), ("post-finish", 3)]
-    same(events, [(hook, path[-32:], offset, 3) for hook, offset in each], "the events that it has written down")
+    wanted = logged(path[-32:], "a.txt", 3) + logged(parts[0], "part", 1, "partial")
+    wanted += logged(parts[1], "part", 3, "partial") + logged(final, "b.txt", 4, "final")
+    same(lines, wanted, "the events that it has written down")

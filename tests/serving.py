@@ -234,12 +234,13 @@ NOWHERE = path_of(0)
 
 
 def head(method, target, fields):
-    """The bytes of a head. A POST, PATCH or DELETE has `Tus-Resumable`."""
+    """The bytes of a head. A POST, PATCH or DELETE has `Tus-Resumable`. Bytes that aren't UTF-8 are given as
+    `surrogateescape` decodes them, as in a reply."""
     lines = [f"{method} {target} HTTP/1.1", "Host: a"]
     if method in ("POST", "PATCH", "DELETE"):
         lines.append("Tus-Resumable: 1.0.0")
     lines += [f"{name}: {value}" for name, value in fields.items()]
-    return "".join(line + "\r\n" for line in lines + [""]).encode()
+    return "".join(line + "\r\n" for line in lines + [""]).encode(errors="surrogateescape")
 
 
 def patch(path, offset, length, declared=None):
@@ -309,7 +310,7 @@ class Connection:
             if not self.more():
                 raise AssertionError(f"no reply but {self.read!r}")
         lines, end, self.read = self.read.partition(b"\r\n\r\n")
-        first, *rest = lines.decode().split("\r\n")
+        first, *rest = lines.decode(errors="surrogateescape").split("\r\n")
         fields = {name.lower(): value.strip() for name, _, value in (line.partition(":") for line in rest)}
         return Reply(int(first.split()[1]), fields, b"", lines + end)
 
