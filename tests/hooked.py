@@ -43,6 +43,9 @@ CLIENTS, PAUSE, WORK, KILLS = 16, 0.04, (0.6, 1.2), 3
 # program tells it of more than 500 in a second.
 EVENTS, LEAST = 1500, 300
 
+# What standard error says, once, of answers that let a request pass and say more.
+IGNORED = "up_server: the hook says StopUpload or HTTPResponse without a rejection, which is ignored"
+
 # What standard error may say of lanes and events.
 SAID = re.compile(r"up_server: (lane \d+ (waits with its last event|goes on)|.* is sent again.*)")
 
@@ -54,12 +57,13 @@ class Hooked(stored.Plain):
         hook_words = ["--hooks-http", url, "--hooks-http-timeout", str(timeout)]
         super().__init__(program, "--lanes", str(lanes), *hook_words, *words)
 
-    def finish(self):
-        """Ends in order with status 0. Returns the lines of events, and the report from its first number on."""
+    def finish(self, *lines):
+        """Ends in order with status 0. Beside what may be said of lanes and events, standard error has these lines.
+        Returns the lines of events, and the report from its first number on."""
         self.end()
         same(self.process.wait(MAX_BUSY), 0, "the status")
         said = self.process.stderr.read().decode().splitlines()
-        same([line for line in said if not SAID.fullmatch(line)], [], "what else is said")
+        same([line for line in said if not SAID.fullmatch(line)], [*lines], "what else is said")
         return self.output().rpartition("\naccepted ")[::2]
 
 
@@ -183,7 +187,8 @@ def answers():
 
 
 def later_answers():
-    """What is rejected as an upload is completed or removed isn't done, and may be asked for again."""
+    """What is rejected as an upload is completed or removed isn't done, and may be asked for again. What an answer says
+    without a rejection is ignored, which is said once."""
     with HookServer() as hooks, Hooked(hooks.url) as server, Connection(server) as client:
         path = made(client).fields["location"]
         same(client.append(path, 0, b"a").status, 204, "the status of a PATCH that completes nothing")
@@ -197,7 +202,9 @@ def later_answers():
             same(client.ask("GET", path).status, 200 if status != 204 else 404, "the status of a GET then")
         events = ["post-create 0/3", "post-receive 1/3", "post-receive 3/3", "post-finish 3/3", "post-terminate 3/3"]
         same(told(hooks, 5), numbered(events), "the events")
-        server.finish()
+        hooks.verdict = lambda note: {"StopUpload": True}
+        same(made(client).status, 201, "the status of a POST after StopUpload")
+        server.finish(IGNORED)
 
 
 def fields():
