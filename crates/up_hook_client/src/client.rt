@@ -1,7 +1,9 @@
 //! A hook server, as it is asked and told.
 ghost use Rattle.std.specs.Prelude.{◌≡◌, IfOk, IfSome, string_bytes};
+ghost use Rattle.std.specs.Option.{option_or};
 ghost use Rattle.up_hook_client.specs.Answers.{asked_of};
-ghost use Rattle.up_hook_client.specs.Judgements.{asked_by, point_of};
+ghost use Rattle.up_hook_client.specs.Judgements.{answer_of, asked_by, point_of};
+ghost use Rattle.up_hook_client.specs.Told.{AsksAbout};
 
 use crate::connection::{Answer, Connection};
 use crate::deadline::Deadline;
@@ -97,6 +99,8 @@ impl<R: Net<Listener = TcpListener, Stream = TcpStream> + Clock + Eprint + Alloc
     pub fn judge(&self, ask: &Ask, origin: &Origin) -> Judged
         ensures enabled { asked_by result ≡ self.now.enabled }
         ensures point { point_of result ≡ ask.now.point }
+        ensures asked { IfSome (answer_of result) (λ answer.
+            AsksAbout ask.now (option_or ask.now.target origin.now.id) (asked_of answer)) }
     {
         if !self.enabled.asks_at(ask.point) {
             return Judged::unasked(self.enabled, ask.point);

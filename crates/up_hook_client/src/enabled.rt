@@ -1,5 +1,5 @@
 //! Which hooks a hook server is asked or told of.
-ghost use Rattle.std.specs.Prelude.{◌≡◌};
+ghost use Rattle.std.specs.Prelude.{◌≡◌, IsTrue, true};
 ghost use Rattle.up_hook_client.specs.Chosen.{is_asked_at, is_told_of};
 
 use up_events::Hook;
@@ -19,7 +19,10 @@ pub struct Enabled {
 
 impl Enabled {
     /// All hooks if `enabled`, else none.
-    fn each(enabled: bool) -> Self {
+    fn each(enabled: bool) -> Self
+        ensures asked { (point : _) → is_asked_at result point ≡ enabled }
+        ensures told { (hook : _) → is_told_of result hook ≡ enabled }
+    {
         Enabled {
             pre_create: enabled,
             pre_finish: enabled,
@@ -32,7 +35,10 @@ impl Enabled {
     }
 
     /// All hooks.
-    pub fn all() -> Self {
+    pub fn all() -> Self
+        ensures asked { (point : _) → is_asked_at result point ≡ true }
+        ensures told { (hook : _) → is_told_of result hook ≡ true }
+    {
         Enabled::each(true)
     }
 
@@ -75,7 +81,9 @@ impl Enabled {
     }
 
     /// Whether the server is told of any events.
-    pub fn tells_of_any(self) -> bool {
+    pub fn tells_of_any(self) -> bool
+        ensures { (hook : _) → is_told_of self hook ≡ true → IsTrue result }
+    {
         self.post_create || self.post_receive || self.post_finish || self.post_terminate
     }
 

@@ -232,7 +232,9 @@ impl Judged {
     }
 
     /// Whether the request may pass.
-    pub fn lets_pass(&self) -> bool {
+    pub fn lets_pass(&self) -> bool
+        ensures { IsTrue result ↔ (said_by self.now ≡ Allow) }
+    {
         self.verdict == Verdict::Allow
     }
 
