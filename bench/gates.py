@@ -9,17 +9,21 @@ Each tree is a clean clone of its own, and each has the same number of jobs. Wha
 provers for a crate's proof, for its tests, for its edits and for making a program of it, and of all other processes
 together. They are looked at five times a second, so the last fraction of a second of each is missed. Do nothing else
 meanwhile: beside other work a prover takes up to twice the processor time.
+
+While it runs, `kill -USR1` with its number makes it say what it has counted so far.
 """
 import argparse
 import collections
 import os
+import signal
 import subprocess
 import sys
 import time
 
 KINDS = ["proof", "tests", "edits", "program"]
-# Says which tree a process works for. It inherits this from the run that began it.
-MARK = "UP_GATE_TREE"
+# Says which tree a process works for. It inherits this from the run that began it. The number keeps two of these scripts
+# from counting each other's runs.
+MARK = f"UP_GATE_TREE_OF_{os.getpid()}"
 # Linkers, programs that are run, and `rt` itself.
 OTHERS = "(others)"
 
@@ -117,6 +121,17 @@ def show(tree, times, without):
     print(f"{sum(sums.values()) / 60:.0f} processor minutes")
 
 
+def show_all(given, works, used):
+    """Prints the times of all trees, as far as they were counted."""
+    times = [collections.defaultdict(collections.Counter) for _ in given.trees]
+    for key, seconds in used.items():
+        number, crate, kind = works[key]
+        times[number][crate][kind] += seconds
+    for tree, kinds in zip(given.trees, times):
+        show(tree, kinds, given.without.split(","))
+    sys.stdout.flush()
+
+
 def main():
     """Runs the gates, looks at their processes until all have ended, and prints what they took."""
     parser = argparse.ArgumentParser(description=__doc__, formatter_class=argparse.RawDescriptionHelpFormatter)
@@ -126,17 +141,16 @@ def main():
     parser.add_argument("--without", default="", help="crates that are left out of the sums, with commas between them")
     given = parser.parse_args()
     words = words_of(given.crates)
+    works, used, asked = {}, {}, []
+    signal.signal(signal.SIGUSR1, lambda *_: asked.append(True))
     runs = [begin(number, tree, given, words) for number, tree in enumerate(given.trees)]
-    works, used = {}, {}
     while any(run.poll() is None for run in runs):
         look(works, used)
+        if asked:
+            asked.clear()
+            show_all(given, works, used)
         time.sleep(0.2)
-    times = [collections.defaultdict(collections.Counter) for _ in runs]
-    for key, seconds in used.items():
-        number, crate, kind = works[key]
-        times[number][crate][kind] += seconds
-    for tree, kinds in zip(given.trees, times):
-        show(tree, kinds, given.without.split(","))
+    show_all(given, works, used)
     sys.exit(any(run.returncode for run in runs))
 
 
