@@ -26,6 +26,7 @@ import threading
 import time
 
 import crashed
+import exchanges
 import operators
 import stored
 from copied import HEAPED, PIECE, Lone
@@ -398,6 +399,32 @@ def stock():
     return f"{rate:,.0f} events a second"
 
 
+def acknowledged():
+    """A whole answer of a status of 200 to 299 acknowledges an event, whatever its body is. After any other one the
+    same event is sent again."""
+    exchanges.acknowledged(Hooked)
+
+
+def until_end():
+    """An answer that lasts until the connection is closed is read as any other."""
+    exchanges.until_end(Hooked)
+
+
+def kept():
+    """A connection carries one event after another, and another one carries one question after another."""
+    exchanges.kept(Hooked)
+
+
+def chosen():
+    """Those hooks are asked and told that a list names, which may have spaces and name a hook twice."""
+    exchanges.chosen(Hooked)
+
+
+def texts():
+    """What is asked and told are texts in the form of tusd, without spaces, with the names of each object in order."""
+    exchanges.texts(Hooked)
+
+
 def example():
     """examples/hooks refuses by key and name, and stores and removes what is complete. That is to be paid for once,
     also if the example was killed before it had written so."""
@@ -416,5 +443,8 @@ given.add_argument("names", nargs="*", metavar="NAME", help="the cases to be tri
 given = given.parse_args()
 program, rounds = os.path.abspath(given.program or build()), given.rounds
 
-CASES = [faults, kills, answers, later_answers, fields, enabled, created, away, silent, lines, stock, example, tusd]
+CASES = [
+    faults, kills, answers, later_answers, fields, enabled, created, away, silent, lines, stock, acknowledged, until_end,
+    kept, chosen, texts, example, tusd,
+]
 sys.exit(try_all(CASES, given.names))

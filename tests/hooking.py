@@ -83,7 +83,7 @@ class Note:
     request was allowed."""
 
     def __init__(self, head, body):
-        self.head, said = head, json.loads(body)
+        self.head, self.body, said = head, body, json.loads(body)
         same(set(said), {"Type", "Event"}, "what is said")
         self.hook, self.event = said["Type"], said["Event"]
         self.is_pre = self.hook in METHODS

@@ -1,9 +1,9 @@
 -- What a hook server is told and asked, in the form of tusd's hooks.
-use Rattle.std.specs.Prelude.{◌≡◌, ℕ, Bool, true, false, List, [], ◌∷◌, map, codes, Option, Some, None, is_none, unwrap_or}
+use Rattle.std.specs.Prelude.{◌≡◌, ℕ, Bool, true, false, List, [], ◌∷◌, ◌++◌, map, codes, decimal, Option, Some, None, is_none, unwrap_or}
 use Rattle.std.specs.Str.Lossy.{utf8_lossy}
 use Rattle.serde_json.specs.Data.{Data, null, boolean, number, unsigned, string, array, object, Members, no_members, member, put}
 use Rattle.serde_json.specs.View.{items_of}
-use Rattle.serde_json.specs.Written.{IsInOrder}
+use Rattle.serde_json.specs.Written.{IsInOrder, compact_text}
 use Rattle.up_events.specs.IdText.{text_of}
 use Rattle.up_events.specs.Names.{name_of}
 use Rattle.up_events.specs.declared.event.Event.{Event}
@@ -78,21 +78,18 @@ abbrev pub event_upload : Event → Details → Data → Data
 event_upload event details parts =
     upload_data (text_of event.id) (details_kind details) (metadata (details_pairs details)) parts event.offset event.length
 
--- what is told of an event
-abbrev pub event_data : Event → Data → Data
-event_data event upload =
-    object
-    (member (codes "Event")
-    (object
-    (member (codes "HTTPRequest") null
-    (member (codes "Number") (number (unsigned event.number)) (member (codes "Upload") upload no_members))))
-    (member (codes "Type") (string (name_of event.hook)) no_members))
+-- the text that tells of an event, with that of its upload
+abbrev pub event_line : Event → List ℕ → List ℕ
+event_line event upload =
+    codes "{\"Event\":{\"HTTPRequest\":null,\"Number\":" ++ (decimal event.number ++ (codes ",\"Upload\":" ++ (upload
+    ++ (codes "},\"Type\":\"" ++ (name_of event.hook ++ codes "\"}")))))
 
--- the bytes tell of the event, and of what its upload was created with
+-- the bytes tell of the event, and of what its upload was created with: JSON without spaces, with the names of each
+-- object in order
 abbrev pub TellsOf : Event → Details → List ℕ → Type 0
 TellsOf event details bytes =
     (parts : Data) × AreParts (details_concat details) parts
-    × IsInOrder bytes (event_data event (event_upload event details parts))
+    × (bytes ≡ event_line event (compact_text (event_upload event details parts)))
 
 -- the text of an id; empty if there is none
 abbrev pub id_text : Option ℕ → List ℕ
@@ -103,16 +100,14 @@ id_text (Some id) = text_of id
 abbrev pub ask_upload : Ask → Option ℕ → Data → Data
 ask_upload ask id parts = upload_data (id_text id) ask.kind (metadata ask.pairs) parts ask.offset ask.length
 
--- what is asked, with what is told of the request
-abbrev pub ask_data : Ask → Data → Data → Data
-ask_data ask upload request =
-    object
-    (member (codes "Event")
-    (object (member (codes "HTTPRequest") request (member (codes "Upload") upload no_members)))
-    (member (codes "Type") (string (point_name ask.point)) no_members))
+-- the text that asks at a point, with those of what is told of the request, and of the upload
+abbrev pub ask_line : Point → List ℕ → List ℕ → List ℕ
+ask_line point request upload =
+    codes "{\"Event\":{\"HTTPRequest\":" ++ (request ++ (codes ",\"Upload\":" ++ (upload
+    ++ (codes "},\"Type\":\"" ++ (point_name point ++ codes "\"}")))))
 
--- the bytes ask about an upload with this id
+-- the bytes ask about an upload with this id, in such JSON
 abbrev pub AsksAbout : Ask → Option ℕ → List ℕ → Type 0
 AsksAbout ask id bytes =
-    (parts : Data) × (request : Data) × AreParts ask.concat parts
-    × IsInOrder bytes (ask_data ask (ask_upload ask id parts) request)
+    (parts : Data) × (request : Data) × (told : List ℕ) × AreParts ask.concat parts × IsInOrder told request
+    × (bytes ≡ ask_line ask.point told (compact_text (ask_upload ask id parts)))

@@ -40,17 +40,17 @@ impl<R: Net<Listener = TcpListener, Stream = TcpStream> + Clock + AllocGlobal> H
     /// while it was idle, so that a new one is needed.
     fn exchange_again(
         &self,
-        kept: &mut Option<TcpStream>,
+        kept: &mut Option<Connection>,
         text: &String,
         deadline: Deadline<'_>,
     ) -> Option<Result<Answer, NoAnswer>>
         ensures asked { IfSome result (λ came. IfOk came
             (λ answer. asked_of answer ≡ string_bytes text.now)) }
     {
-        let mut connection = Connection::over(&self.rt, kept.take()?);
+        let mut connection = kept.take()?;
         match connection.ask(&self.rt, &self.server, text, deadline) {
             Ok(answer) => {
-                *kept = connection.into_idle();
+                *kept = Some(connection).filter(Connection::is_idle);
                 Some(Ok(answer))
             }
             Err(NoAnswer::Late) => Some(Err(NoAnswer::Late)),
@@ -64,7 +64,7 @@ impl<R: Net<Listener = TcpListener, Stream = TcpStream> + Clock + AllocGlobal> H
     /// milliseconds of the system's clock, and 0 while nobody knows it. The connection is kept if it can be used again.
     pub fn exchange(
         &self,
-        kept: &mut Option<TcpStream>,
+        kept: &mut Option<Connection>,
         text: &String,
         end: Option<&AtomicU64>,
     ) -> Result<Answer, NoAnswer>
@@ -76,7 +76,7 @@ impl<R: Net<Listener = TcpListener, Stream = TcpStream> + Clock + AllocGlobal> H
         }
         let mut connection = Connection::open(&self.rt, &self.server, deadline)?;
         let answer = connection.ask(&self.rt, &self.server, text, deadline)?;
-        *kept = connection.into_idle();
+        *kept = Some(connection).filter(Connection::is_idle);
         Ok(answer)
     }
 }
@@ -109,9 +109,11 @@ impl<R: Net<Listener = TcpListener, Stream = TcpStream> + Clock + Eprint + Alloc
         let Ok(text) = ask_text(alloc, ask, origin, self.forwarded.as_slice()) else {
             return Judged::unanswered(self.enabled, ask.point);
         };
-        let mut kept = origin.take();
+        let mut kept = origin
+            .take()
+            .map(|stream| Connection::over(&self.rt, stream));
         let came = self.exchange(&mut kept, &text, None);
-        origin.leave(kept);
+        origin.leave(kept.map(Connection::into_stream));
         match came {
             Ok(answer) => {
                 let says_more = says_more(alloc, &answer);

@@ -13,7 +13,7 @@ use std::io::Write;
 use std::net::{Net, TcpListener, TcpStream, ToSocketAddrs};
 use std::os::fd::AsRawFd;
 use std::snapshot::Snapshot;
-use std::time::Clock;
+use std::time::{Clock, Duration};
 
 /// The most fields of the head of an answer.
 const MAX_FIELDS: usize = 64;
@@ -72,10 +72,14 @@ struct Coming {
 pub struct Connection {
     stream: TcpStream,
     client: Client,
+    /// The bytes of the request that are still to be sent.
+    output: BytesMut,
     /// The bytes that arrived and were not taken yet.
     input: BytesMut,
     /// Whether a byte of the answer to the last request has arrived.
     has_begun: bool,
+    /// How long the system was last told to wait in a write or a read. Zero if it wasn't told yet.
+    patience: Duration,
 }
 
 /// Connects to the first address of the host that answers. The error is that of the last one.
@@ -94,9 +98,9 @@ fn connect<R: Net<Listener = TcpListener, Stream = TcpStream> + Clock>(
     Err(last)
 }
 
-/// Has the system acknowledge at once what arrives next. A server that writes the head and the body of an answer apart
+/// Has the system acknowledge at once what has arrived. A server that writes the head and the body of an answer apart
 /// waits with the second one for the acknowledgement of the first, which else comes 40 ms later. The system forgets
-/// this, so it is said before each read.
+/// this, so it is said before each read but the first one of an answer.
 fn acknowledge_at_once(stream: &TcpStream) {
     let fd = stream.as_raw_fd();
     let _ = unsafe { setsockopt(fd, IPPROTO_TCP, TCP_QUICKACK, &ON, 4) };
@@ -119,18 +123,21 @@ impl Connection {
         Connection {
             stream,
             client: Client::new(Limits::default()),
+            output: BytesMut::new(rt.alloc()),
             input: BytesMut::new(rt.alloc()),
             has_begun: false,
+            patience: Duration::ZERO,
         }
     }
 
-    /// The socket, if another request can be sent.
-    pub fn into_idle(self) -> Option<TcpStream> {
-        if self.client.is_idle() && self.input.is_empty() {
-            Some(self.stream)
-        } else {
-            None
-        }
+    /// Whether another request can be sent.
+    pub fn is_idle(&self) -> bool {
+        self.client.is_idle() && self.input.is_empty()
+    }
+
+    /// The socket.
+    pub fn into_stream(self) -> TcpStream {
+        self.stream
     }
 
     /// Whether a byte of the answer to the last request has arrived.
@@ -148,7 +155,8 @@ impl Connection {
     ) -> Result<Answer, NoAnswer>
         ensures asked { IfOk result (λ answer. asked_of answer ≡ string_bytes text.now) }
     {
-        self.send(rt, server, text.as_bytes(), deadline)?;
+        self.prepare(server, text.as_bytes())?;
+        self.send(rt, deadline)?;
         let Coming { status, body } = self.receive(rt, deadline)?;
         Ok(Answer {
             status,
@@ -157,15 +165,8 @@ impl Connection {
         })
     }
 
-    /// Sends a request with a body in JSON.
-    fn send<R: Clock + AllocGlobal>(
-        &mut self,
-        rt: &R,
-        server: &HookServer,
-        body: &[u8],
-        deadline: Deadline<'_>,
-    ) -> Result<(), NoAnswer> {
-        let mut output = BytesMut::new(rt.alloc());
+    /// Puts a request with a body in JSON into the output.
+    fn prepare(&mut self, server: &HookServer, body: &[u8]) -> Result<(), NoAnswer> {
         let headers = [
             Header {
                 name: b"Host",
@@ -178,14 +179,52 @@ impl Connection {
         ];
         let size = BodySize::Known(body.len() as u64);
         let target = server.target.as_bytes();
-        self.has_begun = false;
+        self.output.clear();
         self.client
-            .write_request(&mut output, b"POST", target, &headers, size)?;
-        self.client.write_data(&mut output, body)?;
-        self.client.write_end(&mut output, &[])?;
-        self.stream.set_write_timeout(Some(deadline.left(rt)?))?;
-        self.stream.write_all(output.as_slice())?;
+            .write_request(&mut self.output, b"POST", target, &headers, size)?;
+        self.client.write_data(&mut self.output, body)?;
+        self.client.write_end(&mut self.output, &[])?;
         Ok(())
+    }
+
+    /// Has a write and a read wait as long as time is left, and for a second at most.
+    fn wait_for<R: Clock>(&mut self, rt: &R, deadline: Deadline<'_>) -> Result<(), NoAnswer> {
+        let slice = deadline.slice(rt)?;
+        if slice != self.patience {
+            self.stream.set_write_timeout(Some(slice))?;
+            self.stream.set_read_timeout(Some(slice))?;
+            self.patience = slice;
+        }
+        Ok(())
+    }
+
+    /// Sends some bytes of the output. Waits for a second at most.
+    fn send_some<R: Clock>(&mut self, rt: &R, deadline: Deadline<'_>) -> Result<(), NoAnswer> {
+        self.wait_for(rt, deadline)?;
+        let count = self.stream.write(self.output.as_slice())?;
+        if count == 0 || count > self.output.len() {
+            return Err(NoAnswer::Cut);
+        }
+        self.output.advance(count);
+        Ok(())
+    }
+
+    /// Sends the output.
+    fn send<R: Clock>(&mut self, rt: &R, deadline: Deadline<'_>) -> Result<(), NoAnswer> {
+        self.has_begun = false;
+        for _ in 0..u64::MAX {
+            if self.output.is_empty() {
+                return Ok(());
+            }
+            match self.send_some(rt, deadline) {
+                Ok(()) => {}
+                Err(NoAnswer::Late) => {
+                    deadline.left(rt)?;
+                }
+                Err(error) => return Err(error),
+            }
+        }
+        Err(NoAnswer::Late)
     }
 
     /// Takes a part of the answer from the bytes that arrived.
@@ -212,8 +251,10 @@ impl Connection {
 
     /// Waits for more bytes of the answer, for a second at most. Returns how many came.
     fn read_some<R: Clock>(&mut self, rt: &R, deadline: Deadline<'_>) -> Result<usize, NoAnswer> {
-        self.stream.set_read_timeout(Some(deadline.slice(rt)?))?;
-        acknowledge_at_once(&self.stream);
+        self.wait_for(rt, deadline)?;
+        if self.has_begun {
+            acknowledge_at_once(&self.stream);
+        }
         Ok(self.input.read_from(&mut self.stream)?)
     }
 

@@ -6,7 +6,7 @@ use up_events::Hook;
 use up_machine::Point;
 
 /// Which hooks a hook server is asked or told of.
-#[derive(Clone, Copy, Debug, PartialEq, Eq)]
+#[derive(Clone, Copy)]
 pub struct Enabled {
     pub pre_create: bool,
     pub pre_finish: bool,

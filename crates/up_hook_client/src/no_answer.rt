@@ -29,10 +29,11 @@ pub enum NoAnswer {
     Memory,
 }
 
+/// A call that a signal has interrupted is made again while there is time, as one is that has waited long enough.
 impl From<io::Error> for NoAnswer {
     fn from(error: io::Error) -> Self {
         match error.kind() {
-            ErrorKind::WouldBlock | ErrorKind::TimedOut => NoAnswer::Late,
+            ErrorKind::WouldBlock | ErrorKind::TimedOut | ErrorKind::Interrupted => NoAnswer::Late,
             ErrorKind::OutOfMemory => NoAnswer::Memory,
             _ => NoAnswer::Failed(error),
         }

@@ -7,7 +7,7 @@ ghost use Rattle.up_machine.specs.Details.{details_id};
 
 use crate::acknowledged::Acknowledged;
 use crate::client::HookClient;
-use crate::connection::Answer;
+use crate::connection::{Answer, Connection};
 use crate::heard::is_acknowledgement;
 use crate::no_answer::NoAnswer;
 use crate::told::event_text;
@@ -29,7 +29,7 @@ pub struct Post<'a, R> {
     client: &'a HookClient<R>,
     /// When the run ends, in milliseconds of the system's clock. 0 while nobody knows.
     end: Option<&'a AtomicU64>,
-    kept: Option<TcpStream>,
+    kept: Option<Connection>,
     acknowledged: Acknowledged,
     /// What the upload of the next event was created with, if that is known.
     details: Option<Details>,
@@ -103,9 +103,10 @@ impl<R: Net<Listener = TcpListener, Stream = TcpStream> + Clock + Eprint + Alloc
     }
 }
 
-impl<
+impl<R> Delivery for Post<'_, R>
+where
     R: Net<Listener = TcpListener, Stream = TcpStream> + Clock + Eprint + AllocGlobal + Sync,
-> Delivery for Post<'_, R> {
+{
     ghost acknowledged = { acknowledged_by };
 
     fn needs_details(&self) -> bool {

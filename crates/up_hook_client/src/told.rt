@@ -1,12 +1,14 @@
 //! What a hook server is told and asked, as JSON in the form of tusd's hooks.
 ghost use Rattle.std.specs.Prelude.{◌≡◌, IfOk, string_bytes};
 ghost use Rattle.std.specs.Option.{option_copied, option_or};
-ghost use Rattle.serde_json.specs.View.{view};
-ghost use Rattle.up_hook_client.specs.Told.{AsksAbout, TellsOf, ask_data, ask_upload};
-ghost use Rattle.up_hook_client.specs.Told.{event_data, event_upload, id_text, point_name};
+ghost use Rattle.serde_json.specs.Data.{Data, string};
+ghost use Rattle.serde_json.specs.Written.{IsInOrder, compact_text};
+ghost use Rattle.up_events.specs.IdText.{text_of};
+ghost use Rattle.up_hook_client.specs.Told.{AsksAbout, TellsOf, ask_line, ask_upload};
+ghost use Rattle.up_hook_client.specs.Told.{event_line, event_upload, id_text, point_name};
 
 use crate::headers::headers_of;
-use crate::upload::{metadata_of, parts_of, upload_value};
+use crate::upload::{metadata_text, parts_text, upload_text};
 use serde_json::{Value, json};
 use std::alloc::{AllocError, Global};
 use up_events::{Event, Id};
@@ -14,40 +16,54 @@ use up_hooks::Origin;
 use up_machine::{Ask, Details, Point};
 use up_message::Sequence;
 
-/// The upload of an event, with its parts.
+/// The text of an id in JSON.
+fn quoted_id(alloc: Global, id: Id) -> Result<String, AllocError>
+    ensures { IfOk result (λ text. string_bytes text ≡ compact_text (string (text_of id))) }
+{
+    format!(in alloc; "\"{id}\"")
+}
+
+/// The text of an event's upload in JSON, with that of its parts.
 fn event_upload(
     alloc: Global,
     event: &Event,
     details: &Details,
-    parts: &Value,
-) -> Result<Value, AllocError>
-    ensures { IfOk result (λ value. view value
-        ≡ event_upload event.now details.now (view parts.now)) }
+    parts: &str,
+) -> Result<String, AllocError>
+    ensures { IfOk result (λ text. (q : Data) → parts.now ≡ compact_text q
+        → string_bytes text ≡ compact_text (event_upload event.now details.now q)) }
 {
-    let id = event.id.to_string(alloc)?;
-    let pairs = metadata_of(alloc, details.pairs())?;
+    let id = quoted_id(alloc, event.id)?;
+    let pairs = metadata_text(alloc, details.pairs())?;
     let (kind, length) = (details.kind(), event.length);
-    upload_value(alloc, &id, kind, &pairs, parts, event.offset, length)
+    upload_text(
+        alloc,
+        id.as_str(),
+        kind,
+        pairs.as_str(),
+        parts,
+        event.offset,
+        length,
+    )
 }
 
-/// The value that tells of an event of this upload.
-fn event_value(alloc: Global, event: &Event, upload: &Value) -> Result<Value, AllocError>
-    ensures { IfOk result (λ value. view value ≡ event_data event.now (view upload.now)) }
+/// The text of an event in JSON, with that of its upload.
+fn event_with(alloc: Global, event: &Event, upload: &str) -> Result<String, AllocError>
+    ensures { IfOk result (λ text. string_bytes text ≡ event_line event.now upload.now) }
 {
-    json!(in alloc; {
-        "Type": event.hook.name(),
-        "Event": {"HTTPRequest": null, "Number": event.number, "Upload": upload}
-    })
+    let (hook, number) = (event.hook.name(), event.number);
+    format!(in alloc;
+        "{{\"Event\":{{\"HTTPRequest\":null,\"Number\":{number},\"Upload\":{upload}}},\"Type\":\"{hook}\"}}"
+    )
 }
 
 /// What is told of an event of an upload that was created with these details. `AllocError` if memory runs out.
 pub fn event_text(alloc: Global, event: &Event, details: &Details) -> Result<String, AllocError>
     ensures { IfOk result (λ text. TellsOf event.now details.now (string_bytes text)) }
 {
-    let parts = parts_of(alloc, details.concat())?;
-    let upload = event_upload(alloc, event, details, &parts)?;
-    let value = event_value(alloc, event, &upload)?;
-    value.to_string(alloc)
+    let parts = parts_text(alloc, details.concat())?;
+    let upload = event_upload(alloc, event, details, parts.as_str())?;
+    event_with(alloc, event, upload.as_str())
 }
 
 /// The name of the hook that is asked at a point.
@@ -61,23 +77,33 @@ fn point_name(point: Point) -> &'static str
     }
 }
 
-/// The text of an id; empty if there is none.
+/// The text of an id in JSON; empty if there is none.
 fn id_text(alloc: Global, id: Option<Id>) -> Result<String, AllocError>
-    ensures { IfOk result (λ text. string_bytes text ≡ id_text id) }
+    ensures { IfOk result (λ text. string_bytes text ≡ compact_text (string (id_text id))) }
 {
     match id {
-        Some(id) => id.to_string(alloc),
-        None => Ok(String::new(alloc)),
+        Some(id) => quoted_id(alloc, id),
+        None => String::from_str(alloc, "\"\""),
     }
 }
 
-/// The upload that a closure is asked about, with its parts.
-fn ask_upload(alloc: Global, ask: &Ask, id: Option<Id>, parts: &Value) -> Result<Value, AllocError>
-    ensures { IfOk result (λ value. view value ≡ ask_upload ask.now id (view parts.now)) }
+/// The text in JSON of the upload that a closure is asked about, with that of its parts.
+fn ask_upload(alloc: Global, ask: &Ask, id: Option<Id>, parts: &str) -> Result<String, AllocError>
+    ensures { IfOk result (λ text. (q : Data) → parts.now ≡ compact_text q
+        → string_bytes text ≡ compact_text (ask_upload ask.now id q)) }
 {
     let id = id_text(alloc, id)?;
-    let pairs = metadata_of(alloc, ask.pairs.as_slice())?;
-    upload_value(alloc, &id, ask.kind, &pairs, parts, ask.offset, ask.length)
+    let pairs = metadata_text(alloc, ask.pairs.as_slice())?;
+    let (kind, length) = (ask.kind, ask.length);
+    upload_text(
+        alloc,
+        id.as_str(),
+        kind,
+        pairs.as_str(),
+        parts,
+        ask.offset,
+        length,
+    )
 }
 
 /// The request that a closure is asked about, with the fields of these names. A target that is no UTF-8 isn't told.
@@ -97,15 +123,23 @@ fn request_of(alloc: Global, origin: &Origin, names: &[String]) -> Result<Value,
     })
 }
 
-/// The value that asks about an upload, with what is told of the request.
-fn ask_value(alloc: Global, ask: &Ask, upload: &Value, request: &Value) -> Result<Value, AllocError>
-    ensures { IfOk result (λ value. view value
-        ≡ ask_data ask.now (view upload.now) (view request.now)) }
+/// The text in JSON of the request that a closure is asked about, with the fields of these names.
+fn request_text(alloc: Global, origin: &Origin, names: &[String]) -> Result<String, AllocError>
+    ensures { IfOk result (λ text. (request : Data) × IsInOrder (string_bytes text) request) }
 {
-    json!(in alloc; {
-        "Type": point_name(ask.point),
-        "Event": {"HTTPRequest": request, "Upload": upload}
-    })
+    let request = request_of(alloc, origin, names)?;
+    request.to_string(alloc)
+}
+
+/// The text in JSON that asks at a point, with those of the upload and of the request.
+fn ask_with(alloc: Global, ask: &Ask, upload: &str, request: &str) -> Result<String, AllocError>
+    ensures { IfOk result (λ text. string_bytes text
+        ≡ ask_line ask.now.point request.now upload.now) }
+{
+    let hook = point_name(ask.point);
+    format!(in alloc;
+        "{{\"Event\":{{\"HTTPRequest\":{request},\"Upload\":{upload}}},\"Type\":\"{hook}\"}}"
+    )
 }
 
 /// The bytes of a text, if there is one.
@@ -129,9 +163,8 @@ pub fn ask_text(
     ensures { IfOk result (λ text.
         AsksAbout ask.now (option_or ask.now.target origin.now.id) (string_bytes text)) }
 {
-    let parts = parts_of(alloc, bytes_of(&ask.concat))?;
-    let upload = ask_upload(alloc, ask, ask.target.or(origin.id), &parts)?;
-    let request = request_of(alloc, origin, names)?;
-    let value = ask_value(alloc, ask, &upload, &request)?;
-    value.to_string(alloc)
+    let parts = parts_text(alloc, bytes_of(&ask.concat))?;
+    let upload = ask_upload(alloc, ask, ask.target.or(origin.id), parts.as_str())?;
+    let request = request_text(alloc, origin, names)?;
+    ask_with(alloc, ask, upload.as_str(), request.as_str())
 }

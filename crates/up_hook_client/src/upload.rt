@@ -1,21 +1,20 @@
 //! What a hook server is told of an upload.
-ghost use Rattle.std.specs.Prelude.{◌≡◌, IfOk, string_bytes};
+ghost use Rattle.std.specs.Prelude.{◌≡◌, List, ℕ, IfOk, is_none, string_bytes};
 ghost use Rattle.std.specs.Option.{option_copied};
+ghost use Rattle.serde_json.specs.Data.{Data, boolean, string};
 ghost use Rattle.serde_json.specs.View.{view};
+ghost use Rattle.serde_json.specs.Written.{compact_text};
 ghost use Rattle.up_hook_client.specs.Told.{AreParts, id_strings, is_final, is_partial};
 ghost use Rattle.up_hook_client.specs.Told.{metadata, upload_data};
 
-use serde_json::{Map, Value, json};
+use serde_json::{Map, Value};
 use std::alloc::{AllocError, Global};
 use up_events::{Id, Kind};
 use up_headers::concat_of;
 use up_message::Sequence;
 
 /// The pairs of metadata, as an object. What is no UTF-8 is replaced, and of two keys that become one the later counts.
-pub fn metadata_of(
-    alloc: Global,
-    pairs: &[(Sequence<u8>, Sequence<u8>)],
-) -> Result<Value, AllocError>
+fn metadata_of(alloc: Global, pairs: &[(Sequence<u8>, Sequence<u8>)]) -> Result<Value, AllocError>
     ensures { IfOk result (λ value. view value ≡ metadata pairs.now) }
 {
     let mut members = Map::new(alloc);
@@ -25,6 +24,17 @@ pub fn metadata_of(
         serde_json::put(&mut members, alloc, key.as_str(), Value::String(value))?;
     }
     Ok(Value::Object(members))
+}
+
+/// The pairs of metadata, as an object in JSON.
+pub fn metadata_text(
+    alloc: Global,
+    pairs: &[(Sequence<u8>, Sequence<u8>)],
+) -> Result<String, AllocError>
+    ensures { IfOk result (λ text. string_bytes text ≡ compact_text (metadata pairs.now)) }
+{
+    let members = metadata_of(alloc, pairs)?;
+    members.to_string(alloc)
 }
 
 /// The texts of ids, as a list.
@@ -40,7 +50,7 @@ fn id_strings(alloc: Global, ids: &[Id]) -> Result<Value, AllocError>
 
 /// The parts of a final upload, from the text of its `Upload-Concat` (tus 1.0.0, Concatenation); `null` for any other
 /// upload.
-pub fn parts_of(alloc: Global, concat: Option<&[u8]>) -> Result<Value, AllocError>
+fn parts_of(alloc: Global, concat: Option<&[u8]>) -> Result<Value, AllocError>
     ensures { IfOk result (λ value. AreParts (option_copied concat.entry) (view value)) }
 {
     match concat_of(alloc, concat.unwrap_or(b""))? {
@@ -49,42 +59,70 @@ pub fn parts_of(alloc: Global, concat: Option<&[u8]>) -> Result<Value, AllocErro
     }
 }
 
-/// Whether an upload is joined of parts.
-fn is_final(kind: Kind) -> bool
-    ensures { result ≡ is_final kind }
+/// The parts of a final upload in JSON, from the text of its `Upload-Concat`.
+pub fn parts_text(alloc: Global, concat: Option<&[u8]>) -> Result<String, AllocError>
+    ensures { IfOk result (λ text. (parts : Data) × AreParts (option_copied concat.entry) parts
+        × (string_bytes text ≡ compact_text parts)) }
 {
-    kind == Kind::Final
+    let parts = parts_of(alloc, concat)?;
+    parts.to_string(alloc)
 }
 
-/// Whether an upload is a part.
-fn is_partial(kind: Kind) -> bool
-    ensures { result ≡ is_partial kind }
+/// A truth value in JSON.
+fn word_of(is_so: bool) -> &'static str
+    ensures { result.now ≡ compact_text (boolean is_so) }
 {
-    kind == Kind::Partial
+    if is_so { "true" } else { "false" }
 }
 
-/// An upload, with the text of its id.
-pub fn upload_value(
+/// Whether an upload is joined of parts, in JSON.
+fn final_text(kind: Kind) -> &'static str
+    ensures { result.now ≡ compact_text (boolean (is_final kind)) }
+{
+    word_of(kind == Kind::Final)
+}
+
+/// Whether an upload is a part, in JSON.
+fn partial_text(kind: Kind) -> &'static str
+    ensures { result.now ≡ compact_text (boolean (is_partial kind)) }
+{
+    word_of(kind == Kind::Partial)
+}
+
+/// Whether a length isn't known yet, in JSON.
+fn deferred_text(length: Option<u64>) -> &'static str
+    ensures { result.now ≡ compact_text (boolean (is_none length)) }
+{
+    match length {
+        Some(_) => "false",
+        None => "true",
+    }
+}
+
+/// The text of an upload in JSON, with those of its id, its metadata and its parts.
+pub fn upload_text(
     alloc: Global,
-    id: &String,
+    id: &str,
     kind: Kind,
-    pairs: &Value,
-    parts: &Value,
+    pairs: &str,
+    parts: &str,
     offset: u64,
     length: Option<u64>,
-) -> Result<Value, AllocError>
-    ensures { IfOk result (λ value. view value
-        ≡ upload_data (string_bytes id.now) kind (view pairs.now) (view parts.now) offset length) }
+) -> Result<String, AllocError>
+    ensures { IfOk result (λ text. (n : List ℕ) (p : Data) (q : Data)
+        → id.now ≡ compact_text (string n) → pairs.now ≡ compact_text p
+        → parts.now ≡ compact_text q
+        → string_bytes text ≡ compact_text (upload_data n kind p q offset length)) }
 {
-    json!(in alloc; {
-        "ID": id,
-        "IsFinal": is_final(kind),
-        "IsPartial": is_partial(kind),
-        "MetaData": pairs,
-        "Offset": offset,
-        "PartialUploads": parts,
-        "Size": length.unwrap_or(0),
-        "SizeIsDeferred": length.is_none(),
-        "Storage": null
-    })
+    let (is_final, is_partial) = (final_text(kind), partial_text(kind));
+    let mut text = format!(in alloc;
+        "{{\"ID\":{id},\"IsFinal\":{is_final},\"IsPartial\":{is_partial},\"MetaData\":{pairs}"
+    )?;
+    let (size, is_deferred) = (length.unwrap_or(0), deferred_text(length));
+    write!(
+        text,
+        ",\"Offset\":{offset},\"PartialUploads\":{parts},\"Size\":{size},\
+        \"SizeIsDeferred\":{is_deferred},\"Storage\":null}}"
+    )?;
+    Ok(text)
 }

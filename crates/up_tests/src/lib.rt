@@ -16,8 +16,6 @@ mod conversations;
 #[cfg(test)]
 mod desk;
 #[cfg(test)]
-mod details;
-#[cfg(test)]
 mod failing;
 #[cfg(test)]
 mod fifteen;
@@ -31,12 +29,6 @@ mod gates;
 mod handing;
 #[cfg(test)]
 mod heads;
-#[cfg(test)]
-mod hook_names;
-#[cfg(test)]
-mod hook_server;
-#[cfg(test)]
-mod hook_texts;
 #[cfg(test)]
 mod hooks;
 #[cfg(test)]

@@ -1,16 +1,14 @@
-use Rattle.std.proofs.Common.{ap, ◌∙◌, subst, string_bytes}
+use Rattle.std.proofs.Common.{ap, ◌∙◌, subst}
 use Rattle.std.proofs.lemmas.Result.{IfOk-weaker}
-use Rattle.serde_json.specs.View.{view}
-use Rattle.serde_json.specs.Written.{IsInOrder}
-use Rattle.up_hook_client.specs.Told.{AreParts, event_data}
+use Rattle.up_hook_client.specs.Told.{AreParts, event_line}
 use Rattle.up_hook_client.proofs.told.event_text.Goals as goal
 
 pub returns : goal.returns
 returns c =
-    let parts = view c.in_ok-parts.parts in
-    let said = c.in_ok-value.ensures ∙ ap (event_data c.args.event.now) c.in_ok-upload.ensures in
-    IfOk-weaker c.to_string.result _ _ (λ text order. (
-      parts,
-      subst (λ t. AreParts t parts) c.concat.ensures c.in_ok-parts.ensures,
-      subst (IsInOrder (string_bytes text)) said order,
-    )) c.to_string.ensures.order
+    let parts = c.in_ok-parts.ensures in
+    let upload = c.in_ok-upload.ensures parts.0 (c.as_str.ensures.value ∙ parts.2) in
+    IfOk-weaker c.event_with.result _ _ (λ text said. (
+      parts.0,
+      subst (λ t. AreParts t parts.0) c.concat.ensures parts.1,
+      said ∙ ap (event_line c.args.event.now) (c.as_str-2.ensures.value ∙ upload),
+    )) c.event_with.ensures
