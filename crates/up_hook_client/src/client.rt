@@ -8,7 +8,7 @@ ghost use Rattle.up_hook_client.specs.Told.{AsksAbout};
 use crate::connection::{Answer, Connection};
 use crate::deadline::Deadline;
 use crate::enabled::Enabled;
-use crate::heard::{Judged, says_more};
+use crate::heard::Judged;
 use crate::no_answer::NoAnswer;
 use crate::server::HookServer;
 use crate::told::ask_text;
@@ -116,9 +116,8 @@ impl<R: Net<Listener = TcpListener, Stream = TcpStream> + Clock + Eprint + Alloc
         origin.leave(kept.map(Connection::into_stream));
         match came {
             Ok(answer) => {
-                let says_more = says_more(alloc, &answer);
                 let judged = Judged::of(alloc, self.enabled, ask, origin, answer);
-                if says_more && judged.lets_pass() {
+                if judged.ignores_something() {
                     self.remark();
                 }
                 judged

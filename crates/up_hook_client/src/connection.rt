@@ -287,7 +287,12 @@ impl Connection {
             body: Vec::new(rt.alloc()),
         };
         for _ in 0..u64::MAX {
-            match self.take(&mut coming)? {
+            let step = if self.has_begun {
+                self.take(&mut coming)?
+            } else {
+                Step::Nothing
+            };
+            match step {
                 Step::End => return Ok(coming),
                 Step::Part => {}
                 Step::Nothing => {

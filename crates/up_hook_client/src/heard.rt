@@ -108,16 +108,10 @@ fn changes_nothing(value: &Value) -> bool
     is_empty_at(value, "ChangeFileInfo")
 }
 
-/// Whether the answer says something that is ignored if it rejects nothing: that the upload is to stop, or what is to be
-/// answered to the client. False if memory runs out.
-pub fn says_more(alloc: Global, answer: &Answer) -> bool {
-    let Ok(text) = str::from_utf8(answer.body()) else {
-        return false;
-    };
-    match Value::from_str(alloc, text) {
-        Ok(value) => !is_false_at(&value, "StopUpload") || !is_empty_at(&value, "HTTPResponse"),
-        Err(_) => false,
-    }
+/// Whether an answer says something that is ignored if it rejects nothing: that the upload is to stop, or what is to be
+/// answered to the client.
+fn says_more(value: &Value) -> bool {
+    !is_false_at(value, "StopUpload") || !is_empty_at(value, "HTTPResponse")
 }
 
 /// Whether an answer rejects nothing at this point.
@@ -149,20 +143,20 @@ fn verdict_in(value: &Value, point: Point) -> Verdict
     Verdict::Allow
 }
 
-/// The verdict of a hook server's answer to what it was asked at this point.
-fn verdict_of(alloc: Global, point: Point, answer: &Answer) -> Verdict
-    ensures lawful { IsTrue (is_allowed_verdict result) }
-    ensures allows { result ≡ Allow → Allows point (status_of answer.now) (body_of answer.now) }
+/// The verdict of a hook server's answer to what it was asked at this point, and whether the answer says more.
+fn verdict_of(alloc: Global, point: Point, answer: &Answer) -> (Verdict, bool)
+    ensures lawful { IsTrue (is_allowed_verdict result.0) }
+    ensures allows { result.0 ≡ Allow → Allows point (status_of answer.now) (body_of answer.now) }
 {
     if !is_acknowledgement(answer) {
-        return refuse(UNANSWERED, b"the hook has failed");
+        return (refuse(UNANSWERED, b"the hook has failed"), false);
     }
     let Ok(text) = str::from_utf8(answer.body()) else {
-        return refuse(UNANSWERED, b"the hook's answer is no JSON");
+        return (refuse(UNANSWERED, b"the hook's answer is no JSON"), false);
     };
     match Value::from_str(alloc, text) {
-        Ok(value) => verdict_in(&value, point),
-        Err(_) => refuse(UNANSWERED, b"the hook's answer is no JSON"),
+        Ok(value) => (verdict_in(&value, point), says_more(&value)),
+        Err(_) => (refuse(UNANSWERED, b"the hook's answer is no JSON"), false),
     }
 }
 
@@ -174,6 +168,8 @@ pub struct Judged {
     enabled: Enabled,
     point: Point,
     verdict: Verdict,
+    /// Whether the answer says something that is ignored if it rejects nothing.
+    says_more: bool,
     answer: Option<Answer>,
     ghost lawful: { IsTrue (is_allowed_verdict verdict) },
     pub ghost allows: { ∥ (is_asked_at enabled point ≡ true → verdict ≡ Allow
@@ -192,11 +188,12 @@ impl Judged {
     {
         // For the prover: the request is the one that the server was asked about.
         let _ = origin;
-        let verdict = verdict_of(alloc, ask.point, &answer);
+        let (verdict, says_more) = verdict_of(alloc, ask.point, &answer);
         Judged {
             enabled,
             point: ask.point,
             verdict,
+            says_more,
             answer: Some(answer),
         }
     }
@@ -212,6 +209,7 @@ impl Judged {
             enabled,
             point,
             verdict,
+            says_more: false,
             answer: None,
         }
     }
@@ -227,6 +225,7 @@ impl Judged {
             enabled,
             point,
             verdict: Verdict::Allow,
+            says_more: false,
             answer: None,
         }
     }
@@ -236,6 +235,11 @@ impl Judged {
         ensures { IsTrue result ↔ (said_by self.now ≡ Allow) }
     {
         self.verdict == Verdict::Allow
+    }
+
+    /// Whether the request may pass though the answer says something that is ignored then.
+    pub fn ignores_something(&self) -> bool {
+        self.lets_pass() && self.says_more
     }
 
     /// The verdict, which refuses only as a closure may.

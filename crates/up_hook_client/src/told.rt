@@ -9,12 +9,15 @@ ghost use Rattle.up_hook_client.specs.Told.{event_line, event_upload, id_text, p
 
 use crate::headers::headers_of;
 use crate::upload::{metadata_text, parts_text, upload_text};
-use serde_json::{Value, json};
+use serde_json::{Map, Value, put};
 use std::alloc::{AllocError, Global};
 use up_events::{Event, Id};
 use up_hooks::Origin;
 use up_machine::{Ask, Details, Point};
 use up_message::Sequence;
+
+/// How many bytes a text has at most beside those of the upload and of the request.
+const ROOM: usize = 128;
 
 /// The text of an id in JSON.
 fn quoted_id(alloc: Global, id: Id) -> Result<String, AllocError>
@@ -52,9 +55,12 @@ fn event_with(alloc: Global, event: &Event, upload: &str) -> Result<String, Allo
     ensures { IfOk result (λ text. string_bytes text ≡ event_line event.now upload.now) }
 {
     let (hook, number) = (event.hook.name(), event.number);
-    format!(in alloc;
+    let mut text = String::with_capacity(alloc, ROOM.saturating_add(upload.len()))?;
+    write!(
+        text,
         "{{\"Event\":{{\"HTTPRequest\":null,\"Number\":{number},\"Upload\":{upload}}},\"Type\":\"{hook}\"}}"
-    )
+    )?;
+    Ok(text)
 }
 
 /// What is told of an event of an upload that was created with these details. `AllocError` if memory runs out.
@@ -106,21 +112,26 @@ fn ask_upload(alloc: Global, ask: &Ask, id: Option<Id>, parts: &str) -> Result<S
     )
 }
 
+/// These bytes as text; none if they are no UTF-8.
+fn utf8_of(alloc: Global, bytes: &[u8]) -> Result<String, AllocError> {
+    String::from_str(alloc, str::from_utf8(bytes).unwrap_or(""))
+}
+
 /// The request that a closure is asked about, with the fields of these names. A target that is no UTF-8 isn't told.
 fn request_of(alloc: Global, origin: &Origin, names: &[String]) -> Result<Value, AllocError> {
     let headers = headers_of(alloc, origin.fields.as_slice(), names)?;
-    let method = str::from_utf8(origin.method.as_slice()).unwrap_or("");
-    let target = str::from_utf8(origin.target.as_slice()).unwrap_or("");
     let client = match &origin.client {
         Some(client) => format!(in alloc; "{client}")?,
         None => String::new(alloc),
     };
-    json!(in alloc; {
-        "Header": &headers,
-        "Method": method,
-        "RemoteAddr": &client,
-        "URI": target
-    })
+    let method = utf8_of(alloc, origin.method.as_slice())?;
+    let target = utf8_of(alloc, origin.target.as_slice())?;
+    let mut members = Map::new(alloc);
+    put(&mut members, alloc, "Header", headers)?;
+    put(&mut members, alloc, "Method", Value::String(method))?;
+    put(&mut members, alloc, "RemoteAddr", Value::String(client))?;
+    put(&mut members, alloc, "URI", Value::String(target))?;
+    Ok(Value::Object(members))
 }
 
 /// The text in JSON of the request that a closure is asked about, with the fields of these names.
@@ -137,9 +148,15 @@ fn ask_with(alloc: Global, ask: &Ask, upload: &str, request: &str) -> Result<Str
         ≡ ask_line ask.now.point request.now upload.now) }
 {
     let hook = point_name(ask.point);
-    format!(in alloc;
+    let room = ROOM
+        .saturating_add(upload.len())
+        .saturating_add(request.len());
+    let mut text = String::with_capacity(alloc, room)?;
+    write!(
+        text,
         "{{\"Event\":{{\"HTTPRequest\":{request},\"Upload\":{upload}}},\"Type\":\"{hook}\"}}"
-    )
+    )?;
+    Ok(text)
 }
 
 /// The bytes of a text, if there is one.

@@ -13,6 +13,9 @@ use up_events::{Id, Kind};
 use up_headers::concat_of;
 use up_message::Sequence;
 
+/// How many bytes the text of an upload has at most beside its metadata and its parts.
+const ROOM: usize = 256;
+
 /// The pairs of metadata, as an object. What is no UTF-8 is replaced, and of two keys that become one the later counts.
 fn metadata_of(alloc: Global, pairs: &[(Sequence<u8>, Sequence<u8>)]) -> Result<Value, AllocError>
     ensures { IfOk result (λ value. view value ≡ metadata pairs.now) }
@@ -115,7 +118,10 @@ pub fn upload_text(
         → string_bytes text ≡ compact_text (upload_data n kind p q offset length)) }
 {
     let (is_final, is_partial) = (final_text(kind), partial_text(kind));
-    let mut text = format!(in alloc;
+    let room = ROOM.saturating_add(pairs.len()).saturating_add(parts.len());
+    let mut text = String::with_capacity(alloc, room)?;
+    write!(
+        text,
         "{{\"ID\":{id},\"IsFinal\":{is_final},\"IsPartial\":{is_partial},\"MetaData\":{pairs}"
     )?;
     let (size, is_deferred) = (length.unwrap_or(0), deferred_text(length));
