@@ -16,7 +16,8 @@ use crate::parts::BoardParts;
 use crate::seat::Seat;
 use std::alloc::Global;
 use std::marker::Send;
-use std::sync::{Condvar, Mutex, Wait};
+use std::sync::{Condvar, Mutex, MutexGuard, Wait};
+use std::thread::yield_now;
 use up_events::{Id, MAX_LANES, MAX_UPLOAD_BYTES, NoMemory};
 use up_headers::Request;
 use up_history::{Front, Receipt};
@@ -24,6 +25,9 @@ use up_lanes::Refill;
 use up_log::Entry;
 use up_machine::{Asked, Book, Details, Done, Plan, Refusal};
 use up_queue::TakeEnd;
+
+/// How many times a lane that finds the lock taken lets other threads run before it sleeps.
+const MAX_YIELDS: u32 = 8;
 
 /// A book that threads share, under one lock. Whenever the lock is free, what lies under it is a lawful board.
 #[derive(Drop)]
@@ -284,6 +288,18 @@ impl<B: Naming> Board<B> {
         logged
     }
 
+    /// Takes the lock for a lane. Others have it for a few steps only, so the lane lets them run a few times before it
+    /// sleeps: to sleep and to be woken takes longer, and costs the thread that wakes it time, too.
+    fn lock_for_lane<R: Wait>(&self, rt: &R) -> MutexGuard<'_, Locked<B>> {
+        for _ in 0..MAX_YIELDS {
+            if let Some(locked) = self.locked.try_lock() {
+                return locked;
+            }
+            yield_now();
+        }
+        self.locked.lock(rt)
+    }
+
     /// Wakes the lane, if it sleeps.
     fn ring(&self, lane: u64) {
         if let Some(bell) = self.bells.get(lane as usize) {
@@ -303,7 +319,7 @@ impl<B: Naming> Board<B> {
 
 impl<B: Naming + Send> Refill for Board<B> {
     fn refill<R: Wait>(&self, rt: &R, lane: u64) {
-        self.locked.lock(rt).fill(rt, lane);
+        self.lock_for_lane(rt).fill(rt, lane);
     }
 
     fn wait<R: Wait>(&self, rt: &R, lane: u64, taken: u64) {
@@ -318,7 +334,7 @@ impl<B: Naming + Send> Refill for Board<B> {
 
     fn describe<R: Wait>(&self, rt: &R, id: Id) -> Option<Details> {
         let alloc = self.describes?;
-        let locked = self.locked.lock(rt);
+        let locked = self.lock_for_lane(rt);
         let details = locked.inside.describe(alloc, id);
         drop(locked);
         details
@@ -326,7 +342,7 @@ impl<B: Naming + Send> Refill for Board<B> {
 
     fn forget<R: Wait>(&self, rt: &R, id: Id) {
         if self.describes.is_some() {
-            self.locked.lock(rt).inside.forget_removed(id);
+            self.lock_for_lane(rt).inside.forget_removed(id);
         }
     }
 }
