@@ -78,11 +78,16 @@ abbrev pub event_upload : Event → Details → Data → Data
 event_upload event details parts =
     upload_data (text_of event.id) (details_kind details) (metadata (details_pairs details)) parts event.offset event.length
 
+-- the text that tells of an event up to that of its upload, and what ends it
+abbrev pub event_begin : Event → List ℕ
+event_begin event = codes "{\"Event\":{\"HTTPRequest\":null,\"Number\":" ++ (decimal event.number ++ codes ",\"Upload\":")
+
+abbrev pub hook_end : List ℕ → List ℕ
+hook_end hook = codes "},\"Type\":\"" ++ (hook ++ codes "\"}")
+
 -- the text that tells of an event, with that of its upload
 abbrev pub event_line : Event → List ℕ → List ℕ
-event_line event upload =
-    codes "{\"Event\":{\"HTTPRequest\":null,\"Number\":" ++ (decimal event.number ++ (codes ",\"Upload\":" ++ (upload
-    ++ (codes "},\"Type\":\"" ++ (name_of event.hook ++ codes "\"}")))))
+event_line event upload = event_begin event ++ (upload ++ hook_end (name_of event.hook))
 
 -- the bytes tell of the event, and of what its upload was created with: JSON without spaces, with the names of each
 -- object in order
@@ -100,11 +105,13 @@ id_text (Some id) = text_of id
 abbrev pub ask_upload : Ask → Option ℕ → Data → Data
 ask_upload ask id parts = upload_data (id_text id) ask.kind (metadata ask.pairs) parts ask.offset ask.length
 
+-- the text that asks about a request up to that of its upload, with what is told of the request
+abbrev pub ask_begin : List ℕ → List ℕ
+ask_begin request = codes "{\"Event\":{\"HTTPRequest\":" ++ (request ++ codes ",\"Upload\":")
+
 -- the text that asks at a point, with those of what is told of the request, and of the upload
 abbrev pub ask_line : Point → List ℕ → List ℕ → List ℕ
-ask_line point request upload =
-    codes "{\"Event\":{\"HTTPRequest\":" ++ (request ++ (codes ",\"Upload\":" ++ (upload
-    ++ (codes "},\"Type\":\"" ++ (point_name point ++ codes "\"}")))))
+ask_line point request upload = ask_begin request ++ (upload ++ hook_end (point_name point))
 
 -- the bytes ask about an upload with this id, in such JSON
 abbrev pub AsksAbout : Ask → Option ℕ → List ℕ → Type 0

@@ -47,14 +47,15 @@ impl<R: Net<Listener = TcpListener, Stream = TcpStream> + Clock + AllocGlobal> H
         ensures asked { IfSome result (λ came. IfOk came
             (λ answer. asked_of answer ≡ string_bytes text.now)) }
     {
-        let mut connection = kept.take()?;
-        match connection.ask(&self.rt, &self.server, text, deadline) {
-            Ok(answer) => {
-                *kept = Some(connection).filter(Connection::is_idle);
-                Some(Ok(answer))
-            }
-            Err(NoAnswer::Late) => Some(Err(NoAnswer::Late)),
-            Err(error) if connection.has_begun() => Some(Err(error)),
+        let connection = kept.as_mut()?;
+        let came = connection.ask(&self.rt, &self.server, text, deadline);
+        let has_begun = connection.has_begun();
+        if came.is_err() || !connection.is_idle() {
+            *kept = None;
+        }
+        match came {
+            Ok(_) | Err(NoAnswer::Late) => Some(came),
+            Err(_) if has_begun => Some(came),
             Err(_) => None,
         }
     }

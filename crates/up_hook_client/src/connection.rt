@@ -7,7 +7,7 @@ use crate::no_answer::{MAX_ANSWER, NoAnswer};
 use crate::server::HookServer;
 use bytes::{Buf, BytesMut};
 use http1::{BodySize, Client, Event, Header, Limits};
-use httparse::spans::{EMPTY_HEADER_SPAN, Span};
+use httparse::spans::{EMPTY_HEADER_SPAN, HeaderSpan, Span};
 use libc::net::{IPPROTO_TCP, TCP_QUICKACK, setsockopt};
 use std::io::Write;
 use std::net::{Net, TcpListener, TcpStream, ToSocketAddrs};
@@ -227,10 +227,9 @@ impl Connection {
         Err(NoAnswer::Late)
     }
 
-    /// Takes a part of the answer from the bytes that arrived.
-    fn take(&mut self, coming: &mut Coming) -> Result<Step, NoAnswer> {
-        let mut spans = [EMPTY_HEADER_SPAN; MAX_FIELDS];
-        let progress = self.client.read(self.input.as_slice(), &mut spans)?;
+    /// Takes a part of the answer from the bytes that arrived. `spans` is where http1 notes fields.
+    fn take(&mut self, coming: &mut Coming, spans: &mut [HeaderSpan]) -> Result<Step, NoAnswer> {
+        let progress = self.client.read(self.input.as_slice(), spans)?;
         let step = match progress.event {
             Event::NeedMore => Step::Nothing,
             Event::Head(head) => {
@@ -282,13 +281,14 @@ impl Connection {
         rt: &R,
         deadline: Deadline<'_>,
     ) -> Result<Coming, NoAnswer> {
+        let mut spans = [EMPTY_HEADER_SPAN; MAX_FIELDS];
         let mut coming = Coming {
             status: 0,
             body: Vec::new(rt.alloc()),
         };
         for _ in 0..u64::MAX {
             let step = if self.has_begun {
-                self.take(&mut coming)?
+                self.take(&mut coming, &mut spans)?
             } else {
                 Step::Nothing
             };

@@ -1,14 +1,15 @@
 //! What a hook server is told and asked, as JSON in the form of tusd's hooks.
-ghost use Rattle.std.specs.Prelude.{◌≡◌, IfOk, string_bytes};
+ghost use Rattle.std.specs.Prelude.{◌≡◌, ◌++◌, IfOk, OnOk, string_bytes};
 ghost use Rattle.std.specs.Option.{option_copied, option_or};
 ghost use Rattle.serde_json.specs.Data.{Data, string};
 ghost use Rattle.serde_json.specs.Written.{IsInOrder, compact_text};
 ghost use Rattle.up_events.specs.IdText.{text_of};
-ghost use Rattle.up_hook_client.specs.Told.{AsksAbout, TellsOf, ask_line, ask_upload};
-ghost use Rattle.up_hook_client.specs.Told.{event_line, event_upload, id_text, point_name};
+ghost use Rattle.up_hook_client.specs.Told.{AsksAbout, TellsOf, ask_begin, ask_upload};
+ghost use Rattle.up_hook_client.specs.Told.{event_begin, event_upload, hook_end, id_text};
+ghost use Rattle.up_hook_client.specs.Told.{point_name};
 
 use crate::headers::headers_of;
-use crate::upload::{metadata_text, parts_text, upload_text};
+use crate::upload::{add_upload, metadata_text, parts_text};
 use serde_json::{Map, Value, put};
 use std::alloc::{AllocError, Global};
 use up_events::{Event, Id};
@@ -16,8 +17,8 @@ use up_hooks::Origin;
 use up_machine::{Ask, Details, Point};
 use up_message::Sequence;
 
-/// How many bytes a text has at most beside those of the upload and of the request.
-const ROOM: usize = 128;
+/// How many bytes a text may have at first, beside those of the request. Few texts have more.
+const ROOM: usize = 512;
 
 /// The text of an id in JSON.
 fn quoted_id(alloc: Global, id: Id) -> Result<String, AllocError>
@@ -26,21 +27,44 @@ fn quoted_id(alloc: Global, id: Id) -> Result<String, AllocError>
     format!(in alloc; "\"{id}\"")
 }
 
-/// The text of an event's upload in JSON, with that of its parts.
-fn event_upload(
+/// Adds the end of a text that tells of a hook.
+fn add_hook(text: &mut String, hook: &str) -> Result<(), AllocError>
+    ensures { OnOk result (string_bytes text.new ≡ string_bytes text.old ++ hook_end hook.now) }
+{
+    write!(text, "}},\"Type\":\"{hook}\"}}")?;
+    Ok(())
+}
+
+/// The text of an event in JSON, up to that of its upload.
+fn begin_event(alloc: Global, event: &Event) -> Result<String, AllocError>
+    ensures { IfOk result (λ text. string_bytes text ≡ event_begin event.now) }
+{
+    let number = event.number;
+    let mut text = String::with_capacity(alloc, ROOM)?;
+    write!(
+        text,
+        "{{\"Event\":{{\"HTTPRequest\":null,\"Number\":{number},\"Upload\":"
+    )?;
+    Ok(text)
+}
+
+/// Adds an event's upload in JSON to a text, with the text of its parts.
+fn add_event_upload(
     alloc: Global,
+    text: &mut String,
     event: &Event,
     details: &Details,
     parts: &str,
-) -> Result<String, AllocError>
-    ensures { IfOk result (λ text. (q : Data) → parts.now ≡ compact_text q
-        → string_bytes text ≡ compact_text (event_upload event.now details.now q)) }
+) -> Result<(), AllocError>
+    ensures { OnOk result ((q : Data) → parts.now ≡ compact_text q
+        → string_bytes text.new ≡ string_bytes text.old
+        ++ compact_text (event_upload event.now details.now q)) }
 {
     let id = quoted_id(alloc, event.id)?;
     let pairs = metadata_text(alloc, details.pairs())?;
     let (kind, length) = (details.kind(), event.length);
-    upload_text(
-        alloc,
+    add_upload(
+        text,
         id.as_str(),
         kind,
         pairs.as_str(),
@@ -50,26 +74,15 @@ fn event_upload(
     )
 }
 
-/// The text of an event in JSON, with that of its upload.
-fn event_with(alloc: Global, event: &Event, upload: &str) -> Result<String, AllocError>
-    ensures { IfOk result (λ text. string_bytes text ≡ event_line event.now upload.now) }
-{
-    let (hook, number) = (event.hook.name(), event.number);
-    let mut text = String::with_capacity(alloc, ROOM.saturating_add(upload.len()))?;
-    write!(
-        text,
-        "{{\"Event\":{{\"HTTPRequest\":null,\"Number\":{number},\"Upload\":{upload}}},\"Type\":\"{hook}\"}}"
-    )?;
-    Ok(text)
-}
-
 /// What is told of an event of an upload that was created with these details. `AllocError` if memory runs out.
 pub fn event_text(alloc: Global, event: &Event, details: &Details) -> Result<String, AllocError>
     ensures { IfOk result (λ text. TellsOf event.now details.now (string_bytes text)) }
 {
     let parts = parts_text(alloc, details.concat())?;
-    let upload = event_upload(alloc, event, details, parts.as_str())?;
-    event_with(alloc, event, upload.as_str())
+    let mut text = begin_event(alloc, event)?;
+    add_event_upload(alloc, &mut text, event, details, parts.as_str())?;
+    add_hook(&mut text, event.hook.name())?;
+    Ok(text)
 }
 
 /// The name of the hook that is asked at a point.
@@ -93,16 +106,23 @@ fn id_text(alloc: Global, id: Option<Id>) -> Result<String, AllocError>
     }
 }
 
-/// The text in JSON of the upload that a closure is asked about, with that of its parts.
-fn ask_upload(alloc: Global, ask: &Ask, id: Option<Id>, parts: &str) -> Result<String, AllocError>
-    ensures { IfOk result (λ text. (q : Data) → parts.now ≡ compact_text q
-        → string_bytes text ≡ compact_text (ask_upload ask.now id q)) }
+/// Adds the upload that a closure is asked about to a text, in JSON, with the text of its parts.
+fn add_ask_upload(
+    alloc: Global,
+    text: &mut String,
+    ask: &Ask,
+    id: Option<Id>,
+    parts: &str,
+) -> Result<(), AllocError>
+    ensures { OnOk result ((q : Data) → parts.now ≡ compact_text q
+        → string_bytes text.new ≡ string_bytes text.old
+        ++ compact_text (ask_upload ask.now id q)) }
 {
     let id = id_text(alloc, id)?;
     let pairs = metadata_text(alloc, ask.pairs.as_slice())?;
     let (kind, length) = (ask.kind, ask.length);
-    upload_text(
-        alloc,
+    add_upload(
+        text,
         id.as_str(),
         kind,
         pairs.as_str(),
@@ -142,20 +162,12 @@ fn request_text(alloc: Global, origin: &Origin, names: &[String]) -> Result<Stri
     request.to_string(alloc)
 }
 
-/// The text in JSON that asks at a point, with those of the upload and of the request.
-fn ask_with(alloc: Global, ask: &Ask, upload: &str, request: &str) -> Result<String, AllocError>
-    ensures { IfOk result (λ text. string_bytes text
-        ≡ ask_line ask.now.point request.now upload.now) }
+/// The text in JSON that asks about a request, with what is told of it, up to that of the upload.
+fn begin_ask(alloc: Global, request: &str) -> Result<String, AllocError>
+    ensures { IfOk result (λ text. string_bytes text ≡ ask_begin request.now) }
 {
-    let hook = point_name(ask.point);
-    let room = ROOM
-        .saturating_add(upload.len())
-        .saturating_add(request.len());
-    let mut text = String::with_capacity(alloc, room)?;
-    write!(
-        text,
-        "{{\"Event\":{{\"HTTPRequest\":{request},\"Upload\":{upload}}},\"Type\":\"{hook}\"}}"
-    )?;
+    let mut text = String::with_capacity(alloc, ROOM.saturating_add(request.len()))?;
+    write!(text, "{{\"Event\":{{\"HTTPRequest\":{request},\"Upload\":")?;
     Ok(text)
 }
 
@@ -181,7 +193,10 @@ pub fn ask_text(
         AsksAbout ask.now (option_or ask.now.target origin.now.id) (string_bytes text)) }
 {
     let parts = parts_text(alloc, bytes_of(&ask.concat))?;
-    let upload = ask_upload(alloc, ask, ask.target.or(origin.id), parts.as_str())?;
     let request = request_text(alloc, origin, names)?;
-    ask_with(alloc, ask, upload.as_str(), request.as_str())
+    let mut text = begin_ask(alloc, request.as_str())?;
+    let id = ask.target.or(origin.id);
+    add_ask_upload(alloc, &mut text, ask, id, parts.as_str())?;
+    add_hook(&mut text, point_name(ask.point))?;
+    Ok(text)
 }

@@ -1,5 +1,5 @@
 //! What a hook server is told of an upload.
-ghost use Rattle.std.specs.Prelude.{◌≡◌, List, ℕ, IfOk, is_none, string_bytes};
+ghost use Rattle.std.specs.Prelude.{◌≡◌, ◌++◌, List, ℕ, IfOk, OnOk, Some, is_none, string_bytes};
 ghost use Rattle.std.specs.Option.{option_copied};
 ghost use Rattle.serde_json.specs.Data.{Data, boolean, string};
 ghost use Rattle.serde_json.specs.View.{view};
@@ -12,9 +12,6 @@ use std::alloc::{AllocError, Global};
 use up_events::{Id, Kind};
 use up_headers::concat_of;
 use up_message::Sequence;
-
-/// How many bytes the text of an upload has at most beside its metadata and its parts.
-const ROOM: usize = 256;
 
 /// The pairs of metadata, as an object. What is no UTF-8 is replaced, and of two keys that become one the later counts.
 fn metadata_of(alloc: Global, pairs: &[(Sequence<u8>, Sequence<u8>)]) -> Result<Value, AllocError>
@@ -53,10 +50,10 @@ fn id_strings(alloc: Global, ids: &[Id]) -> Result<Value, AllocError>
 
 /// The parts of a final upload, from the text of its `Upload-Concat` (tus 1.0.0, Concatenation); `null` for any other
 /// upload.
-fn parts_of(alloc: Global, concat: Option<&[u8]>) -> Result<Value, AllocError>
-    ensures { IfOk result (λ value. AreParts (option_copied concat.entry) (view value)) }
+fn parts_of(alloc: Global, concat: &[u8]) -> Result<Value, AllocError>
+    ensures { IfOk result (λ value. AreParts (Some concat.now) (view value)) }
 {
-    match concat_of(alloc, concat.unwrap_or(b""))? {
+    match concat_of(alloc, concat)? {
         Some((Kind::Final, parts)) => id_strings(alloc, parts.as_slice()),
         _ => Ok(Value::Null),
     }
@@ -67,8 +64,13 @@ pub fn parts_text(alloc: Global, concat: Option<&[u8]>) -> Result<String, AllocE
     ensures { IfOk result (λ text. (parts : Data) × AreParts (option_copied concat.entry) parts
         × (string_bytes text ≡ compact_text parts)) }
 {
-    let parts = parts_of(alloc, concat)?;
-    parts.to_string(alloc)
+    match concat {
+        Some(text) => {
+            let parts = parts_of(alloc, text)?;
+            parts.to_string(alloc)
+        }
+        None => String::from_str(alloc, "null"),
+    }
 }
 
 /// A truth value in JSON.
@@ -102,24 +104,23 @@ fn deferred_text(length: Option<u64>) -> &'static str
     }
 }
 
-/// The text of an upload in JSON, with those of its id, its metadata and its parts.
-pub fn upload_text(
-    alloc: Global,
+/// Adds an upload in JSON to a text, with the texts of its id, its metadata and its parts.
+pub fn add_upload(
+    text: &mut String,
     id: &str,
     kind: Kind,
     pairs: &str,
     parts: &str,
     offset: u64,
     length: Option<u64>,
-) -> Result<String, AllocError>
-    ensures { IfOk result (λ text. (n : List ℕ) (p : Data) (q : Data)
+) -> Result<(), AllocError>
+    ensures { OnOk result ((n : List ℕ) (p : Data) (q : Data)
         → id.now ≡ compact_text (string n) → pairs.now ≡ compact_text p
         → parts.now ≡ compact_text q
-        → string_bytes text ≡ compact_text (upload_data n kind p q offset length)) }
+        → string_bytes text.new ≡ string_bytes text.old
+        ++ compact_text (upload_data n kind p q offset length)) }
 {
     let (is_final, is_partial) = (final_text(kind), partial_text(kind));
-    let room = ROOM.saturating_add(pairs.len()).saturating_add(parts.len());
-    let mut text = String::with_capacity(alloc, room)?;
     write!(
         text,
         "{{\"ID\":{id},\"IsFinal\":{is_final},\"IsPartial\":{is_partial},\"MetaData\":{pairs}"
@@ -130,5 +131,5 @@ pub fn upload_text(
         ",\"Offset\":{offset},\"PartialUploads\":{parts},\"Size\":{size},\
         \"SizeIsDeferred\":{is_deferred},\"Storage\":null}}"
     )?;
-    Ok(text)
+    Ok(())
 }
