@@ -5,8 +5,10 @@ use Rattle.std.proofs.lemmas.List.{append_assoc}
 use Rattle.std.specs.Str.Lossy.{utf8_lossy}
 use Rattle.std.specs.Ordering.{match_ordering, nat_cmp}
 use Rattle.std.specs.Cmp.Lexicographic.{slice_cmp}
-use Rattle.json.specs.Print.{escape, escape_byte}
-use Rattle.serde_json.specs.Data.{Data, boolean, string, Members, no_members, member, put}
+use Rattle.json.specs.Print.{escape, escape_byte, print, print_from, quoted}
+use Rattle.json.specs.Token.{begin_object, end_object, key}
+use Rattle.json.specs.Token as token
+use Rattle.serde_json.specs.Data.{Data, boolean, object, string, Members, no_members, member, put}
 use Rattle.serde_json.specs.View.{items_of}
 use Rattle.serde_json.specs.Written.{compact_text, has_float, items_have_float, members_have_float}
 use Rattle.serde_json.proofs.OnLiterals.{serde_json_on_literals}
@@ -113,3 +115,8 @@ parts_in_have_no_float (Some (Final, parts)) = ids_have_no_float parts
 
 pub parts_have_no_float : (text : Option (List ℕ)) (parts : Data) → AreParts text parts → has_float parts ≡ false
 parts_have_no_float text parts are = ap has_float are.2 ∙ parts_in_have_no_float are.0
+
+-- the tokens of one pair are printed as an object that has it alone
+pub one_pair : (k v : List ℕ) → print (begin_object ∷ key k ∷ token.string v ∷ end_object ∷ []) ≡ compact_text (object (put k (string v) no_members))
+unfolding print_from
+one_pair k v = ap (λ x. 123 ∷ x) (append_assoc (quoted k) (58 ∷ []) (quoted v ++ 125 ∷ []))

@@ -1,5 +1,6 @@
 //! What a hook server is told of an upload.
-ghost use Rattle.std.specs.Prelude.{◌≡◌, ◌++◌, List, ℕ, IfOk, OnOk, Some, is_none, string_bytes};
+ghost use Rattle.std.specs.Prelude.{◌≡◌, ◌++◌, ◌∷◌, [], List, ℕ, IfOk, OnOk, Some, is_none};
+ghost use Rattle.std.specs.Prelude.{string_bytes};
 ghost use Rattle.std.specs.Option.{option_copied};
 ghost use Rattle.serde_json.specs.Data.{Data, boolean, string};
 ghost use Rattle.serde_json.specs.View.{view};
@@ -7,11 +8,15 @@ ghost use Rattle.serde_json.specs.Written.{compact_text};
 ghost use Rattle.up_hook_client.specs.Told.{AreParts, id_strings, is_final, is_partial};
 ghost use Rattle.up_hook_client.specs.Told.{metadata, upload_data};
 
+use json::Writer;
 use serde_json::{Map, Value};
 use std::alloc::{AllocError, Global};
 use up_events::{Id, Kind};
 use up_headers::concat_of;
 use up_message::Sequence;
+
+/// How many bytes the text of a pair may have at first. Few have more.
+const ROOM: usize = 128;
 
 /// The pairs of metadata, as an object. What is no UTF-8 is replaced, and of two keys that become one the later counts.
 fn metadata_of(alloc: Global, pairs: &[(Sequence<u8>, Sequence<u8>)]) -> Result<Value, AllocError>
@@ -26,15 +31,39 @@ fn metadata_of(alloc: Global, pairs: &[(Sequence<u8>, Sequence<u8>)]) -> Result<
     Ok(Value::Object(members))
 }
 
-/// The pairs of metadata, as an object in JSON.
+/// One pair of metadata, as an object in JSON.
+fn pair_text(alloc: Global, pair: &(Sequence<u8>, Sequence<u8>)) -> Result<String, AllocError>
+    ensures { IfOk result (λ text. string_bytes text ≡ compact_text (metadata (pair.now ∷ []))) }
+{
+    let key = String::from_utf8_lossy(alloc, pair.0.as_slice())?;
+    let value = String::from_utf8_lossy(alloc, pair.1.as_slice())?;
+    let mut writer = Writer::new(Vec::with_capacity(alloc, ROOM)?);
+    writer.begin_object()?;
+    writer.key(key.as_str())?;
+    writer.string(value.as_str())?;
+    writer.end_object()?;
+    Ok(String::from_utf8(writer.into_inner()).unwrap())
+}
+
+/// Several pairs of metadata, as an object in JSON.
+fn pairs_text(alloc: Global, pairs: &[(Sequence<u8>, Sequence<u8>)]) -> Result<String, AllocError>
+    ensures { IfOk result (λ text. string_bytes text ≡ compact_text (metadata pairs.now)) }
+{
+    let members = metadata_of(alloc, pairs)?;
+    members.to_string(alloc)
+}
+
+/// The pairs of metadata, as an object in JSON. A single one is written at once.
 pub fn metadata_text(
     alloc: Global,
     pairs: &[(Sequence<u8>, Sequence<u8>)],
 ) -> Result<String, AllocError>
     ensures { IfOk result (λ text. string_bytes text ≡ compact_text (metadata pairs.now)) }
 {
-    let members = metadata_of(alloc, pairs)?;
-    members.to_string(alloc)
+    match pairs {
+        [pair] => pair_text(alloc, pair),
+        _ => pairs_text(alloc, pairs),
+    }
 }
 
 /// The texts of ids, as a list.

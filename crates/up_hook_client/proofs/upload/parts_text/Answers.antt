@@ -1,4 +1,4 @@
-use Rattle.std.proofs.Common.{[], Some, None, refl, subst, sym}
+use Rattle.std.proofs.Common.{[], Some, refl, subst, sym}
 use Rattle.std.proofs.lemmas.Result.{IfOk-weaker}
 use Rattle.std.specs.Option.{option_copied}
 use Rattle.serde_json.specs.Data.{null}

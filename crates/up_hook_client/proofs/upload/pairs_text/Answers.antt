@@ -1,8 +1,8 @@
-use Rattle.std.proofs.Common.{◌≡◌, ap, ◌∙◌, false, string_bytes}
+use Rattle.std.proofs.Common.{ap, ◌∙◌}
 use Rattle.std.proofs.lemmas.Result.{IfOk-weaker}
 use Rattle.serde_json.specs.Written.{compact_text, has_float}
 use Rattle.up_hook_client.proofs.Texts.{metadata_has_no_float}
-use Rattle.up_hook_client.proofs.upload.metadata_text.Goals as goal
+use Rattle.up_hook_client.proofs.upload.pairs_text.Goals as goal
 
 pub returns : goal.returns
 returns c =
