@@ -3,6 +3,7 @@ that asks and tells the hook server at a URL.
 """
 import contextlib
 import socket
+from base64 import b64encode
 
 from hooking import TARGET, HookServer, Note
 from operators import made
@@ -44,6 +45,17 @@ CHOSEN = {
     "pre-finish,pre-terminate,pre-finish": ["pre-finish", "pre-terminate"],
     ",".join(HOOKS): sorted(HOOKS),
 }
+
+
+# Pairs of metadata, and the object that is told of them: with escapes as short as can be, in the order of the keys, with
+# U+FFFD for what isn't UTF-8, and the later of two keys that become one.
+METADATA = [
+    ([], b"{}"),
+    ([(b"alone", None)], b'{"alone":""}'),
+    ([(b"name", b'"\\/\n\t\x01\x7f')], b'{"name":"\\"\\\\/\\n\\t\\u0001\x7f"}'),
+    ([(b"name", b"\xff\xc3\xa9")], b'{"name":"\xef\xbf\xbd\xc3\xa9"}'),
+    ([(b"b", b"1"), (b"a", b"2"), (b"c", None)], b'{"a":"2","b":"1","c":""}'),
+]
 
 
 class Listener:
@@ -140,12 +152,12 @@ def chosen(hooked):
         same(sorted(note.hook for note in hooks.notes), wanted, f"the hooks by {names!r}")
 
 
-def upload(path, offset, parts=None, size=None):
-    """What a text says of a part with the name of a file, or of an upload that is joined of these parts."""
+def upload(path, offset, parts=None, size=None, metadata='{"filename":"a.txt"}'):
+    """What a text says of a part with this metadata, or of an upload that is joined of these parts."""
     ids = ",".join(f'"{part[-32:]}"' for part in parts or [])
     return (
         f'{{"ID":"{path[-32:]}","IsFinal":{"true" if parts else "false"},"IsPartial":{"false" if parts else "true"},'
-        f'"MetaData":{{"filename":"a.txt"}},"Offset":{offset},"PartialUploads":{f"[{ids}]" if parts else "null"},'
+        f'"MetaData":{metadata},"Offset":{offset},"PartialUploads":{f"[{ids}]" if parts else "null"},'
         f'"Size":{size or 0},"SizeIsDeferred":{"true" if size is None else "false"},"Storage":null}}'
     )
 
@@ -186,4 +198,19 @@ def texts(hooked):
             event("post-finish", 2, joined),
         }
         same(wanted - {note.body.decode() for note in hooks.notes}, set(), "the texts that are missing")
+        server.finish()
+
+
+def metadata(hooked):
+    """The metadata of an upload is told as an object, whether it has no pair, one or several."""
+    with HookServer() as hooks, hooked(hooks.url) as server, Connection(server) as client:
+        wanted = set()
+        for pairs, text in METADATA:
+            sent = b",".join(key + (b"" if value is None else b" " + b64encode(value)) for key, value in pairs).decode()
+            fields = {"Upload-Length": 1, "Upload-Concat": "partial", **({"Upload-Metadata": sent} if pairs else {})}
+            client.send(head("POST", "/files/", fields))
+            path = client.reply().fields["location"]
+            wanted.add(event("post-create", 1, upload(path, 0, size=1, metadata=text.decode())))
+        soon(lambda: len(hooks.posts()) == len(METADATA), "all events are told")
+        same({note.body.decode() for note in hooks.posts()}, wanted, "the texts")
         server.finish()

@@ -425,6 +425,11 @@ def texts():
     exchanges.texts(Hooked)
 
 
+def metadata():
+    """The metadata of an upload is told as an object, whether it has no pair, one or several."""
+    exchanges.metadata(Hooked)
+
+
 def example():
     """examples/hooks refuses by key and name, and stores and removes what is complete. That is to be paid for once,
     also if the example was killed before it had written so."""
@@ -445,6 +450,6 @@ program, rounds = os.path.abspath(given.program or build()), given.rounds
 
 CASES = [
     faults, kills, answers, later_answers, fields, enabled, created, away, silent, lines, stock, acknowledged, until_end,
-    kept, chosen, texts, example, tusd,
+    kept, chosen, texts, metadata, example, tusd,
 ]
 sys.exit(try_all(CASES, given.names))
