@@ -16,8 +16,7 @@ use crate::parts::BoardParts;
 use crate::seat::Seat;
 use std::alloc::Global;
 use std::marker::Send;
-use std::sync::{Condvar, Mutex, MutexGuard, Wait};
-use std::thread::yield_now;
+use std::sync::{Condvar, Mutex, Wait};
 use up_events::{Id, MAX_LANES, MAX_UPLOAD_BYTES, NoMemory};
 use up_headers::Request;
 use up_history::{Front, Receipt};
@@ -26,9 +25,6 @@ use up_log::Entry;
 use up_machine::{Asked, Book, Details, Done, Plan, Refusal};
 use up_queue::TakeEnd;
 
-/// How many times a lane that finds the lock taken lets other threads run before it sleeps.
-const MAX_YIELDS: u32 = 8;
-
 /// A book that threads share, under one lock. Whenever the lock is free, what lies under it is a lawful board.
 #[derive(Drop)]
 pub struct Board<B: Naming> {
@@ -36,8 +32,8 @@ pub struct Board<B: Naming> {
     /// One for each lane. It wakes the lane when there may be an item for it.
     pub(crate) bells: Vec<Condvar>,
     pub(crate) max_size: u64,
-    /// By what it is copied that lanes ask about uploads, if they do.
-    pub(crate) describes: Option<Global>,
+    /// Whether it is kept for lanes what uploads were created with.
+    pub(crate) describes: bool,
     ghost one_for_each: { vec_len bells ≡ B.lanes },
     ghost small: { max_size ≤ max_upload_bytes },
     ghost sized: { max_size ≡ B.max_size },
@@ -118,15 +114,15 @@ impl<B: Naming> Board<B> {
                 locked,
                 bells,
                 max_size,
-                describes: None,
+                describes: false,
             },
             takes,
         ))
     }
 
-    /// The same board, which keeps what uploads were created with also after they were removed, until all of their
-    /// events are settled, so that lanes can ask for that. Takes no memory.
-    pub fn describing(self, alloc: Global) -> Board<B> {
+    /// The same board, which from now on keeps what uploads are created with until the lanes of their events take it.
+    /// `NoMemory` if memory runs out.
+    pub fn describing(self, alloc: Global) -> Result<Board<B>, NoMemory> {
         let Board {
             locked,
             bells,
@@ -134,13 +130,13 @@ impl<B: Naming> Board<B> {
             ..
         } = self;
         let mut locked = locked.into_inner();
-        locked.inside.keep_removed(alloc);
-        Board {
+        locked.inside.keep_details(alloc)?;
+        Ok(Board {
             locked: Mutex::new(locked),
             bells,
             max_size,
-            describes: Some(alloc),
-        }
+            describes: true,
+        })
     }
 
     /// The most bytes that an upload may have.
@@ -288,18 +284,6 @@ impl<B: Naming> Board<B> {
         logged
     }
 
-    /// Takes the lock for a lane. Others have it for a few steps only, so the lane lets them run a few times before it
-    /// sleeps: to sleep and to be woken takes longer, and costs the thread that wakes it time, too.
-    fn lock_for_lane<R: Wait>(&self, rt: &R) -> MutexGuard<'_, Locked<B>> {
-        for _ in 0..MAX_YIELDS {
-            if let Some(locked) = self.locked.try_lock() {
-                return locked;
-            }
-            yield_now();
-        }
-        self.locked.lock(rt)
-    }
-
     /// Wakes the lane, if it sleeps.
     fn ring(&self, lane: u64) {
         if let Some(bell) = self.bells.get(lane as usize) {
@@ -319,7 +303,7 @@ impl<B: Naming> Board<B> {
 
 impl<B: Naming + Send> Refill for Board<B> {
     fn refill<R: Wait>(&self, rt: &R, lane: u64) {
-        self.lock_for_lane(rt).fill(rt, lane);
+        self.locked.lock(rt).fill(rt, lane);
     }
 
     fn wait<R: Wait>(&self, rt: &R, lane: u64, taken: u64) {
@@ -332,17 +316,13 @@ impl<B: Naming + Send> Refill for Board<B> {
         }
     }
 
-    fn describe<R: Wait>(&self, rt: &R, id: Id) -> Option<Details> {
-        let alloc = self.describes?;
-        let locked = self.lock_for_lane(rt);
-        let details = locked.inside.describe(alloc, id);
+    fn describe<R: Wait>(&self, rt: &R, lane: u64) -> Option<Vec<Details>> {
+        if !self.describes {
+            return None;
+        }
+        let mut locked = self.locked.lock(rt);
+        let details = locked.inside.take_details(lane);
         drop(locked);
         details
-    }
-
-    fn forget<R: Wait>(&self, rt: &R, id: Id) {
-        if self.describes.is_some() {
-            self.lock_for_lane(rt).inside.forget_removed(id);
-        }
     }
 }

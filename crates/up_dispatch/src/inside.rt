@@ -1,12 +1,12 @@
 //! What lies under the board's lock.
 ghost use Rattle.std.specs.Prelude.{◌≡◌, ◌+◌, ◌<◌, ◌≤◌, ◌^◌, ◌↔◌, []};
-ghost use Rattle.std.specs.Prelude.{ℕ, length, IfOk, OnOk, OnErr, IsErr, IfSome, IfNone, true, false, IsTrue};
+ghost use Rattle.std.specs.Prelude.{ℕ, All, length, IfOk, OnOk, OnErr, IsErr, IfSome, IfNone, true, false, IsTrue};
 ghost use Rattle.up_events.specs.Records.{lane_log};
 ghost use Rattle.up_queue.specs.Line.{items_if};
 ghost use Rattle.up_queue.specs.EndViews.{MayBeFull};
 ghost use Rattle.up_headers.specs.Table.{FitsWithin};
 ghost use Rattle.up_machine.specs.Decision.{IsExpectedOrNoMemory, decide, decide_plan, is_asked, is_refusal};
-ghost use Rattle.up_machine.specs.Details.{details_id, details_in};
+ghost use Rattle.up_machine.specs.Details.{IsOfUpload};
 ghost use Rattle.up_dispatch.specs.Lists.{EachAt};
 ghost use Rattle.up_dispatch.specs.Puts.{end_at, Extends, FillsOnly, IsFilled};
 ghost use Rattle.up_dispatch.specs.Commits.{changed, noted_in, IsCommitOf};
@@ -24,7 +24,7 @@ use std::alloc::Global;
 use std::marker::Model;
 use std::sync::ledger::Share;
 use std::sync::{Wait, ledger};
-use up_events::{Id, MAX_UPLOAD_BYTES};
+use up_events::{Id, MAX_UPLOAD_BYTES, NoMemory};
 use up_headers::Request;
 use up_machine::{Asked, Book, Details, Done, Plan, Refusal, Remains};
 use up_queue::TakeEnd;
@@ -177,27 +177,22 @@ impl<B: Naming> Inside<B> {
         }
     }
 
-    /// From now on, keeps what removed uploads were created with, until it is to forget them.
-    pub fn keep_removed(&mut self, alloc: Global)
+    /// From now on, keeps what uploads are created with until the lanes of their events take it. `NoMemory` if memory
+    /// runs out.
+    pub fn keep_details(&mut self, alloc: Global) -> Result<(), NoMemory>
         ensures { self.new ≡ self.old }
     {
-        self.book.keep_removed(alloc);
+        let lanes = self.lanes();
+        self.book.keep_details(alloc, lanes)
     }
 
-    /// What the upload with this id was or is created with. `None` if that isn't known, or if memory runs out.
-    pub fn describe(&self, alloc: Global, id: Id) -> Option<Details>
-        ensures own { IfSome result (λ details. details_id details ≡ id) }
-        ensures there { IfSome (details_in self.now.book.content id) (λ details.
-            IfSome result (λ found. found ≡ details)) }
+    /// What uploads of this lane were created with that it has not taken yet. `None` if that isn't kept.
+    pub fn take_details(&mut self, lane: u64) -> Option<Vec<Details>>
+        ensures same { self.new ≡ self.old }
+        ensures own { IfSome result (λ list.
+            All (IsOfUpload self.old.book.content self.old.book.journal.accepted) list.items) }
     {
-        self.book.details(alloc, id).ok()?
-    }
-
-    /// Forgets what a removed upload was created with.
-    pub fn forget_removed(&mut self, id: Id)
-        ensures { self.new ≡ self.old }
-    {
-        self.book.forget_removed(id);
+        self.book.take_details(lane)
     }
 
     /// For the prover: what lies under the lock is a lawful board. Does nothing.

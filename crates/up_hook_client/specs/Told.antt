@@ -1,5 +1,5 @@
 -- What a hook server is told and asked, in the form of tusd's hooks.
-use Rattle.std.specs.Prelude.{◌≡◌, ℕ, Bool, true, false, List, [], ◌∷◌, ◌++◌, map, codes, decimal, Option, Some, None, is_none, unwrap_or}
+use Rattle.std.specs.Prelude.{◌≡◌, ℕ, Bool, true, false, List, [], ◌∷◌, ◌++◌, ◌&&◌, ◌==◌, not, nat_lt, map, codes, decimal, Option, Some, None, is_none, unwrap_or}
 use Rattle.std.specs.Str.Lossy.{utf8_lossy}
 use Rattle.serde_json.specs.Data.{Data, null, boolean, number, unsigned, string, array, object, Members, no_members, member, put}
 use Rattle.serde_json.specs.View.{items_of}
@@ -10,11 +10,10 @@ use Rattle.up_events.specs.declared.event.Event.{Event}
 use Rattle.up_events.specs.declared.event.Kind.{Kind}
 use Rattle.up_events.specs.declared.event.Kind.TheVariants.{Plain, Partial, Final}
 use Rattle.up_headers.specs.Concat.{Concat, IsConcat}
-use Rattle.up_machine.specs.Details.{details_concat, details_kind, details_pairs}
+use Rattle.up_machine.specs.Details.{Details, details_concat, details_kind, details_pairs}
 use Rattle.up_machine.specs.declared.ask.Ask.{Ask}
 use Rattle.up_machine.specs.declared.ask.Point.{Point}
 use Rattle.up_machine.specs.declared.ask.Point.TheVariants.{Create, Finish, Terminate}
-use Rattle.up_machine.specs.declared.details.Details.{Details}
 
 -- the name of the hook that is asked at a point
 abbrev pub point_name : Point → List ℕ
@@ -72,6 +71,32 @@ upload_data id kind pairs parts offset length =
     (member (codes "Size") (number (unsigned (unwrap_or length 0)))
     (member (codes "SizeIsDeferred") (boolean (is_none length))
     (member (codes "Storage") null no_members)))))))))
+
+-- whether a byte stands in a string of JSON as it is
+abbrev pub is_plain : ℕ → Bool
+is_plain byte = not (nat_lt byte 32) && (not (byte == 34) && not (byte == 92))
+
+-- an object of one member, whose key and value stand there as they are
+abbrev pub pair_text : List ℕ → List ℕ → List ℕ
+pair_text key value = codes "{\"" ++ (key ++ (codes "\":\"" ++ (value ++ codes "\"}")))
+
+-- the text of an upload up to that of its metadata
+abbrev pub upload_begin : List ℕ → Kind → List ℕ
+upload_begin id kind =
+    codes "{\"ID\":\"" ++ (id ++ (codes "\",\"IsFinal\":" ++ (compact_text (boolean (is_final kind))
+    ++ (codes ",\"IsPartial\":" ++ (compact_text (boolean (is_partial kind)) ++ codes ",\"MetaData\":")))))
+
+-- what ends it: its length, and where it is stored, which isn't told
+abbrev pub length_text : Option ℕ → List ℕ
+length_text length =
+    codes ",\"Size\":" ++ (decimal (unwrap_or length 0)
+    ++ (codes ",\"SizeIsDeferred\":" ++ (compact_text (boolean (is_none length)) ++ codes ",\"Storage\":null}")))
+
+-- the rest of it, from that of its metadata
+abbrev pub upload_end : Data → ℕ → Data → Option ℕ → List ℕ
+upload_end pairs offset parts length =
+    compact_text pairs ++ (codes ",\"Offset\":" ++ (decimal offset
+    ++ (codes ",\"PartialUploads\":" ++ (compact_text parts ++ length_text length))))
 
 -- the upload of an event, which was created with these details, of these parts
 abbrev pub event_upload : Event → Details → Data → Data

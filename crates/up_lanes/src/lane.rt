@@ -1,11 +1,13 @@
 //! A lane, and its steps.
-ghost use Rattle.std.specs.Prelude.{◌≡◌, [], false};
+ghost use Rattle.std.specs.Prelude.{◌≡◌, [], false, IfSome};
 ghost use Rattle.up_events.specs.Delivery.{IsPrefix};
 ghost use Rattle.up_events.specs.Log.{IsLawful};
 ghost use Rattle.up_lanes.specs.HowOf.{is_drained};
 ghost use Rattle.up_lanes.specs.LaneViews.{lane_view, StaysAlike};
 ghost use Rattle.up_lanes.specs.StepsTo.{IsLaneAt, StepsTo};
+ghost use Rattle.up_machine.specs.Details.{details_id};
 
+use crate::known::Known;
 use crate::lane_end::{How, LaneEnd};
 use crate::refill::Refill;
 use std::marker::Model;
@@ -14,6 +16,7 @@ use std::thread::Parker;
 use std::time::Duration;
 use up_events::{Event, Hook, Id};
 use up_hooks::PostHook;
+use up_machine::Details;
 use up_queue::{Item, TakeEnd};
 
 /// How many times a lane with an empty queue naps before it sleeps until it is woken. While it naps nobody has to wake
@@ -48,6 +51,8 @@ pub struct Lane<H: PostHook> {
     taken: u64,
     /// The upload of the last event, if this was its removal and may not be settled yet.
     removed: Option<Id>,
+    /// What its uploads were created with, as far as it was told.
+    known: Known,
 }
 
 /// The upload that was removed, if the event is the one of its removal.
@@ -95,6 +100,7 @@ impl<H: PostHook> Lane<H> {
             ended: false,
             taken: 0,
             removed: None,
+            known: Known::new(),
         }
     }
 
@@ -112,6 +118,7 @@ impl<H: PostHook> Lane<H> {
             how,
             taken,
             removed,
+            known,
         } = end;
         Lane {
             lane,
@@ -120,6 +127,7 @@ impl<H: PostHook> Lane<H> {
             ended: how.is_drained(),
             taken,
             removed,
+            known,
         }
     }
 
@@ -154,15 +162,50 @@ impl<H: PostHook> Lane<H> {
         }
     }
 
+    /// Learns of the uploads that it was not told of.
+    fn ask<R: Wait, T: Refill>(&mut self, rt: &R, refill: &T)
+        ensures same { IsLaneAt self.old self.new self.old.handed self.old.ended }
+        ensures hook { self.new.hook ≡ self.old.hook }
+    {
+        let rest = self.known.take_rest();
+        if let Some(list) = rest.or_else(|| refill.describe(rt, self.lane)) {
+            self.known.learn(list);
+        }
+    }
+
+    /// What an upload was created with, if that is known or can be learned.
+    fn details_of<R: Wait, T: Refill>(&mut self, rt: &R, refill: &T, id: Id) -> Option<Details>
+        ensures same { IsLaneAt self.old self.new self.old.handed self.old.ended }
+        ensures hook { self.new.hook ≡ self.old.hook }
+        ensures own { IfSome result (λ details. details_id details ≡ id) }
+    {
+        if let Some(details) = self.known.share(id) {
+            return Some(details);
+        }
+        self.ask(rt, refill);
+        self.known.share(id)
+    }
+
     /// Finds out for the post-hook what it asks about.
     fn inform<R: Wait, T: Refill>(&mut self, rt: &R, refill: &T)
         ensures same { IsLaneAt self.old self.new self.old.handed self.old.ended }
         ensures alike { StaysAlike H.may_answer self.old.hook self.new.hook }
     {
         if let Some(id) = self.hook.asks_about()
-            && let Some(details) = refill.describe(rt, id)
+            && let Some(details) = self.details_of(rt, refill, id)
         {
             self.hook.learn(details);
+        }
+    }
+
+    /// Forgets a removed upload, after all of its events were settled.
+    fn forget<R: Wait, T: Refill>(&mut self, rt: &R, refill: &T, id: Id)
+        ensures same { IsLaneAt self.old self.new self.old.handed self.old.ended }
+        ensures hook { self.new.hook ≡ self.old.hook }
+    {
+        if !self.known.forget(id) {
+            self.ask(rt, refill);
+            self.known.forget(id);
         }
     }
 
@@ -179,7 +222,7 @@ impl<H: PostHook> Lane<H> {
         if !matches!(end, StepEnd::NoMemory)
             && let Some(id) = removed
         {
-            refill.forget(rt, id);
+            self.forget(rt, refill, id);
         }
         end
     }
@@ -238,6 +281,7 @@ impl<H: PostHook> Lane<H> {
             how,
             taken: self.taken,
             removed: self.removed,
+            known: self.known,
         }
     }
 }

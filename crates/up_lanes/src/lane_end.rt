@@ -5,6 +5,7 @@ ghost use Rattle.up_queue.specs.Line.{items_if};
 ghost use Rattle.up_lanes.specs.HowOf.{is_drained};
 ghost use Rattle.up_lanes.specs.LawfulOnce.{lawful_once};
 
+use crate::known::Known;
 use up_events::Id;
 use up_hooks::PostHook;
 use up_queue::TakeEnd;
@@ -43,6 +44,8 @@ pub struct LaneEnd<H: PostHook> {
     pub(crate) taken: u64,
     /// The upload of the last event, if this was its removal and may not be settled yet.
     pub(crate) removed: Option<Id>,
+    /// What its uploads were created with, as far as it was told.
+    pub(crate) known: Known,
     pub ghost kept: { take_end.taken ≡ items_if (H.handed hook) (is_drained how) },
     pub ghost lawful: { IsLawful (H.handed hook) } by { lawful_once (H.handed hook) },
     pub ghost counted: { taken ≡ length take_end.taken % 2 ^ 64 },

@@ -2,6 +2,7 @@
 //! the thread that runs the lane.
 #![tactic(auto)]
 
+mod known;
 mod lane;
 mod lane_end;
 mod refill;

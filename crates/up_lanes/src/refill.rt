@@ -1,10 +1,7 @@
 //! What a running lane calls.
-ghost use Rattle.std.specs.Prelude.{◌≡◌, IfSome};
-ghost use Rattle.up_machine.specs.Details.{details_id};
 
 use std::marker::Sync;
 use std::sync::Wait;
-use up_events::Id;
 use up_machine::Details;
 
 /// The source of the items for the lanes, and of what is told with them. A running lane calls it, from its own thread.
@@ -17,13 +14,8 @@ pub trait Refill: Sync {
     /// put than taken, if `refill` would put an item, or if the end was taken. It may return without a reason.
     fn wait<R: Wait>(&self, rt: &R, lane: u64, taken: u64);
 
-    /// What the upload with this id was created with. `None` if that isn't known, or if memory runs out.
-    fn describe<R: Wait>(&self, _rt: &R, _id: Id) -> Option<Details>
-        ensures { IfSome result (λ details. details_id details ≡ _id) }
-    {
+    /// Hands over what uploads of the lane were created with that it was not told before. `None` if that isn't kept.
+    fn describe<R: Wait>(&self, _rt: &R, _lane: u64) -> Option<Vec<Details>> {
         None
     }
-
-    /// Forgets what a removed upload was created with, after all of its events were settled.
-    fn forget<R: Wait>(&self, _rt: &R, _id: Id) {}
 }

@@ -1,13 +1,20 @@
 -- What an upload was created with, as it is told with its events.
 use Rattle.std.specs.Prelude.{◌≡◌, ◌≢◌, ℕ, Bool, true, false, List, Option, Some, option_map}
 use Rattle.std.specs.FinMap as map
+use Rattle.up_events.specs.History.{is_known}
+use Rattle.up_events.specs.declared.event.Accepted.{Accepted}
 use Rattle.up_events.specs.declared.event.Kind.{Kind}
 use Rattle.up_headers.specs.declared.request.Request.{Request}
 use Rattle.up_headers.specs.declared.request.Request.TheVariants as request
 use Rattle.up_headers.specs.declared.request.NewUpload.{NewUpload}
 use Rattle.up_machine.specs.Content.{Content, made_of}
 use Rattle.up_machine.specs.State.{Contents, next}
-use Rattle.up_machine.specs.declared.details.Details.{Details}
+
+pub record Details : Type 0 where
+  pub id : ℕ
+  pub kind : Kind
+  pub pairs : List (List ℕ × List ℕ)
+  pub concat : Option (List ℕ)
 
 -- its parts
 abbrev pub details_id : Details → ℕ
@@ -29,6 +36,12 @@ details_of id x = record { id = id; kind = x.kind; pairs = x.pairs; concat = x.c
 -- the same, if there is such an upload
 abbrev pub details_in : Contents → ℕ → Option Details
 details_in content id = option_map (details_of id) (map.get content id)
+
+-- these are of an upload that was created, and what that was created with, if it is still there
+abbrev pub IsOfUpload : Contents → List Accepted → Details → Type 0
+IsOfUpload content changes details =
+    (is_known changes details.id ≡ true)
+    × ((x : Content) → map.get content details.id ≡ Some x → details ≡ details_of details.id x)
 
 -- ---- laws
 

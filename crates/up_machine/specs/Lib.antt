@@ -8,6 +8,7 @@ pub mod Stored
 pub mod State
 pub mod StateCode
 pub mod Details
+pub mod Fresh
 pub mod Responses
 pub mod Refusals
 pub mod Decision

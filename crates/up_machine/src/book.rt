@@ -4,10 +4,10 @@ ghost use Rattle.std.specs.FinMap as map;
 
 use crate::ask::{Ask, Point, first_size};
 use crate::checks::{change_by, check_asked, check_commit, check_patch};
+use crate::fresh::{Fresh, reserve};
 use crate::plan::{Asked, Done, Plan};
 use crate::refusal::Refusal;
 use crate::remains::Remains;
-use crate::removed::{Removed, remove_noted};
 use crate::upload::Upload;
 use crate::uploads::Uploads;
 use crate::{answer, parts};
@@ -26,8 +26,8 @@ pub struct Book {
     journal: Journal,
     closed: bool,
     pub(crate) max_size: u64,
-    /// What removed uploads were created with, if that is kept.
-    pub(crate) removed: Option<Removed>,
+    /// What uploads were created with, if lanes ask for that.
+    pub(crate) fresh: Option<Fresh>,
 }
 
 impl Model for Book {
@@ -39,6 +39,7 @@ impl Model for Book {
     ghost coded = { state_code };
 
     ghost use Rattle.up_machine.specs.Fits.{IsSoundBook};
+    ghost use Rattle.up_machine.specs.Fresh.{AreFresh};
 
     ghost view = { λ a. record {
       content = a.uploads;
@@ -47,12 +48,15 @@ impl Model for Book {
       max_size = a.max_size;
     } };
 
-    ghost invariant = { λ a. IsSoundBook (record {
-      content = a.uploads;
-      journal = a.journal;
-      closed = a.closed;
-      max_size = a.max_size;
-    }) };
+    ghost invariant = { λ a. record {
+      sound : IsSoundBook (record {
+        content = a.uploads;
+        journal = a.journal;
+        closed = a.closed;
+        max_size = a.max_size;
+      });
+      fresh : AreFresh a.uploads a.journal.accepted a.fresh;
+    } };
 }
 
 impl Book {
@@ -80,7 +84,7 @@ impl Book {
             journal: Journal::new(alloc, lanes)?,
             closed: false,
             max_size,
-            removed: None,
+            fresh: None,
         })
     }
 
@@ -96,7 +100,7 @@ impl Book {
             journal: Journal::forgetting(alloc, lanes)?,
             closed: false,
             max_size,
-            removed: None,
+            fresh: None,
         })
     }
 
@@ -164,6 +168,22 @@ impl Book {
         Ok(())
     }
 
+    /// Notes for the lane of a new upload what it was created with, if lanes ask for that. There is room.
+    fn note_details(&mut self, id: Id)
+        ensures { self.new ≡ self.old }
+    {
+        if self.fresh.is_none() {
+            return;
+        }
+        let Ok(Some(details)) = self.details(id) else {
+            return;
+        };
+        let Some(fresh) = &mut self.fresh else {
+            return;
+        };
+        fresh.add(details);
+    }
+
     /// Creates an upload (tus 1.0.0, Creation).
     fn create(
         &mut self,
@@ -181,7 +201,9 @@ impl Book {
     {
         self.check_create(&new, id, asked)?;
         let response = answer::to_create(alloc, id)?;
+        reserve(&mut self.fresh, id)?;
         let change = self.uploads.create(alloc, &mut self.journal, new, id)?;
+        self.note_details(id);
         Ok(Done {
             response,
             change: Some(change),
@@ -305,14 +327,8 @@ impl Book {
         self.check_delete(id)?;
         check_asked(false, asked)?;
         let response = answer::to_delete(alloc);
-        let Book {
-            uploads,
-            journal,
-            removed,
-            ..
-        } = self;
-        let change = Accepted::Terminated { id };
-        remove_noted(removed, uploads, journal, change, id, remains)?;
+        self.journal.note(Accepted::Terminated { id })?;
+        self.uploads.remove(id, remains);
         let change = Some(Accepted::Terminated { id });
         Ok(Done { response, change })
     }

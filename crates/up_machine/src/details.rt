@@ -4,33 +4,51 @@ ghost use Rattle.std.specs.Option.{option_copied};
 ghost use Rattle.up_machine.specs.Details.{details_concat, details_id, details_kind};
 ghost use Rattle.up_machine.specs.Details.{details_pairs};
 
-use crate::copies::{copy_pairs, copy_text};
 use crate::upload::text;
-use std::alloc::Global;
+use std::marker::Model;
+use std::sync::Arc;
 use up_events::{Id, Kind, NoMemory};
 use up_headers::Pairs;
 use up_message::Sequence;
 
+/// What a creation said of an upload, whatever its id.
+#[derive(Drop)]
+pub struct Creation {
+    pub kind: Kind,
+    pub pairs: Pairs,
+    pub concat: Option<Sequence<u8>>,
+}
+
 /// What an upload was created with: for whoever tells somebody of its events, also after it was removed. Only a book
-/// makes this, of one of its uploads.
+/// makes this, of one of its uploads, with which it is shared.
 #[derive(Drop)]
 pub struct Details {
     pub(crate) id: Id,
-    pub(crate) kind: Kind,
-    pub(crate) pairs: Pairs,
-    pub(crate) concat: Option<Sequence<u8>>,
+    pub(crate) creation: Arc<Creation>,
+}
+
+impl Model for Details {
+    ghost use Rattle.std.specs.Arc.{arc_value};
+    ghost use Rattle.up_machine.specs.Details.{Details as Seen};
+
+    ghost Value = { Seen };
+
+    ghost view = { λ a. record {
+      id = a.id;
+      kind = (arc_value a.creation).kind;
+      pairs = (arc_value a.creation).pairs;
+      concat = (arc_value a.creation).concat;
+    } };
 }
 
 impl Details {
-    /// A copy. `NoMemory` if memory runs out.
-    pub fn copy(&self, alloc: Global) -> Result<Details, NoMemory>
+    /// The same for another owner, without a copy. `NoMemory` if there are too many owners.
+    pub fn share(&self) -> Result<Details, NoMemory>
         ensures { IfOk result (λ made. made ≡ self.now) }
     {
         Ok(Details {
             id: self.id,
-            kind: self.kind,
-            pairs: copy_pairs(alloc, self.pairs())?,
-            concat: copy_text(alloc, self.concat())?,
+            creation: Arc::try_clone(&self.creation)?,
         })
     }
 
@@ -45,20 +63,20 @@ impl Details {
     pub fn kind(&self) -> Kind
         ensures { result ≡ details_kind self.now }
     {
-        self.kind
+        self.creation.kind
     }
 
     /// The pairs of the metadata text.
     pub fn pairs(&self) -> &[(Sequence<u8>, Sequence<u8>)]
         ensures { result.now ≡ details_pairs self.now }
     {
-        self.pairs.as_slice()
+        self.creation.pairs.as_slice()
     }
 
     /// The text of `Upload-Concat` as it was sent, if it is not empty.
     pub fn concat(&self) -> Option<&[u8]>
         ensures { option_copied result ≡ details_concat self.now }
     {
-        text(&self.concat)
+        text(&self.creation.concat)
     }
 }

@@ -1,12 +1,12 @@
 //! What a book shows of its uploads, also of removed ones, and its answers to requests that change nothing.
-ghost use Rattle.std.specs.Prelude.{◌≡◌, IfOk, IfSome, Some};
+ghost use Rattle.std.specs.Prelude.{◌≡◌, All, IfOk, IfSome};
 ghost use Rattle.std.specs.FinMap as map;
 
 use crate::answer;
 use crate::book::Book;
 use crate::details::Details;
+use crate::fresh::Fresh;
 use crate::refusal::Refusal;
-use crate::removed::Removed;
 use crate::view::View;
 use std::alloc::Global;
 use up_events::{Id, NoMemory};
@@ -15,7 +15,7 @@ use up_message::Response;
 impl Book {
     ghost use Rattle.up_headers.specs.declared.request.Request.TheVariants as request;
     ghost use Rattle.up_machine.specs.Decision.{IsExpectedOrNoMemory, answer_to};
-    ghost use Rattle.up_machine.specs.Details.{details_id, details_in};
+    ghost use Rattle.up_machine.specs.Details.{IsOfUpload, details_in};
     ghost use Rattle.up_machine.specs.Views.{IsViewIfAny};
 
     /// The upload with this id, if there is one.
@@ -28,37 +28,37 @@ impl Book {
         }
     }
 
-    /// From now on, keeps what uploads were created with also after they were removed, until it is to forget them. A
-    /// removal may then find no memory for this. Takes no memory.
-    pub fn keep_removed(&mut self, alloc: Global)
-        ensures { self.new ≡ self.old }
+    /// What the upload with this id was created with, if there is one. It is shared and not copied. `NoMemory` if it has
+    /// too many owners.
+    pub fn details(&self, id: Id) -> Result<Option<Details>, NoMemory>
+        ensures { IfOk result (λ found. found ≡ details_in self.now.content id) }
     {
-        self.removed = Some(Removed::new(alloc));
-    }
-
-    /// What the upload with this id was created with: one that there is, or one that was removed and is kept. `NoMemory`
-    /// if memory runs out.
-    pub fn details(&self, alloc: Global, id: Id) -> Result<Option<Details>, NoMemory>
-        ensures own { IfOk result (λ found. IfSome found (λ details. details_id details ≡ id)) }
-        ensures there { IfOk result (λ found.
-            IfSome (details_in self.now.content id) (λ details. found ≡ Some details)) }
-    {
-        if let Some(upload) = self.uploads.get(id) {
-            return Ok(Some(upload.details(alloc, id)?));
-        }
-        match self.removed.as_ref().and_then(|removed| removed.get(id)) {
-            Some(details) => Ok(Some(details.copy(alloc)?)),
+        match self.uploads.get(id) {
+            Some(upload) => Ok(Some(upload.details(id)?)),
             None => Ok(None),
         }
     }
 
-    /// Forgets what a removed upload was created with.
-    pub fn forget_removed(&mut self, id: Id)
+    /// From now on, keeps what uploads are created with until one of this many lanes takes it. A creation may then find
+    /// no memory for this. `NoMemory` if memory runs out.
+    pub fn keep_details(&mut self, alloc: Global, lanes: u64) -> Result<(), NoMemory>
         ensures { self.new ≡ self.old }
     {
-        if let Some(removed) = &mut self.removed {
-            removed.forget(id);
-        }
+        self.fresh = Some(Fresh::new(alloc, lanes)?);
+        Ok(())
+    }
+
+    /// What uploads of this lane were created with that it has not taken yet, also those that were removed since. `None`
+    /// if that isn't kept. Takes no memory.
+    pub fn take_details(&mut self, lane: u64) -> Option<Vec<Details>>
+        ensures same { self.new ≡ self.old }
+        ensures own { IfSome result (λ list.
+            All (IsOfUpload self.old.content self.old.journal.accepted) list.items) }
+    {
+        let Some(fresh) = &mut self.fresh else {
+            return None;
+        };
+        fresh.take(lane)
     }
 
     /// What the server supports (tus 1.0.0, OPTIONS).

@@ -2,8 +2,6 @@
 ghost use Rattle.std.specs.Prelude.{◌≡◌, option_map};
 ghost use Rattle.up_machine.specs.Details.{details_of};
 
-use crate::details::Details;
-use crate::store::Store;
 use crate::upload::Upload;
 use std::marker::Model;
 use up_events::Id;
@@ -13,8 +11,7 @@ use up_message::Piece;
 /// nobody waits for that. Contracts do not describe its content.
 #[derive(Drop)]
 pub struct Remains {
-    bytes: Option<Store>,
-    details: Option<Details>,
+    upload: Option<Upload>,
     body: Option<Piece>,
 }
 
@@ -28,27 +25,14 @@ impl Remains {
     /// Nothing. Takes no memory.
     pub fn new() -> Self {
         Remains {
-            bytes: None,
-            details: None,
+            upload: None,
             body: None,
         }
     }
 
-    /// Takes the bytes of an upload that was removed, which had this id. Returns what it was created with.
-    pub(crate) fn take_upload(&mut self, id: Id, upload: Option<Upload>) -> Option<Details>
-        ensures { result ≡ option_map (details_of id) upload }
-    {
-        let Some(upload) = upload else {
-            return None;
-        };
-        let (details, bytes) = upload.into_parts(id);
-        self.bytes = Some(bytes);
-        Some(details)
-    }
-
-    /// Takes what an upload was created with that was removed.
-    pub(crate) fn take_details(&mut self, details: Option<Details>) {
-        self.details = details;
+    /// Takes an upload that was removed, if there was one.
+    pub(crate) fn take_upload(&mut self, upload: Option<Upload>) {
+        self.upload = upload;
     }
 
     /// Takes the body of a PATCH, which the upload shares if it kept it.

@@ -2,30 +2,29 @@
 ghost use Rattle.std.specs.Prelude.{◌≡◌, [], false, length, IfOk, OnOk, OnErr};
 ghost use Rattle.std.specs.Option.{option_copied};
 
-use crate::copies::{copy_pairs, copy_text};
-use crate::details::Details;
+use crate::details::{Creation, Details};
 use crate::pieces::Pieces;
 use crate::store::Store;
 use crate::view::View;
 use std::alloc::{AllocError, Global};
 use std::marker::Model;
 use std::mem;
+use std::sync::Arc;
 use up_events::{Accepted, Id, Journal, Kind, MAX_UPLOAD_BYTES, NoMemory};
-use up_headers::{NewUpload, Pairs};
+use up_headers::NewUpload;
 use up_message::{Piece, Segments, Sequence};
 
 /// An upload: what the client said about it, and the bytes so far, never more than its length, if that is known.
 #[derive(Drop)]
 pub struct Upload {
-    kind: Kind,
+    creation: Arc<Creation>,
     length: Option<u64>,
     bytes: Store,
     metadata: Option<Sequence<u8>>,
-    pairs: Pairs,
-    concat: Option<Sequence<u8>>,
 }
 
 impl Model for Upload {
+    ghost use Rattle.std.specs.Arc.{arc_value};
     ghost use Rattle.up_machine.specs.Content.{Content, content_code};
     ghost use Rattle.up_machine.specs.Stored.{stored, IsStored};
 
@@ -34,12 +33,12 @@ impl Model for Upload {
     ghost coded = { content_code };
 
     ghost view = { λ a. record {
-      kind = a.kind;
+      kind = (arc_value a.creation).kind;
       length = a.length;
       bytes = stored a.bytes;
       metadata = a.metadata;
-      pairs = a.pairs;
-      concat = a.concat;
+      pairs = (arc_value a.creation).pairs;
+      concat = (arc_value a.creation).concat;
     } };
 
     ghost invariant = { λ a. IsStored a.bytes a.length };
@@ -62,11 +61,12 @@ impl Upload {
     ghost use Rattle.up_events.specs.History.{is_final_kind, CanFollow};
     ghost use Rattle.up_events.specs.Records.{noted};
 
-    /// A new upload with these first bytes, which are all the bytes of a final one; any other has none.
-    pub fn new(alloc: Global, new: NewUpload, first: Segments) -> Self
+    /// A new upload with these first bytes, which are all the bytes of a final one; any other has none. `NoMemory` if
+    /// memory runs out.
+    pub fn new(alloc: Global, new: NewUpload, first: Segments) -> Result<Self, NoMemory>
         requires within { IsWithinLength (made_of new first) }
         requires none { is_final_kind new.kind ≡ false → first ≡ [] }
-        ensures { result ≡ made_of new first }
+        ensures { IfOk result (λ upload. upload ≡ made_of new first) }
     {
         let NewUpload {
             kind,
@@ -82,21 +82,24 @@ impl Upload {
             let bytes = Store::Open(Pieces::new(alloc));
             (length, bytes.frozen(alloc, length))
         };
-        Upload {
+        let creation = Creation {
             kind,
+            pairs,
+            concat,
+        };
+        Ok(Upload {
+            creation: Arc::new(alloc, creation)?,
             length,
             bytes,
             metadata,
-            pairs,
-            concat,
-        }
+        })
     }
 
     /// The kind of the upload.
     pub fn kind(&self) -> Kind
         ensures { result ≡ self.now.kind }
     {
-        self.kind
+        self.creation.kind
     }
 
     /// The length in bytes, if it is known.
@@ -131,14 +134,14 @@ impl Upload {
     pub fn pairs(&self) -> &[(Sequence<u8>, Sequence<u8>)]
         ensures { result.now ≡ self.now.pairs }
     {
-        self.pairs.as_slice()
+        self.creation.pairs.as_slice()
     }
 
     /// The text of `Upload-Concat`, if there is one.
     pub fn concat(&self) -> Option<&[u8]>
         ensures { option_copied result ≡ self.now.concat }
     {
-        text(&self.concat)
+        text(&self.creation.concat)
     }
 
     /// A view of the upload.
@@ -147,7 +150,7 @@ impl Upload {
     {
         let (runs, pieces, tail) = self.bytes.slices();
         View {
-            kind: self.kind,
+            kind: self.kind(),
             offset: self.offset(),
             length: self.length,
             metadata: self.metadata(),
@@ -159,29 +162,14 @@ impl Upload {
         }
     }
 
-    /// What the upload was created with, under this id. `NoMemory` if memory runs out.
-    pub fn details(&self, alloc: Global, id: Id) -> Result<Details, NoMemory>
+    /// What the upload was created with, under this id, without a copy. `NoMemory` if there are too many owners.
+    pub fn details(&self, id: Id) -> Result<Details, NoMemory>
         ensures { IfOk result (λ details. details ≡ details_of id self.now) }
     {
         Ok(Details {
             id,
-            kind: self.kind,
-            pairs: copy_pairs(alloc, self.pairs())?,
-            concat: copy_text(alloc, self.concat())?,
+            creation: Arc::try_clone(&self.creation)?,
         })
-    }
-
-    /// The same of an upload that is removed, and its bytes. Takes no memory.
-    pub fn into_parts(self, id: Id) -> (Details, Store)
-        ensures { result.0 ≡ details_of id self }
-    {
-        let details = Details {
-            id,
-            kind: self.kind,
-            pairs: self.pairs,
-            concat: self.concat,
-        };
-        (details, self.bytes)
     }
 
     /// The bytes for a response or for another upload, shared if all have arrived. `AllocError` if memory runs out.

@@ -7,7 +7,6 @@ ghost use Rattle.std.specs.BTreeMap.{get, Updates, IsUnchanged};
 ghost use Rattle.up_events.specs.History.{CanFollow};
 ghost use Rattle.up_events.specs.Records.{noted};
 
-use crate::details::Details;
 use crate::parts;
 use crate::remains::Remains;
 use crate::upload::Upload;
@@ -64,7 +63,6 @@ fn insert_noted(
 impl Uploads {
     ghost use Rattle.up_events.specs.declared.event.Accepted.TheVariants.{Created};
     ghost use Rattle.up_machine.specs.Content.{with_more, made_of, CanTake};
-    ghost use Rattle.up_machine.specs.Details.{details_in};
     ghost use Rattle.up_machine.specs.State.{first_bytes};
 
     /// No uploads. Takes no memory.
@@ -130,7 +128,7 @@ impl Uploads {
         ensures not_noted { OnErr result (journal.new ≡ journal.old) }
     {
         let first = parts::first_bytes(alloc, self, &new)?;
-        let upload = Upload::new(alloc, new, first);
+        let upload = Upload::new(alloc, new, first)?;
         let length = upload.length();
         let kind = upload.kind();
         let change = Accepted::Created { id, length, kind };
@@ -156,11 +154,10 @@ impl Uploads {
         insert_noted(&mut self.entries, journal, change, id, upload)
     }
 
-    /// Takes an upload out, with its bytes, which are dropped later. Returns what it was created with. Takes no memory.
-    pub fn remove(&mut self, id: Id, remains: &mut Remains) -> Option<Details>
-        ensures removes { self.new ≡ map.remove self.old id }
-        ensures details { result ≡ details_in self.old id }
+    /// Takes an upload out, which is dropped later. Takes no memory.
+    pub fn remove(&mut self, id: Id, remains: &mut Remains)
+        ensures { self.new ≡ map.remove self.old id }
     {
-        remains.take_upload(id, self.entries.remove(&id))
+        remains.take_upload(self.entries.remove(&id));
     }
 }

@@ -32,7 +32,7 @@ pub fn open<B: Naming, H: PostHook + Drop>(
     let (board, takes) = Board::<B>::forgetting(alloc, parts, settings.max_size)?;
     let describes = post_hooks.iter().any(|hook| hook.needs_details());
     let board = if describes {
-        board.describing(alloc)
+        board.describing(alloc)?
     } else {
         board
     };

@@ -1,12 +1,14 @@
 use Rattle.std.proofs.Common.{◌≡◌, Ok, Some, [], ◌∷◌, ◌++◌, length, refl, sym, ap, ◌∙◌, subst, rules}
+use Rattle.std.specs.FinMap as map
 use Rattle.up_headers.specs.Rows.{first_that_holds}
 use Rattle.up_headers.specs.declared.request.Request.TheVariants as request
 use Rattle.up_machine.specs.Decision.{IsExpectedOrNoMemory, change_by, decide, rows_of}
 use Rattle.up_machine.specs.Fits.{Fits}
 use Rattle.up_machine.specs.Responses.{reached_offset}
-use Rattle.up_machine.specs.State.{Contents, State, after}
+use Rattle.up_machine.specs.State.{Contents, State, after, extended}
 use Rattle.up_machine.proofs.DecisionLemmas.{decided, refused_by}
 use Rattle.up_machine.proofs.FitsLemmas.{patch_takes, sound_after}
+use Rattle.up_machine.proofs.FreshLemmas.{fresh_after, stays_patched}
 use Rattle.up_machine.proofs.book.Book.append.Goals as goal
 
 pub append-requires-clause-room : goal.append-requires-clause-room
@@ -15,7 +17,7 @@ append-requires-clause-room c =
     let p = c.args.patch.now in
     let s : State = record { content = a.uploads; journal = a.journal; closed = a.closed; max_size = a.max_size } in
     let made : change_by p.id c.in_ok-step.step.declared (length p.bytes) ≡ Some c.in-Some.change = ap (change_by p.id c.in_ok-step.step.declared) (sym c.len-count.ensures) ∙ sym c.change_by.ensures ∙ c.in-Some.is in
-    let takes = patch_takes s p c.args.asked.now c.in_ok-step.step c.in-Some.change c.self.invariant c.in_ok-step.ensures made in
+    let takes = patch_takes s p c.args.asked.now c.in_ok-step.step c.in-Some.change c.self.invariant.sound c.in_ok-step.ensures made in
     takes.room
 
 pub append-requires-clause-follows : goal.append-requires-clause-follows
@@ -24,7 +26,7 @@ append-requires-clause-follows c =
     let p = c.args.patch.now in
     let s : State = record { content = a.uploads; journal = a.journal; closed = a.closed; max_size = a.max_size } in
     let made : change_by p.id c.in_ok-step.step.declared (length p.bytes) ≡ Some c.in-Some.change = ap (change_by p.id c.in_ok-step.step.declared) (sym c.len-count.ensures) ∙ sym c.change_by.ensures ∙ c.in-Some.is in
-    let takes = patch_takes s p c.args.asked.now c.in_ok-step.step c.in-Some.change c.self.invariant c.in_ok-step.ensures made in
+    let takes = patch_takes s p c.args.asked.now c.in_ok-step.step c.in-Some.change c.self.invariant.sound c.in_ok-step.ensures made in
     takes.can
 
 pub invariant_of-self-2 : goal.invariant_of-self-2
@@ -33,10 +35,14 @@ invariant_of-self-2 c =
     let p = c.args.patch.now in
     let s : State = record { content = a.uploads; journal = a.journal; closed = a.closed; max_size = a.max_size } in
     let made : change_by p.id c.in_ok-step.step.declared (length p.bytes) ≡ Some c.in-Some.change = ap (change_by p.id c.in_ok-step.step.declared) (sym c.len-count.ensures) ∙ sym c.change_by.ensures ∙ c.in-Some.is in
-    let takes = patch_takes s p c.args.asked.now c.in_ok-step.step c.in-Some.change c.self.invariant c.in_ok-step.ensures made in
+    let takes = patch_takes s p c.args.asked.now c.in_ok-step.step c.in-Some.change c.self.invariant.sound c.in_ok-step.ensures made in
     let put = takes.next c.append.new.self c.in_ok-append.ensures.ok in
-    sound_after s c.in-Some.change c.append.new.self c.append.new.journal c.self.invariant takes.can c.in_ok-append.ensures.noted
-    (subst (λ (m : Contents). Fits m (a.journal.accepted ++ c.in-Some.change ∷ [])) (sym put) takes.fits)
+    record {
+      sound = sound_after s c.in-Some.change c.append.new.self c.append.new.journal c.self.invariant.sound takes.can c.in_ok-append.ensures.noted
+          (subst (λ (m : Contents). Fits m (a.journal.accepted ++ c.in-Some.change ∷ [])) (sym put) takes.fits);
+      fresh = fresh_after a.uploads (extended a.uploads p (map.get a.uploads p.id)) c.append.new.self a.journal c.append.new.journal c.in-Some.change a.fresh
+          (stays_patched a.uploads a.journal.accepted c.in-Some.change p (map.get a.uploads p.id) refl) put c.in_ok-append.ensures.noted c.self.invariant.fresh;
+    }
 
 pub returns-in_err-step-clause-answer : goal.returns-in_err-step-clause-answer
 returns-in_err-step-clause-answer c =
@@ -84,7 +90,7 @@ returns-clause-ok c =
     let p = c.args.patch.now in
     let s : State = record { content = a.uploads; journal = a.journal; closed = a.closed; max_size = a.max_size } in
     let made : change_by p.id c.in_ok-step.step.declared (length p.bytes) ≡ Some c.in-Some.change = ap (change_by p.id c.in_ok-step.step.declared) (sym c.len-count.ensures) ∙ sym c.change_by.ensures ∙ c.in-Some.is in
-    let takes = patch_takes s p c.args.asked.now c.in_ok-step.step c.in-Some.change c.self.invariant c.in_ok-step.ensures made in
+    let takes = patch_takes s p c.args.asked.now c.in_ok-step.step c.in-Some.change c.self.invariant.sound c.in_ok-step.ensures made in
     let put = takes.next c.append.new.self c.in_ok-append.ensures.ok in
     let change : c.change_by-change.result ≡ Some c.in-Some.change = c.change_by-change.ensures ∙ sym c.change_by.ensures ∙ c.in-Some.is in
     let new : State = record { content = c.append.new.self; journal = c.append.new.journal; closed = a.closed; max_size = a.max_size } in

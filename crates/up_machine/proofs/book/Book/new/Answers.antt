@@ -11,7 +11,10 @@ pub invariant_of-result : goal.invariant_of-result
 invariant_of-result c =
     let none : c.in_ok-new.field-0.accepted ≡ [] = ap (λ (r : Records). r.accepted) c.in_ok-new.ensures in
     record {
-      legal = subst IsLegal (sym none) legal_empty;
-      fits = subst (λ (m : Contents). Fits m c.in_ok-new.field-0.accepted) (sym c.new.ensures) (subst (λ l. Fits map.empty l) (sym none) fits_empty);
-      small = c.requires.small;
+      sound = record {
+        legal = subst IsLegal (sym none) legal_empty;
+        fits = subst (λ (m : Contents). Fits m c.in_ok-new.field-0.accepted) (sym c.new.ensures) (subst (λ l. Fits map.empty l) (sym none) fits_empty);
+        small = c.requires.small;
+      };
+      fresh = tt;
     }
