@@ -1,15 +1,14 @@
 //! What a hook server is told and asked, as JSON in the form of tusd's hooks.
 ghost use Rattle.std.specs.Prelude.{◌≡◌, ◌++◌, IfOk, OnOk, string_bytes};
 ghost use Rattle.std.specs.Option.{option_copied, option_or};
-ghost use Rattle.serde_json.specs.Data.{Data, string};
+ghost use Rattle.serde_json.specs.Data.{Data};
 ghost use Rattle.serde_json.specs.Written.{IsInOrder, compact_text};
-ghost use Rattle.up_events.specs.IdText.{text_of};
-ghost use Rattle.up_hook_client.specs.Told.{AsksAbout, TellsOf, ask_begin, ask_upload};
-ghost use Rattle.up_hook_client.specs.Told.{event_begin, event_upload, hook_end, id_text};
-ghost use Rattle.up_hook_client.specs.Told.{point_name};
+ghost use Rattle.up_machine.specs.Details.{details_concat};
+ghost use Rattle.up_hook_client.specs.Told.{AreParts, AsksAbout, TellsOf, ask_begin, ask_upload};
+ghost use Rattle.up_hook_client.specs.Told.{event_begin, event_upload, hook_end, point_name};
 
 use crate::headers::headers_of;
-use crate::upload::{add_upload, metadata_text, parts_text};
+use crate::upload::{begin_upload, end_upload};
 use serde_json::{Map, Value, put};
 use std::alloc::{AllocError, Global};
 use up_events::{Event, Id};
@@ -19,13 +18,6 @@ use up_message::Sequence;
 
 /// How many bytes a text may have at first, beside those of the request. Few texts have more.
 const ROOM: usize = 512;
-
-/// The text of an id in JSON.
-fn quoted_id(alloc: Global, id: Id) -> Result<String, AllocError>
-    ensures { IfOk result (λ text. string_bytes text ≡ compact_text (string (text_of id))) }
-{
-    format!(in alloc; "\"{id}\"")
-}
 
 /// Adds the end of a text that tells of a hook.
 fn add_hook(text: &mut String, hook: &str) -> Result<(), AllocError>
@@ -48,39 +40,28 @@ fn begin_event(alloc: Global, event: &Event) -> Result<String, AllocError>
     Ok(text)
 }
 
-/// Adds an event's upload in JSON to a text, with the text of its parts.
+/// Adds an event's upload in JSON to a text.
 fn add_event_upload(
     alloc: Global,
     text: &mut String,
     event: &Event,
     details: &Details,
-    parts: &str,
 ) -> Result<(), AllocError>
-    ensures { OnOk result ((q : Data) → parts.now ≡ compact_text q
-        → string_bytes text.new ≡ string_bytes text.old
-        ++ compact_text (event_upload event.now details.now q)) }
+    ensures { OnOk result ((parts : Data) × AreParts (details_concat details.now) parts
+        × (string_bytes text.new ≡ string_bytes text.old
+        ++ compact_text (event_upload event.now details.now parts))) }
 {
-    let id = quoted_id(alloc, event.id)?;
-    let pairs = metadata_text(alloc, details.pairs())?;
-    let (kind, length) = (details.kind(), event.length);
-    add_upload(
-        text,
-        id.as_str(),
-        kind,
-        pairs.as_str(),
-        parts,
-        event.offset,
-        length,
-    )
+    let (pairs, concat) = (details.pairs(), details.concat());
+    begin_upload(text, Some(event.id), details.kind())?;
+    end_upload(alloc, text, pairs, event.offset, concat, event.length)
 }
 
 /// What is told of an event of an upload that was created with these details. `AllocError` if memory runs out.
 pub fn event_text(alloc: Global, event: &Event, details: &Details) -> Result<String, AllocError>
     ensures { IfOk result (λ text. TellsOf event.now details.now (string_bytes text)) }
 {
-    let parts = parts_text(alloc, details.concat())?;
     let mut text = begin_event(alloc, event)?;
-    add_event_upload(alloc, &mut text, event, details, parts.as_str())?;
+    add_event_upload(alloc, &mut text, event, details)?;
     add_hook(&mut text, event.hook.name())?;
     Ok(text)
 }
@@ -94,42 +75,6 @@ fn point_name(point: Point) -> &'static str
         Point::Finish => "pre-finish",
         Point::Terminate => "pre-terminate",
     }
-}
-
-/// The text of an id in JSON; empty if there is none.
-fn id_text(alloc: Global, id: Option<Id>) -> Result<String, AllocError>
-    ensures { IfOk result (λ text. string_bytes text ≡ compact_text (string (id_text id))) }
-{
-    match id {
-        Some(id) => quoted_id(alloc, id),
-        None => String::from_str(alloc, "\"\""),
-    }
-}
-
-/// Adds the upload that a closure is asked about to a text, in JSON, with the text of its parts.
-fn add_ask_upload(
-    alloc: Global,
-    text: &mut String,
-    ask: &Ask,
-    id: Option<Id>,
-    parts: &str,
-) -> Result<(), AllocError>
-    ensures { OnOk result ((q : Data) → parts.now ≡ compact_text q
-        → string_bytes text.new ≡ string_bytes text.old
-        ++ compact_text (ask_upload ask.now id q)) }
-{
-    let id = id_text(alloc, id)?;
-    let pairs = metadata_text(alloc, ask.pairs.as_slice())?;
-    let (kind, length) = (ask.kind, ask.length);
-    add_upload(
-        text,
-        id.as_str(),
-        kind,
-        pairs.as_str(),
-        parts,
-        ask.offset,
-        length,
-    )
 }
 
 /// These bytes as text; none if they are no UTF-8.
@@ -181,6 +126,22 @@ fn bytes_of(text: &Option<Sequence<u8>>) -> Option<&[u8]>
     }
 }
 
+/// Adds the upload that a closure is asked about to a text, in JSON.
+fn add_ask_upload(
+    alloc: Global,
+    text: &mut String,
+    ask: &Ask,
+    id: Option<Id>,
+) -> Result<(), AllocError>
+    ensures { OnOk result ((parts : Data) × AreParts ask.now.concat parts
+        × (string_bytes text.new ≡ string_bytes text.old
+        ++ compact_text (ask_upload ask.now id parts))) }
+{
+    let (pairs, concat) = (ask.pairs.as_slice(), bytes_of(&ask.concat));
+    begin_upload(text, id, ask.kind)?;
+    end_upload(alloc, text, pairs, ask.offset, concat, ask.length)
+}
+
 /// What is asked before a change, about a request of which the fields of these names are told. A new upload has the id
 /// with which it will be made. `AllocError` if memory runs out.
 pub fn ask_text(
@@ -192,11 +153,10 @@ pub fn ask_text(
     ensures { IfOk result (λ text.
         AsksAbout ask.now (option_or ask.now.target origin.now.id) (string_bytes text)) }
 {
-    let parts = parts_text(alloc, bytes_of(&ask.concat))?;
     let request = request_text(alloc, origin, names)?;
     let mut text = begin_ask(alloc, request.as_str())?;
     let id = ask.target.or(origin.id);
-    add_ask_upload(alloc, &mut text, ask, id, parts.as_str())?;
+    add_ask_upload(alloc, &mut text, ask, id)?;
     add_hook(&mut text, point_name(ask.point))?;
     Ok(text)
 }

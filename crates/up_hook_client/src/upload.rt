@@ -1,22 +1,21 @@
 //! What a hook server is told of an upload.
-ghost use Rattle.std.specs.Prelude.{◌≡◌, ◌++◌, ◌∷◌, [], List, ℕ, IfOk, OnOk, Some, is_none};
-ghost use Rattle.std.specs.Prelude.{string_bytes};
-ghost use Rattle.std.specs.Option.{option_copied};
-ghost use Rattle.serde_json.specs.Data.{Data, boolean, string};
+ghost use Rattle.std.specs.Prelude.{◌≡◌, ◌++◌, IfOk, OnOk, Some, is_none, string_bytes};
+ghost use Rattle.std.specs.List.{list_all};
+ghost use Rattle.std.specs.Option.{IfSome, option_copied};
+ghost use Rattle.std.specs.Str.Lossy.{utf8_lossy};
+ghost use Rattle.json.specs.Print.{escape};
+ghost use Rattle.serde_json.specs.Data.{Data, boolean};
 ghost use Rattle.serde_json.specs.View.{view};
 ghost use Rattle.serde_json.specs.Written.{compact_text};
-ghost use Rattle.up_hook_client.specs.Told.{AreParts, id_strings, is_final, is_partial};
-ghost use Rattle.up_hook_client.specs.Told.{metadata, upload_data};
+ghost use Rattle.up_hook_client.specs.Told.{AreParts, id_strings, id_text, is_final, is_partial};
+ghost use Rattle.up_hook_client.specs.Told.{is_plain, length_text, metadata, pair_text};
+ghost use Rattle.up_hook_client.specs.Told.{upload_begin, upload_end};
 
-use json::Writer;
 use serde_json::{Map, Value};
 use std::alloc::{AllocError, Global};
 use up_events::{Id, Kind};
 use up_headers::concat_of;
 use up_message::Sequence;
-
-/// How many bytes the text of a pair may have at first. Few have more.
-const ROOM: usize = 128;
 
 /// The pairs of metadata, as an object. What is no UTF-8 is replaced, and of two keys that become one the later counts.
 fn metadata_of(alloc: Global, pairs: &[(Sequence<u8>, Sequence<u8>)]) -> Result<Value, AllocError>
@@ -31,21 +30,41 @@ fn metadata_of(alloc: Global, pairs: &[(Sequence<u8>, Sequence<u8>)]) -> Result<
     Ok(Value::Object(members))
 }
 
-/// One pair of metadata, as an object in JSON.
-fn pair_text(alloc: Global, pair: &(Sequence<u8>, Sequence<u8>)) -> Result<String, AllocError>
-    ensures { IfOk result (λ text. string_bytes text ≡ compact_text (metadata (pair.now ∷ []))) }
+/// Whether these bytes stand in a string of JSON as they are.
+fn are_plain(bytes: &[u8]) -> bool
+    ensures { result ≡ list_all is_plain bytes.now }
 {
-    let key = String::from_utf8_lossy(alloc, pair.0.as_slice())?;
-    let value = String::from_utf8_lossy(alloc, pair.1.as_slice())?;
-    let mut writer = Writer::new(Vec::with_capacity(alloc, ROOM)?);
-    writer.begin_object()?;
-    writer.key(key.as_str())?;
-    writer.string(value.as_str())?;
-    writer.end_object()?;
-    Ok(String::from_utf8(writer.into_inner()).unwrap())
+    bytes
+        .iter()
+        .all(|byte| *byte >= b' ' && *byte != b'"' && *byte != b'\\')
 }
 
-/// Several pairs of metadata, as an object in JSON.
+/// The text that these bytes are, if it stands in a string of JSON as it is.
+fn plain_text(bytes: &[u8]) -> Option<&str>
+    ensures { IfSome result (λ text. escape (utf8_lossy bytes.now) ≡ text.now) }
+{
+    match str::from_utf8(bytes) {
+        Ok(text) if are_plain(bytes) => Some(text),
+        _ => None,
+    }
+}
+
+/// The key and the value of the only pair of metadata, if they stand in strings of JSON as they are.
+fn plain_pair(pairs: &[(Sequence<u8>, Sequence<u8>)]) -> Option<(&str, &str)>
+    ensures { IfSome result (λ pair.
+        pair_text pair.0.now pair.1.now ≡ compact_text (metadata pairs.now)) }
+{
+    match pairs {
+        [pair] => {
+            let key = plain_text(pair.0.as_slice())?;
+            let value = plain_text(pair.1.as_slice())?;
+            Some((key, value))
+        }
+        _ => None,
+    }
+}
+
+/// The pairs of metadata, as an object in JSON.
 fn pairs_text(alloc: Global, pairs: &[(Sequence<u8>, Sequence<u8>)]) -> Result<String, AllocError>
     ensures { IfOk result (λ text. string_bytes text ≡ compact_text (metadata pairs.now)) }
 {
@@ -53,16 +72,30 @@ fn pairs_text(alloc: Global, pairs: &[(Sequence<u8>, Sequence<u8>)]) -> Result<S
     members.to_string(alloc)
 }
 
-/// The pairs of metadata, as an object in JSON. A single one is written at once.
-pub fn metadata_text(
-    alloc: Global,
-    pairs: &[(Sequence<u8>, Sequence<u8>)],
-) -> Result<String, AllocError>
-    ensures { IfOk result (λ text. string_bytes text ≡ compact_text (metadata pairs.now)) }
+/// Adds an object of one member to a text, whose key and value stand there as they are.
+fn add_pair(text: &mut String, key: &str, value: &str) -> Result<(), AllocError>
+    ensures { OnOk result (string_bytes text.new ≡ string_bytes text.old
+        ++ pair_text key.now value.now) }
 {
-    match pairs {
-        [pair] => pair_text(alloc, pair),
-        _ => pairs_text(alloc, pairs),
+    write!(text, "{{\"{key}\":\"{value}\"}}")?;
+    Ok(())
+}
+
+/// Adds the pairs of metadata to a text, as an object in JSON. A single one that stands there as it is needs no map.
+fn add_metadata(
+    alloc: Global,
+    text: &mut String,
+    pairs: &[(Sequence<u8>, Sequence<u8>)],
+) -> Result<(), AllocError>
+    ensures { OnOk result (string_bytes text.new ≡ string_bytes text.old
+        ++ compact_text (metadata pairs.now)) }
+{
+    if pairs.is_empty() {
+        return text.push_str("{}");
+    }
+    match plain_pair(pairs) {
+        Some((key, value)) => add_pair(text, key, value),
+        None => text.push_str(pairs_text(alloc, pairs)?.as_str()),
     }
 }
 
@@ -89,16 +122,22 @@ fn parts_of(alloc: Global, concat: &[u8]) -> Result<Value, AllocError>
 }
 
 /// The parts of a final upload in JSON, from the text of its `Upload-Concat`.
-pub fn parts_text(alloc: Global, concat: Option<&[u8]>) -> Result<String, AllocError>
-    ensures { IfOk result (λ text. (parts : Data) × AreParts (option_copied concat.entry) parts
+fn parts_text(alloc: Global, concat: &[u8]) -> Result<String, AllocError>
+    ensures { IfOk result (λ text. (parts : Data) × AreParts (Some concat.now) parts
         × (string_bytes text ≡ compact_text parts)) }
 {
+    let parts = parts_of(alloc, concat)?;
+    parts.to_string(alloc)
+}
+
+/// Adds the parts of a final upload in JSON to a text, from the text of its `Upload-Concat`.
+fn add_parts(alloc: Global, text: &mut String, concat: Option<&[u8]>) -> Result<(), AllocError>
+    ensures { OnOk result ((parts : Data) × AreParts (option_copied concat.entry) parts
+        × (string_bytes text.new ≡ string_bytes text.old ++ compact_text parts)) }
+{
     match concat {
-        Some(text) => {
-            let parts = parts_of(alloc, text)?;
-            parts.to_string(alloc)
-        }
-        None => String::from_str(alloc, "null"),
+        Some(concat) => text.push_str(parts_text(alloc, concat)?.as_str()),
+        None => text.push_str("null"),
     }
 }
 
@@ -133,32 +172,59 @@ fn deferred_text(length: Option<u64>) -> &'static str
     }
 }
 
-/// Adds an upload in JSON to a text, with the texts of its id, its metadata and its parts.
-pub fn add_upload(
-    text: &mut String,
-    id: &str,
-    kind: Kind,
-    pairs: &str,
-    parts: &str,
-    offset: u64,
-    length: Option<u64>,
-) -> Result<(), AllocError>
-    ensures { OnOk result ((n : List ℕ) (p : Data) (q : Data)
-        → id.now ≡ compact_text (string n) → pairs.now ≡ compact_text p
-        → parts.now ≡ compact_text q
-        → string_bytes text.new ≡ string_bytes text.old
-        ++ compact_text (upload_data n kind p q offset length)) }
+/// Adds the text of an id, if there is one.
+fn add_id(text: &mut String, id: Option<Id>) -> Result<(), AllocError>
+    ensures { OnOk result (string_bytes text.new ≡ string_bytes text.old ++ id_text id) }
 {
+    if let Some(id) = id {
+        write!(text, "{id}")?;
+    }
+    Ok(())
+}
+
+/// Adds an upload in JSON to a text, up to its metadata.
+pub fn begin_upload(text: &mut String, id: Option<Id>, kind: Kind) -> Result<(), AllocError>
+    ensures { OnOk result (string_bytes text.new ≡ string_bytes text.old
+        ++ upload_begin (id_text id) kind) }
+{
+    text.push_str("{\"ID\":\"")?;
+    add_id(text, id)?;
     let (is_final, is_partial) = (final_text(kind), partial_text(kind));
     write!(
         text,
-        "{{\"ID\":{id},\"IsFinal\":{is_final},\"IsPartial\":{is_partial},\"MetaData\":{pairs}"
+        "\",\"IsFinal\":{is_final},\"IsPartial\":{is_partial},\"MetaData\":"
     )?;
+    Ok(())
+}
+
+/// Adds the length of an upload in JSON to a text, and what ends it.
+fn add_length(text: &mut String, length: Option<u64>) -> Result<(), AllocError>
+    ensures { OnOk result (string_bytes text.new ≡ string_bytes text.old ++ length_text length) }
+{
     let (size, is_deferred) = (length.unwrap_or(0), deferred_text(length));
     write!(
         text,
-        ",\"Offset\":{offset},\"PartialUploads\":{parts},\"Size\":{size},\
-        \"SizeIsDeferred\":{is_deferred},\"Storage\":null}}"
+        ",\"Size\":{size},\"SizeIsDeferred\":{is_deferred},\"Storage\":null}}"
     )?;
     Ok(())
+}
+
+/// Adds the rest of an upload in JSON to a text: its metadata, its offset, its parts, from the text of its
+/// `Upload-Concat`, and its length.
+pub fn end_upload(
+    alloc: Global,
+    text: &mut String,
+    pairs: &[(Sequence<u8>, Sequence<u8>)],
+    offset: u64,
+    concat: Option<&[u8]>,
+    length: Option<u64>,
+) -> Result<(), AllocError>
+    ensures { OnOk result ((parts : Data) × AreParts (option_copied concat.entry) parts
+        × (string_bytes text.new ≡ string_bytes text.old
+        ++ upload_end (metadata pairs.now) offset parts length)) }
+{
+    add_metadata(alloc, text, pairs)?;
+    write!(text, ",\"Offset\":{offset},\"PartialUploads\":")?;
+    add_parts(alloc, text, concat)?;
+    add_length(text, length)
 }

@@ -1,18 +1,27 @@
-use Rattle.std.proofs.Common.{◌++◌, ap, ◌∙◌, string_bytes}
+use Rattle.std.proofs.Common.{◌++◌, Some, ap, ◌∙◌, string_bytes, subst}
+use Rattle.std.proofs.lemmas.List.{append_assoc}
 use Rattle.std.proofs.lemmas.Result.{on_ok_weaker}
-use Rattle.serde_json.specs.Written.{compact_text}
 use Rattle.up_events.specs.IdText.{text_of}
-use Rattle.up_machine.specs.Details.{details_kind}
-use Rattle.up_hook_client.specs.Told.{metadata, upload_data}
+use Rattle.up_machine.specs.Details.{details_kind, details_pairs}
+use Rattle.up_hook_client.specs.Told.{AreParts, metadata, upload_begin, upload_end}
+use Rattle.up_hook_client.proofs.Texts.{id_is_plain, upload_written}
 use Rattle.up_hook_client.proofs.told.add_event_upload.Goals as goal
 
 pub returns : goal.returns
 returns c =
     let event = c.args.event.now in
+    let details = c.args.details.now in
     let before = string_bytes c.args.text.now in
     let id = text_of event.id in
-    let of_id = c.as_str.ensures.value ∙ c.in_ok-id.ensures in
-    let of_pairs = c.as_str-2.ensures.value ∙ c.in_ok-pairs.ensures in
-    on_ok_weaker c.add_upload.result (λ said q of_parts. said id (metadata c.pairs.result.now) q of_id of_pairs of_parts
-    ∙ (ap (λ kind. before ++ compact_text (upload_data id kind (metadata c.pairs.result.now) q event.offset event.length)) c.kind-kind.ensures
-    ∙ ap (λ pairs. before ++ compact_text (upload_data id (details_kind c.args.details.now) (metadata pairs) q event.offset event.length)) c.pairs.ensures)) c.add_upload.ensures
+    let kind = details_kind details in
+    let begun = c.in_ok-begin_upload.ensures ∙ ap (λ k. before ++ upload_begin id k) c.kind.ensures in
+    on_ok_weaker c.end_upload.result (λ said.
+    let end = upload_end (metadata (details_pairs details)) event.offset said.0 event.length in (
+      said.0,
+      subst (λ o. AreParts o said.0) c.concat-concat.ensures said.1,
+      said.2
+          ∙ (ap (λ pairs. string_bytes c.begin_upload.new.text ++ upload_end (metadata pairs) event.offset said.0 event.length) c.pairs-pairs.ensures
+          ∙ (ap (λ x. x ++ end) begun
+          ∙ (append_assoc before (upload_begin id kind) end
+          ∙ ap (λ x. before ++ x) (upload_written id kind (metadata (details_pairs details)) said.0 event.offset event.length (id_is_plain (Some event.id)))))),
+    )) c.end_upload.ensures
