@@ -1,8 +1,13 @@
-use Rattle.std.proofs.Common.{◌≡◌, ◌<◌, true, get_or, length, sym, ◌∙◌, subst, arith}
+use Rattle.std.proofs.Common.{◌≡◌, ◌<◌, true, get_or, length, sym, ap, ◌∙◌, subst, arith}
 use Rattle.up_dispatch.proofs.Drops.{there}
 use Rattle.up_dispatch.specs.Reports.{HandOver, TellEachUpload}
 use Rattle.up_lanes.specs.HowOf.{is_drained}
 use Rattle.up_server.proofs.boards.finish.Goals as goal
+
+pub finish-requires-after_bounds : goal.finish-requires-after_bounds
+finish-requires-after_bounds g c κs within = λ k d lt.
+    let end = c.requires.ends k d lt in
+    end.2 ∙ ap g.B.Naming.queue (sym end.1)
 
 pub returns-in-Ok-clause-counts : goal.returns-in-Ok-clause-counts
 returns-in-Ok-clause-counts g c = c.in-Ok.ensures.counts
