@@ -219,10 +219,11 @@ def each_edit():
     edits = sorted(CRATES.glob("*/must-fail/*.edit"))
     same(len(edits) > 40, True, f"whether {len(edits)} edits are there")
     for edit in edits:
-        text, crate = edit.read_text(encoding="utf-8"), edit.parent.parent
+        text, crate, changes = edit.read_text(encoding="utf-8"), edit.parent.parent, {}
         for name, part in re.findall(r"^file: (.+)\n((?:(?!file: ).*\n)*)", text, re.MULTILINE):
             source = (crate / name).read_text(encoding="utf-8")
-            counts = {old: source.count(old) for old in re.findall(r"^old: (.+)", part, re.MULTILINE)}
+            changes[name] = re.findall(r"^old: (.+)\nnew: ?(.*)", part, re.MULTILINE)
+            counts = {old: source.count(old) for old, _ in changes[name]}
             same({old for old, count in counts.items() if count != 1}, set(), f"what {edit.name} replaces in {name}")
         out = set(re.findall(r"^new: #\[cfg\(test\)\] mod (\w+);", text, re.MULTILINE))
         gone = re.findall(r"^new: #\[cfg\(test\)\] (use .+)", text, re.MULTILINE)
@@ -231,7 +232,10 @@ def each_edit():
             used = set(re.findall(r"\bcrate::(\w+)::", source)) if module.stem not in out else set()
             same(used & out, set(), f"what {edit.name} leaves out and {module.stem} uses")
         for words in sorted((crate / "specs").glob("*.antt")):
-            named = set(re.findall(rf"\bRattle\.{crate.name}\.specs\.declared\.(\w+)\.", words.read_text(encoding="utf-8")))
+            source = words.read_text(encoding="utf-8")
+            for old, new in changes.get(f"specs/{words.name}", []):
+                source = source.replace(old, new)
+            named = set(re.findall(rf"\bRattle\.{crate.name}\.specs\.declared\.(\w+)\.", source))
             same(named & out, set(), f"what {edit.name} leaves out and {words.name} names")
 
 

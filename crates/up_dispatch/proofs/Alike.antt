@@ -7,7 +7,7 @@ use Rattle.up_wire.specs.Device.{Device}
 use Rattle.up_wire.specs.declared.taken.Taken.{Taken}
 use Rattle.up_message.specs.declared.response.Response.{Response}
 use Rattle.up_dispatch.specs.Turn.{Answering, Converses, IsAnswered, IsCutCarriedOut, IsServed, TurnsLeadTo, ConversationState, TakesTurn}
-use Rattle.up_dispatch.specs.declared.conversation.Ended.{Ended}
+use Rattle.up_dispatch.specs.declared.ended.Ended.{Ended}
 
 module _ {C : Type 0} (a b : Answering C)
     (alike : (old new : C) (asks : Request) (response : Response) → a old new asks response → b old new asks response) where

@@ -6,7 +6,7 @@ use Rattle.up_dispatch.specs.Answering.{keeper_state}
 use Rattle.up_dispatch.specs.ByBook.{IsAnsweredTo}
 use Rattle.up_dispatch.specs.Keeps.{ClosureAnswers}
 use Rattle.up_dispatch.specs.Turn.{Converses, conversation_state}
-use Rattle.up_dispatch.specs.declared.conversation.Ended.{Ended}
+use Rattle.up_dispatch.specs.declared.ended.Ended.{Ended}
 
 -- the same holds of what came back
 pub came_back :

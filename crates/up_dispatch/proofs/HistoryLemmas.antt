@@ -18,7 +18,7 @@ use Rattle.up_dispatch.specs.Answering.{KeeperState}
 use Rattle.up_dispatch.specs.ByBook.{GoesOn, IsAnsweredTo, IsDecided, IsOutcome, last_after}
 use Rattle.up_dispatch.specs.Keeps.{ClosureAnswers}
 use Rattle.up_dispatch.specs.Turn.{Converses, IsAnswered, IsCutCarriedOut, IsServed, TurnsLeadTo, ConversationState, TakesTurn}
-use Rattle.up_dispatch.specs.declared.conversation.Ended.{Ended}
+use Rattle.up_dispatch.specs.declared.ended.Ended.{Ended}
 
 -- one message takes one id at most
 last_within : (last : ℕ) (asks : Request) → last_after last asks ≤ last + 1

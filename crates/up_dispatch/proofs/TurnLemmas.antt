@@ -8,7 +8,7 @@ use Rattle.up_headers.specs.declared.header_fault.HeaderFault.{HeaderFault}
 use Rattle.up_headers.specs.declared.request.Request.{Request}
 use Rattle.up_headers.specs.declared.request.Request.TheVariants as request
 use Rattle.up_message.specs.declared.message.Message.{Message}
-use Rattle.up_dispatch.specs.declared.conversation.Ended.{Ended}
+use Rattle.up_dispatch.specs.declared.ended.Ended.{Ended}
 use Rattle.up_wire.specs.Device.{Device}
 use Rattle.up_wire.specs.Response.{response_text}
 use Rattle.up_wire.specs.declared.taken.Taken.{Taken}

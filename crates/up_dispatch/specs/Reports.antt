@@ -7,9 +7,9 @@ use Rattle.up_events.specs.declared.event.Event.{Event}
 use Rattle.up_events.specs.Log.{log_of}
 use Rattle.up_lanes.specs.HowOf.{is_drained}
 use Rattle.up_dispatch.specs.Lists.{EachAt}
-use Rattle.up_dispatch.specs.declared.finish.FinishFault.{FinishFault}
-use Rattle.up_dispatch.specs.declared.finish.FinishFault.TheVariants.{SeatsOut, LanesOut, NoMemory}
-use Rattle.up_dispatch.specs.declared.finish.LaneReport.{LaneReport}
+use Rattle.up_dispatch.specs.declared.report.FinishFault.{FinishFault}
+use Rattle.up_dispatch.specs.declared.report.FinishFault.TheVariants.{SeatsOut, LanesOut, NoMemory}
+use Rattle.up_dispatch.specs.declared.report.LaneReport.{LaneReport}
 
 -- a prefix of the log was handed over, all of it if the lane is drained, and this many events are left
 pub record IsHandedOver (log handed : List Event) (drained : Bool) (left : ℕ) : Type 0 where

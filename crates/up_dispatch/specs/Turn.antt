@@ -6,9 +6,9 @@ use Rattle.up_headers.specs.declared.header_fault.HeaderFault.{HeaderFault}
 use Rattle.up_headers.specs.declared.request.Request.{Request}
 use Rattle.up_headers.specs.declared.request.Request.TheVariants as request
 use Rattle.up_dispatch.specs.Replies.{IsReply, reply_to_header_fault, reply_to_wire_fault}
-use Rattle.up_dispatch.specs.declared.conversation.TheConstants.{MAX_MESSAGES}
-use Rattle.up_dispatch.specs.declared.conversation.Ended.{Ended}
-use Rattle.up_dispatch.specs.declared.conversation.Ended.TheVariants.{Closed, Cut, ReadFailed, WriteFailed}
+use Rattle.up_dispatch.specs.declared.ended.TheConstants.{MAX_MESSAGES}
+use Rattle.up_dispatch.specs.declared.ended.Ended.{Ended}
+use Rattle.up_dispatch.specs.declared.ended.Ended.TheVariants.{Closed, Cut, ReadFailed, WriteFailed}
 use Rattle.up_wire.specs.Device.{Device, GaveUp, interrupted}
 use Rattle.up_wire.specs.Reading.{IsReading}
 use Rattle.up_wire.specs.Response.{WritesFront, response_text}

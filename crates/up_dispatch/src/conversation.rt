@@ -8,6 +8,7 @@ ghost use Rattle.up_dispatch.specs.Keeps.{keeping};
 ghost use Rattle.up_dispatch.specs.Turn.{IsTurn, IsCutTurn, IsFaultSent, Converses, Sends, TakesTurn, unanswered};
 
 use crate::answering::answer_about;
+use crate::ended::{Ended, MAX_MESSAGES};
 use crate::exchange::Exchange;
 use crate::ids::Ids;
 use crate::keeper::Keeper;
@@ -19,23 +20,6 @@ use up_headers::{Request, request_of};
 use up_hooks::{Origin, PreHooks};
 use up_message::{Message, Response};
 use up_wire::{Limits, Sink, Source, Taken, WireFault, WriteFailed, read_message, write_response};
-
-/// The most messages of a conversation.
-pub const MAX_MESSAGES: u64 = 10_000;
-
-/// How a conversation ended.
-#[derive(Clone, Copy, Debug, PartialEq, Eq)]
-pub enum Ended {
-    /// The input was at its end, or an answer closed the conversation.
-    Closed,
-    /// The input ended, or a read failed, inside a body. An append was carried out with the bytes that came; the
-    /// message has no answer.
-    Cut,
-    /// A read failed before a head was whole.
-    ReadFailed,
-    /// A write failed. Changes made before it stay.
-    WriteFailed,
-}
 
 /// The id that a request takes: each creation the next one, and any other request 0.
 fn id_for<I: Ids>(ids: &mut I, request: &Request) -> Id

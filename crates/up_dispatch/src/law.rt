@@ -2,7 +2,7 @@
 ghost use Rattle.std.specs.Prelude.{◌≡◌};
 ghost use Rattle.up_dispatch.specs.Limits.{max_messages, max_seats};
 
-use crate::conversation::MAX_MESSAGES;
+use crate::ended::MAX_MESSAGES;
 use crate::parts::MAX_SEATS;
 
 /// For the prover: the limits in the code are those that the definitions name. Does nothing.

@@ -9,9 +9,10 @@ ghost use Rattle.up_dispatch.specs.ByBook.{GoesOn, IsAnsweredTo, IsOutcome};
 ghost use Rattle.up_dispatch.specs.Counts.{CountsIds};
 ghost use Rattle.up_dispatch.specs.Keepers.{by_book};
 ghost use Rattle.up_dispatch.specs.Turn.{Converses, ConversationState, conversation_state};
-ghost use Rattle.up_dispatch.specs.declared.conversation.Ended.{Ended};
+ghost use Rattle.up_dispatch.specs.declared.ended.Ended.{Ended};
 
-use crate::conversation::{Ended, MAX_MESSAGES, converse};
+use crate::conversation::converse;
+use crate::ended::{Ended, MAX_MESSAGES};
 use crate::exchange::Exchange;
 use crate::ids::Counting;
 use crate::keeper::Lent;

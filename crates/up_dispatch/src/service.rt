@@ -9,7 +9,8 @@ ghost use Rattle.up_dispatch.specs.Keeps.{keeping};
 ghost use Rattle.up_dispatch.specs.Turn.{Converses};
 
 use crate::board::Board;
-use crate::conversation::{Ended, converse};
+use crate::conversation::converse;
+use crate::ended::Ended;
 use crate::exchange::Exchange;
 use crate::ids::Ids;
 use crate::keeper::Seated;

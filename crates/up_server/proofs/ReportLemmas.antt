@@ -4,7 +4,7 @@ use Rattle.std.specs.Io.KnownBytes.{Appends}
 use Rattle.up_server.specs.ReportText.{lane_text, lanes_text}
 use Rattle.std.proofs.KnownBytes.{Appends-trans}
 use Rattle.up_wire.specs.Response.{WritesFront}
-use Rattle.up_dispatch.specs.declared.finish.LaneReport.{LaneReport}
+use Rattle.up_dispatch.specs.declared.report.LaneReport.{LaneReport}
 use Rattle.up_server.proofs.Writing.{front_then, front_cut}
 
 -- the lanes up to one, that one, and the others

@@ -1,7 +1,7 @@
 -- The count of the only seat is what was accepted.
 use Rattle.std.proofs.Common.{◌≡◌, ℕ, ◌∷◌, [], List, sum, sym, ap, ◌∙◌, subst, arith}
 use Rattle.up_dispatch.specs.Keeps.{ClosureAnswers}
-use Rattle.up_dispatch.specs.declared.conversation.Ended.{Ended}
+use Rattle.up_dispatch.specs.declared.ended.Ended.{Ended}
 use Rattle.up_queue.specs.EndViews.{QueueId}
 use Rattle.up_server.specs.Seats.{IsServedFrom}
 use Rattle.up_wire.specs.Device.{Device}

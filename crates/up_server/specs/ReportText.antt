@@ -8,10 +8,10 @@ use Rattle.up_hooks.specs.Recorded.{recorded_by}
 use Rattle.up_hooks.specs.declared.post_hook.Outcome.{Outcome}
 use Rattle.up_hooks.specs.declared.post_hook.Outcome.TheVariants.{Done, Failed}
 use Rattle.up_hooks.specs.declared.recorder.Recorder.{Recorder}
-use Rattle.up_dispatch.specs.declared.finish.Report.{Report}
+use Rattle.up_dispatch.specs.declared.report.Report.{Report}
 use Rattle.up_lanes.specs.declared.lane_end.How.{How}
 use Rattle.up_lanes.specs.declared.lane_end.How.TheVariants.{Drained, Stopped}
-use Rattle.up_dispatch.specs.declared.finish.LaneReport.{LaneReport}
+use Rattle.up_dispatch.specs.declared.report.LaneReport.{LaneReport}
 
 -- what a post-hook answered
 abbrev pub outcome_of : Outcome → List ℕ

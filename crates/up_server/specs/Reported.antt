@@ -3,8 +3,8 @@ use Rattle.std.specs.Prelude.{◌≡◌, ℕ, Bool, true, false, List, length, A
 use Rattle.std.specs.Io.KnownBytes.{Appends}
 use Rattle.std.specs.List.{list_any}
 use Rattle.up_dispatch.specs.Reports.{HandOver, TellEachUpload}
-use Rattle.up_dispatch.specs.declared.finish.LaneReport.{LaneReport}
-use Rattle.up_dispatch.specs.declared.finish.Report.{Report}
+use Rattle.up_dispatch.specs.declared.report.LaneReport.{LaneReport}
+use Rattle.up_dispatch.specs.declared.report.Report.{Report}
 use Rattle.up_events.specs.History.{IsLegal}
 use Rattle.up_events.specs.declared.event.Event.{Event}
 use Rattle.up_hooks.specs.declared.recorder.Recorder.{Recorder}

@@ -1,8 +1,8 @@
 -- A run of the server over one input, from its first message to the report.
 use Rattle.std.specs.Prelude.{◌≡◌, ◌⊎◌, ℕ, true, false, List, length, Result, Ok, Err}
 use Rattle.up_dispatch.specs.Keeps.{ClosureAnswers}
-use Rattle.up_dispatch.specs.declared.conversation.Ended.{Ended}
-use Rattle.up_dispatch.specs.declared.conversation.Ended.TheVariants.{Closed, Cut, ReadFailed, WriteFailed}
+use Rattle.up_dispatch.specs.declared.ended.Ended.{Ended}
+use Rattle.up_dispatch.specs.declared.ended.Ended.TheVariants.{Closed, Cut, ReadFailed, WriteFailed}
 use Rattle.up_events.specs.declared.event.Event.{Event}
 use Rattle.up_hooks.specs.declared.recorder.Recorder.{Recorder}
 use Rattle.up_queue.specs.EndViews.{QueueId}

@@ -5,7 +5,7 @@ use Rattle.up_dispatch.specs.Counts.{CountsIds}
 use Rattle.up_dispatch.specs.Keepers.{by_seat, seat_state}
 use Rattle.up_dispatch.specs.Keeps.{ClosureAnswers}
 use Rattle.up_dispatch.specs.Turn.{Converses, conversation_state}
-use Rattle.up_dispatch.specs.declared.conversation.Ended.{Ended}
+use Rattle.up_dispatch.specs.declared.ended.Ended.{Ended}
 use Rattle.up_queue.specs.EndViews.{QueueId}
 use Rattle.up_wire.specs.Device.{Device}
 

@@ -2,7 +2,7 @@
 ghost use Rattle.std.specs.Prelude.{◌≡◌, ◌⊎◌, [], All, Err, IfOk, length, vec_len};
 ghost use Rattle.up_dispatch.specs.Lists.{EachAt};
 ghost use Rattle.up_dispatch.specs.Parts.{IsNamed};
-ghost use Rattle.up_dispatch.specs.declared.finish.Report.{Report};
+ghost use Rattle.up_dispatch.specs.declared.report.Report.{Report};
 ghost use Rattle.up_hooks.specs.declared.recorder.Recorder.{Recorder};
 ghost use Rattle.up_server.specs.ReportText.{report_by};
 ghost use Rattle.up_server.specs.Reported.{AreSettled, IsReportOf, IsRunOutcome, IsOutcomeOfText};

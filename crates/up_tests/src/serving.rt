@@ -1,6 +1,6 @@
 //! A run of the server with connections.
 ghost use Rattle.std.specs.Prelude.{◌≡◌, false, IfOk};
-ghost use Rattle.up_dispatch.specs.declared.finish.Report.{Report};
+ghost use Rattle.up_dispatch.specs.declared.report.Report.{Report};
 ghost use Rattle.up_hooks.specs.Recorded.{AnswersWithCodes};
 ghost use Rattle.up_hooks.specs.declared.recorder.Recorder.{Recorder};
 ghost use Rattle.up_server.specs.ReportText.{report_text};

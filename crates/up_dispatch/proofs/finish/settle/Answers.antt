@@ -3,7 +3,7 @@ use Rattle.std.specs.Iterator.Adapters.{zip_first, zip_second}
 use Rattle.std.specs.Vec.Iter.{into_iter_items}
 use Rattle.up_lanes.specs.HowOf.{is_drained}
 use Rattle.up_events.specs.Records.{lane_log}
-use Rattle.up_dispatch.specs.declared.finish.LaneReport.{LaneReport}
+use Rattle.up_dispatch.specs.declared.report.LaneReport.{LaneReport}
 use Rattle.up_lanes.specs.declared.lane_end.LaneEnd.{LaneEnd}
 use Rattle.up_dispatch.specs.QueuedUpTo.{IsQueuedUpTo}
 use Rattle.up_dispatch.specs.Reports.{IsHandedOver}
