@@ -1,0 +1,51 @@
+-- Blocks in a file, each with its checksum.
+use Rattle.std.specs.Prelude.{◌≡◌, ℕ, ◌+◌, ◌-◌, ◌*◌, ◌%◌, ◌<◌, List, [], ◌∷◌, ◌++◌, length, take, drop, false}
+use Rattle.std.specs.Int.{w32, w64, to_le_bytes}
+use Rattle.sqlite_disk.specs.Disk.{Holds}
+use Rattle.sqlite_wal.specs.Format.{checksum}
+
+-- how many zeros make this number of bytes a multiple of 8
+abbrev pub pad_of : ℕ → ℕ
+pad_of n = (8 - n % 8) % 8
+
+abbrev pub zeros : List ℕ
+zeros = 0 ∷ 0 ∷ 0 ∷ 0 ∷ 0 ∷ 0 ∷ 0 ∷ []
+
+-- the bytes, and zeros up to a multiple of 8
+abbrev pub padded : List ℕ → List ℕ
+padded bytes = bytes ++ take (pad_of (length bytes)) zeros
+
+-- the checksum of bytes at this place of a file whose checksums begin with the seed
+unfoldable pub sum_of : ℕ × ℕ → ℕ → List ℕ → ℕ × ℕ
+sum_of seed at bytes = checksum false (checksum false seed (to_le_bytes w64 at)) bytes
+
+-- a checksum in eight bytes
+abbrev pub sum_text : ℕ × ℕ → List ℕ
+sum_text sum = to_le_bytes w32 sum.0 ++ to_le_bytes w32 sum.1
+
+-- the block of these bytes at this place
+abbrev pub block : ℕ × ℕ → ℕ → List ℕ → List ℕ
+block seed at bytes = padded bytes ++ sum_text (sum_of seed at (padded bytes))
+
+-- the last eight bytes are the checksum of those before them
+abbrev pub IsSound : ℕ × ℕ → ℕ → List ℕ → Type 0
+IsSound seed at bytes = drop (length bytes - 8) bytes ≡ sum_text (sum_of seed at (take (length bytes - 8) bytes))
+
+-- how many bytes the block of so many bytes takes
+abbrev pub block_len : ℕ → ℕ
+block_len n = n + pad_of n + 8
+
+-- the i-th 65,536 of the bytes
+abbrev pub part_at : ℕ → List ℕ → List ℕ
+part_at i bytes = take 65_536 (drop (65_536 * i) bytes)
+
+-- the file has these bytes from this place on, in blocks
+abbrev pub HoldsBlocks : List ℕ → ℕ × ℕ → ℕ → List ℕ → Type 0
+HoldsBlocks file seed at bytes =
+    (i : ℕ) → 65_536 * i < length bytes → Holds file (at + 65_544 * i) (block seed (at + 65_544 * i) (part_at i bytes))
+
+-- these bytes from this place on are whole blocks, of which the last ends here
+pub record AreWhole (at : ℕ) (bytes : List ℕ) (end : ℕ) : Type 0 where
+  pub count : ℕ
+  pub whole : length bytes ≡ 65_536 * count
+  pub place : end ≡ at + 65_544 * count

@@ -1,0 +1,4 @@
+-- The definitions that the contracts cite.
+pub mod Blocks
+pub mod Failures
+pub mod Heads
