@@ -1,7 +1,8 @@
 -- Blocks in a file, each with its checksum.
-use Rattle.std.specs.Prelude.{◌≡◌, ℕ, ◌+◌, ◌-◌, ◌*◌, ◌%◌, ◌<◌, List, [], ◌∷◌, ◌++◌, length, take, drop, false}
+use Rattle.std.specs.Prelude.{◌≡◌, ℕ, ◌+◌, ◌-◌, ◌*◌, ◌%◌, ◌<◌, List, [], ◌∷◌, ◌++◌, length, take, drop, false, IsTrue}
 use Rattle.std.specs.Int.{w32, w64, to_le_bytes}
 use Rattle.sqlite_disk.specs.Disk.{Holds}
+use Rattle.sqlite_disk.specs.declared.Disk.{Ghosts}
 use Rattle.sqlite_wal.specs.Format.{checksum}
 
 -- how many zeros make this number of bytes a multiple of 8
@@ -49,3 +50,9 @@ pub record AreWhole (at : ℕ) (bytes : List ℕ) (end : ℕ) : Type 0 where
   pub count : ℕ
   pub whole : length bytes ≡ 65_536 * count
   pub place : end ≡ at + 65_544 * count
+
+-- nothing of a file was changed, also of what a crash may leave, and no wrong answer of the disk was forgotten
+pub record IsUntouched {D : Type 0} (g : Ghosts D) (old new : D) : Type 0 where
+  pub seen : g.seen new ≡ g.seen old
+  pub crash : (c : List ℕ) → g.may_leave new c → g.may_leave old c
+  pub clean : IsTrue (g.is_clean new) → IsTrue (g.is_clean old)

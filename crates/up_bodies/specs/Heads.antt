@@ -38,11 +38,20 @@ IsOther head text = (seed : ℕ × ℕ) → IsHeadOf head text seed → ⊥
 abbrev pub number_at : ℕ → List ℕ → ℕ
 number_at i text = from_le_bytes w64 (drop i text)
 
+-- no part of the bytes names another file, but they are the head of no such file
+pub record IsDamagedHead (head : Head) (text : List ℕ) : Type 0 where
+  pub other : IsOther head text
+  pub type_is : take 8 text ≡ magic
+  pub version_is : number_at 8 text ≡ 2
+  pub store_is : take 16 (drop 32 text) ≡ head.store
+  pub number_is : number_at 24 text ≡ head.number
+  pub earlier : number_at 16 text ≤ head.generation
+
 -- why a file with these first bytes is refused, once they were read
 abbrev pub IsCause : Head → List ℕ → OpenFault → Type 0
 IsCause head text Foreign = take 8 text ≢ magic
 IsCause head text (Version version) = (version ≡ number_at 8 text) × (version ≢ 2)
-IsCause head text Damaged = IsOther head text
+IsCause head text Damaged = IsDamagedHead head text
 IsCause head text OtherStore = take 16 (drop 32 text) ≢ head.store
 IsCause head text (OtherNumber number) = (number ≡ number_at 24 text) × (number ≢ head.number)
 IsCause head text (Later file log) = (file ≡ number_at 16 text) × (log ≡ head.generation) × (log < file)

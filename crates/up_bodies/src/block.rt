@@ -1,6 +1,6 @@
 //! A block: at most 65,536 bytes of a body, zeros up to a multiple of 8, and a checksum.
-ghost use Rattle.std.specs.Prelude.{◌≡◌, ◌+◌, ◌≤◌, ◌↔◌, length, IsTrue, OnOk, vec_len};
-ghost use Rattle.up_bodies.specs.Blocks.{IsSound, block, pad_of, sum_of};
+ghost use Rattle.std.specs.Prelude.{◌≡◌, ◌≤◌, ◌↔◌, length, IsTrue, OnOk};
+ghost use Rattle.up_bodies.specs.Blocks.{IsSound, block, block_len, pad_of, sum_of};
 
 use sqlite_wal::checksum_of;
 use std::alloc::AllocError;
@@ -24,7 +24,7 @@ fn pad_of(len: usize) -> usize
 /// How many bytes a block takes with this number of bytes of a body.
 pub fn block_len(len: usize) -> usize
     requires small { len ≤ BLOCK }
-    ensures { result ≡ len + pad_of len + 8 }
+    ensures { result ≡ block_len len }
 {
     len + pad_of(len) + SUM
 }

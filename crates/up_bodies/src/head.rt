@@ -1,6 +1,5 @@
 //! The head of a file of bodies.
-ghost use Rattle.std.specs.Prelude.{◌≡◌, ◌≢◌, ◌≤◌, ◌↔◌, length, vec_len, IfErr, IfOk, IsTrue};
-ghost use Rattle.std.specs.Int.{w64, from_le_bytes};
+ghost use Rattle.std.specs.Prelude.{◌≡◌, ◌≢◌, ◌+◌, ◌≤◌, ◌↔◌, length, vec_len, IfErr, IfOk, IsTrue};
 ghost use Rattle.up_bodies.specs.Heads.{IsCause, IsHeadOf, front, head_text, number_at, seed_of};
 
 use crate::block::Seed;
@@ -32,13 +31,14 @@ pub(crate) struct Written {
     pub(crate) seed: Seed,
 }
 
-/// The number in the first eight bytes, the lowest first.
-fn number_of(bytes: &[u8]) -> u64
-    requires some { 8 ≤ length bytes.now }
-    ensures { result ≡ from_le_bytes w64 bytes.now }
+/// The number in the eight bytes from this one on, the lowest first.
+fn number_at(at: usize, text: &[u8]) -> u64
+    requires some { at + 8 ≤ length text.now }
+    ensures { result ≡ number_at at text.now }
 {
+    let (_, rest) = text.split_at(at);
     u64::from_le_bytes([
-        bytes[0], bytes[1], bytes[2], bytes[3], bytes[4], bytes[5], bytes[6], bytes[7],
+        rest[0], rest[1], rest[2], rest[3], rest[4], rest[5], rest[6], rest[7],
     ])
 }
 
@@ -85,7 +85,7 @@ impl Head {
         ensures ok { IfOk result (λ seed. IsHeadOf self.now text.now seed) }
         ensures err { IfErr result (λ fault. IsCause self.now text.now fault) }
     {
-        let generation = number_of(&text[16..]);
+        let generation = number_at(16, text);
         let there = Head {
             generation,
             ..*self
@@ -109,8 +109,8 @@ impl Head {
         requires other { text.now ≢ head_text (record self.now { generation = number_at 16 text.now }) }
         ensures { IsCause self.now text.now result }
     {
-        let (version, generation) = (number_of(&text[8..]), number_of(&text[16..]));
-        let number = number_of(&text[24..]);
+        let (version, generation) = (number_at(8, text), number_at(16, text));
+        let number = number_at(24, text);
         if !are_same(&text[..8], &MAGIC) {
             OpenFault::Foreign
         } else if version != 2 {

@@ -1,4 +1,4 @@
-//! The files in which a store keeps bodies: a head, and then blocks, each with a checksum.
+//! Files for the bodies of a store: a head, and then blocks, each with a checksum.
 #![tactic(auto)]
 
 mod block;

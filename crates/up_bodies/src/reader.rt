@@ -1,7 +1,7 @@
 //! A file of blocks that is read.
 ghost use Rattle.std.specs.Prelude.{◌≡◌, ◌+◌, ◌*◌, ◌^◌, ◌<◌, ◌≤◌, List, ℕ, length, IsTrue, IfErr, IfNone, IfOk, IfSome, OnOk};
 ghost use Rattle.sqlite_disk.specs.Disk.{Holds};
-ghost use Rattle.up_bodies.specs.Blocks.{HoldsBlocks, IsSound, block, block_len, part_at};
+ghost use Rattle.up_bodies.specs.Blocks.{HoldsBlocks, IsSound, IsUntouched, block, block_len, part_at};
 ghost use Rattle.up_bodies.specs.Failures.{IsUnopenedFor, IsUnreadFor};
 ghost use Rattle.up_bodies.specs.Heads.{IsHeadOf};
 ghost use Rattle.up_bodies.specs.declared.fault.BlockFault.TheVariants.{Damaged};
@@ -26,8 +26,7 @@ fn seed_in<D: Disk>(alloc: Global, device: &mut D, head: &Head) -> Result<Seed, 
     ensures ok { IfOk result (λ seed. IsTrue (D.is_clean device.new)
         → (text : List ℕ) × Holds (D.seen device.old) 0 text × IsHeadOf head.now text seed) }
     ensures cause { IfErr result (IsUnopenedFor D.Disk head.now device.old device.new) }
-    ensures seen { D.seen device.new ≡ D.seen device.old }
-    ensures clean { IsTrue (D.is_clean device.new) → IsTrue (D.is_clean device.old) }
+    ensures untouched { IsUntouched D.Disk device.old device.new }
 {
     if !device.may_be_used() {
         return Err(OpenFault::Broken);
@@ -46,15 +45,14 @@ fn place_of(at: usize, index: usize) -> Option<usize>
 }
 
 impl<D: Disk> BlockReader<D> {
-    /// Opens a file. It must be the one with this head, but for a generation that may be an earlier one. The errors are
-    /// those of a file that is another one; `Broken`, if a sync has failed before; `Disk`, if the disk fails or the file
-    /// has no whole head; and `NoMemory`, if memory runs out.
+    /// Opens a file. It must be the one with this head, but for a generation that may be an earlier one. A file that is
+    /// refused stays as it is. The errors are those of a file that is another one; `Broken`, if a sync has failed
+    /// before; `Disk`, if the disk fails or the file has no whole head; and `NoMemory`, if memory runs out.
     pub fn open(alloc: Global, mut device: D, head: &Head) -> Result<BlockReader<D>, Refused<D>>
         ensures ok { IfOk result (λ file. IsTrue (D.is_clean file.device)
             → (text : List ℕ) × Holds (D.seen device) 0 text × IsHeadOf head.now text file.seed) }
-        ensures seen { IfOk result (λ file. D.seen file.device ≡ D.seen device) }
-        ensures clean { IfOk result (λ file.
-            IsTrue (D.is_clean file.device) → IsTrue (D.is_clean device)) }
+        ensures untouched { IfOk result (λ file. IsUntouched D.Disk device file.device) }
+        ensures unchanged { IfErr result (λ refused. IsUntouched D.Disk device refused.device) }
         ensures cause { IfErr result (λ refused.
             IsUnopenedFor D.Disk head.now device refused.device refused.fault) }
     {
@@ -84,8 +82,7 @@ impl<D: Disk> BlockReader<D> {
             → length room.old ≡ block_len (length (part_at index bytes)) → ⊥) }
         ensures cause { IfErr result (IsUnreadFor D.Disk (at + 65_544 * index) (length room.old)
             self.old.device self.new.device) }
-        ensures seen { D.seen self.new.device ≡ D.seen self.old.device }
-        ensures clean { IsTrue (D.is_clean self.new.device) → IsTrue (D.is_clean self.old.device) }
+        ensures untouched { IsUntouched D.Disk self.old.device self.new.device }
         ensures same { self.new.seed ≡ self.old.seed }
     {
         if !self.device.may_be_used() {

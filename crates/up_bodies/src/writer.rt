@@ -1,7 +1,7 @@
 //! A file of blocks that is written.
 ghost use Rattle.std.specs.Prelude.{◌≡◌, ◌+◌, ◌≤◌, ◌++◌, List, ℕ, length, IfErr, IfOk, OnErr, OnOk};
 ghost use Rattle.sqlite_disk.specs.Disk.{Holds, Only};
-ghost use Rattle.up_bodies.specs.Blocks.{AreWhole, HoldsBlocks, block, block_len};
+ghost use Rattle.up_bodies.specs.Blocks.{AreWhole, HoldsBlocks, IsUntouched, block, block_len};
 ghost use Rattle.up_bodies.specs.Failures.{IsUnmadeFor, IsUnsettledFor, IsUnwrittenFor};
 ghost use Rattle.up_bodies.specs.Heads.{head_text, seed_of};
 
@@ -68,6 +68,8 @@ impl<D: Disk> BlockWriter<D> {
     #[tactic(auto, using(crate::proofs::Held::stays_held, crate::proofs::Held::held_left, crate::proofs::Held::length_block))]
     pub fn put(&mut self, bytes: &mut Vec<u8>) -> Result<(), BlockFault>
         requires few { length bytes.old.items ≤ 65_536 }
+        ensures made { OnOk result
+            (bytes.new.items ≡ block self.old.seed self.old.end bytes.old.items) }
         ensures held { OnOk result (Holds (D.seen self.new.device) self.old.end
             (block self.old.seed self.old.end bytes.old.items)) }
         ensures end { OnOk result (self.new.end ≡ self.old.end + block_len (length bytes.old.items)) }
@@ -83,6 +85,7 @@ impl<D: Disk> BlockWriter<D> {
             → (c : List ℕ) → D.may_leave self.new.device c → Holds c place before }
         ensures same { OnErr result (self.new.end ≡ self.old.end) }
         ensures seed { self.new.seed ≡ self.old.seed }
+        ensures calm { D.is_clean self.new.device ≡ D.is_clean self.old.device }
         ensures cause { IfErr result (IsUnwrittenFor D.Disk
             (self.old.end + block_len (length bytes.old.items)) self.old.device self.new.device) }
     {
@@ -102,9 +105,7 @@ impl<D: Disk> BlockWriter<D> {
     /// and `Disk` if this one fails.
     pub fn settle(&mut self) -> Result<(), BlockFault>
         ensures durable { OnOk result (Only (D.seen self.new.device) (D.may_leave self.new.device)) }
-        ensures seen { D.seen self.new.device ≡ D.seen self.old.device }
-        ensures crash { (c : List ℕ) → D.may_leave self.new.device c
-            → D.may_leave self.old.device c }
+        ensures untouched { IsUntouched D.Disk self.old.device self.new.device }
         ensures same { (self.new.seed ≡ self.old.seed) × (self.new.end ≡ self.old.end) }
         ensures cause { IfErr result
             (IsUnsettledFor D.Disk self.old.device self.new.device) }
