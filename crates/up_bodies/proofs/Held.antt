@@ -1,10 +1,11 @@
 -- What files of blocks hold, and what they go on holding.
-use Rattle.std.proofs.Common.{◌≡◌, ℕ, ◌+◌, ◌-◌, ◌*◌, ◌<◌, ◌≤◌, List, ◌++◌, length, take, drop, sym, ◌∙◌, ap, subst, arith, length-append, inl, inr}
+use Rattle.std.proofs.Common.{◌≡◌, ℕ, ◌+◌, ◌-◌, ◌*◌, ◌/◌, ◌%◌, ◌^◌, ◌<◌, ◌≤◌, List, ◌++◌, length, take, drop, sym, ◌∙◌, ap, subst, arith, length-append, inl, inr}
 use Rattle.std.proofs.lemmas.Bool.{cases_lt}
 use Rattle.std.proofs.lemmas.List.{ext_get_or, length-take, length-drop, take-append-le, drop-append-le, take_all}
 use Rattle.std.proofs.Math.Seq.{take-append_seam, drop-append_seam}
 use Rattle.sqlite_disk.specs.Disk.{Follows, Holds, Torn}
-use Rattle.up_bodies.specs.Blocks.{AreWhole, HoldsBlocks, IsSound, block, block_len, pad_of, padded, part_at, sum_of, sum_text, zeros}
+use Rattle.up_places.specs.Places.{Spot, part_at}
+use Rattle.up_bodies.specs.Blocks.{AreWhole, EndAfterWhole, EndBy, HoldsBlocks, HoldsSpot, IsSound, block, block_len, pad_of, padded, sum_of, sum_text, zeros}
 
 -- a file has one list of so many bytes at a place
 pub same_held : (at : ℕ) (file a b : List ℕ) → Holds file at a → Holds file at b → length a ≡ length b → a ≡ b
@@ -92,3 +93,61 @@ pub read_sound : (seed : ℕ × ℕ) (at i : ℕ) (file bytes read : List ℕ) �
 read_sound seed at i file bytes read holds within size there =
     subst (IsSound seed (at + 65_544 * i)) (sym (read_is seed at i file bytes read holds within size there))
     (block_sound seed (at + 65_544 * i) (part_at i bytes))
+
+-- a block that ends before a change stays, and so do the blocks of a place
+pub spot_stays : (seed : ℕ × ℕ) (end : ℕ) (old new : List ℕ)
+    → ((place : ℕ) (before : List ℕ) → place + length before ≤ end → Holds old place before → Holds new place before)
+    → (spot : Spot) → EndBy spot.at spot.bytes end → HoldsSpot old seed spot → HoldsSpot new seed spot
+spot_stays seed end old new stay spot ends holds i lt =
+    let at = spot.at + 65_544 * i in
+    let part = part_at i spot.bytes in
+    stay at (block seed at part) (omega (arith, ends i lt, length_block seed at part)) (holds i lt)
+
+-- the same of what every crash leaves
+pub spot_left : (seed : ℕ × ℕ) (end : ℕ) (old new : List ℕ → Type 0)
+    → ((place : ℕ) (before : List ℕ) → place + length before ≤ end → ((c : List ℕ) → old c → Holds c place before) → (c : List ℕ) → new c → Holds c place before)
+    → (spot : Spot) → EndBy spot.at spot.bytes end → ((c : List ℕ) → old c → HoldsSpot c seed spot) → (c : List ℕ) → new c → HoldsSpot c seed spot
+spot_left seed end old new stay spot ends leaves c left i lt =
+    let at = spot.at + 65_544 * i in
+    let part = part_at i spot.bytes in
+    stay at (block seed at part) (omega (arith, ends i lt, length_block seed at part)) (λ d was. leaves d was i lt) c left
+
+module _ (at end : ℕ) (bytes : List ℕ) (after : EndAfterWhole at bytes end) (whole : length bytes % 65_536 ≡ 0) where
+  pub are_whole : AreWhole at bytes end
+  are_whole = record {
+    count = length bytes / 65_536;
+    whole = omega (arith, whole);
+    place = after whole;
+  }
+
+  module _ (more : List ℕ) (some : 0 < length more) (few : length more ≤ 65_536) where
+    -- the blocks end after the one that is added
+    pub end_after_whole : EndAfterWhole at (bytes ++ more) (end + block_len (length more))
+    end_after_whole again = omega (arith, again, after whole, whole, some, few, length-append bytes more)
+
+    pub end_by : EndBy at (bytes ++ more) (end + block_len (length more))
+    end_by i lt =
+        let count = length bytes / 65_536 in
+        let is : length bytes ≡ 65_536 * count = omega (arith, whole) in
+        elim (cases_lt i count) [
+          | inl before ↦
+              let size : length (part_at i bytes) ≡ 65_536 =
+              omega (arith, before, is, length-take 65_536 (drop (65_536 * i) bytes), length-drop (65_536 * i) bytes) in
+              let same : length (part_at i (bytes ++ more)) ≡ 65_536 = ap length (part_before bytes more count is i before) ∙ size in
+              omega (arith, same, before, after whole)
+          | inr from ↦
+              let there : count ≡ i = omega (arith, from, lt, few, is, length-append bytes more) in
+              let last : part_at i (bytes ++ more) ≡ more = ap (λ (k : ℕ). part_at k (bytes ++ more)) (sym there) ∙ part_last bytes more count is few in
+              let same : length (part_at i (bytes ++ more)) ≡ length more = ap length last in
+              omega (arith, same, there, after whole)
+        ]
+
+    -- the place has fewer bytes than the file
+    pub put_fits : end + block_len (length more) < 2 ^ 64 → length bytes + length more < 2 ^ 64
+    put_fits small = omega (arith, small, after whole, whole)
+
+-- the block begins with the bytes
+pub taken_block : (seed : ℕ × ℕ) (at : ℕ) (bytes : List ℕ) → take (length bytes) (block seed at bytes) ≡ bytes
+taken_block seed at bytes =
+    take-append-le (length bytes) (padded bytes) (sum_text (sum_of seed at (padded bytes))) (omega (arith, length_padded bytes))
+    ∙ take-append_seam bytes (take (pad_of (length bytes)) zeros)

@@ -2,3 +2,4 @@
 pub mod Blocks
 pub mod Failures
 pub mod Heads
+pub mod Shelves

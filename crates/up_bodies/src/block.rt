@@ -4,9 +4,7 @@ ghost use Rattle.up_bodies.specs.Blocks.{IsSound, block, block_len, pad_of, sum_
 
 use sqlite_wal::checksum_of;
 use std::alloc::AllocError;
-
-/// The most bytes of a body in a block.
-pub const BLOCK: usize = 65_536;
+use up_places::BLOCK;
 
 /// The number of bytes of a checksum.
 pub(crate) const SUM: usize = 8;

@@ -1,17 +1,19 @@
 //! A file of blocks that is read.
 ghost use Rattle.std.specs.Prelude.{◌≡◌, ◌+◌, ◌*◌, ◌^◌, ◌<◌, ◌≤◌, List, ℕ, length, IsTrue, IfErr, IfNone, IfOk, IfSome, OnOk};
 ghost use Rattle.sqlite_disk.specs.Disk.{Holds};
-ghost use Rattle.up_bodies.specs.Blocks.{HoldsBlocks, IsSound, IsUntouched, block, block_len, part_at};
+ghost use Rattle.up_bodies.specs.Blocks.{HoldsBlocks, IsSound, IsUntouched, block, block_len};
 ghost use Rattle.up_bodies.specs.Failures.{IsUnopenedFor, IsUnreadFor};
 ghost use Rattle.up_bodies.specs.Heads.{IsHeadOf};
+ghost use Rattle.up_places.specs.Places.{part_at};
 ghost use Rattle.up_bodies.specs.declared.fault.BlockFault.TheVariants.{Damaged};
 
-use crate::block::{BLOCK, SUM, Seed, is_sound};
+use crate::block::{Seed, is_sound};
 use crate::fault::{BlockFault, OpenFault};
 use crate::head::{HEAD, Head};
 use crate::refused::Refused;
 use sqlite_disk::Disk;
 use std::alloc::Global;
+use up_places::ROOM;
 
 /// A file of blocks that is read.
 #[derive(Drop)]
@@ -41,7 +43,7 @@ fn place_of(at: usize, index: usize) -> Option<usize>
     ensures place { IfSome result (λ place. place ≡ at + 65_544 * index) }
     ensures none { IfNone result (2 ^ 64 ≤ at + 65_544 * index) }
 {
-    at.checked_add(index.checked_mul(BLOCK + SUM)?)
+    at.checked_add(index.checked_mul(ROOM)?)
 }
 
 impl<D: Disk> BlockReader<D> {

@@ -1,5 +1,5 @@
 //! A file of blocks that is written.
-ghost use Rattle.std.specs.Prelude.{◌≡◌, ◌+◌, ◌≤◌, ◌++◌, List, ℕ, length, IfErr, IfOk, OnErr, OnOk};
+ghost use Rattle.std.specs.Prelude.{◌≡◌, ◌+◌, ◌^◌, ◌<◌, ◌≤◌, ◌++◌, List, ℕ, length, IfErr, IfOk, OnErr, OnOk};
 ghost use Rattle.sqlite_disk.specs.Disk.{Holds, Only};
 ghost use Rattle.up_bodies.specs.Blocks.{AreWhole, HoldsBlocks, IsUntouched, block, block_len};
 ghost use Rattle.up_bodies.specs.Failures.{IsUnmadeFor, IsUnsettledFor, IsUnwrittenFor};
@@ -73,6 +73,7 @@ impl<D: Disk> BlockWriter<D> {
         ensures held { OnOk result (Holds (D.seen self.new.device) self.old.end
             (block self.old.seed self.old.end bytes.old.items)) }
         ensures end { OnOk result (self.new.end ≡ self.old.end + block_len (length bytes.old.items)) }
+        ensures small { OnOk result (self.new.end < 2 ^ 64) }
         ensures grows { OnOk result ((at : ℕ) (before : List ℕ)
             → HoldsBlocks (D.seen self.old.device) self.old.seed at before
             → AreWhole at before self.old.end

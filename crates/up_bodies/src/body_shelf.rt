@@ -1,0 +1,132 @@
+//! Bodies that are read from data files.
+ghost use Rattle.std.specs.Prelude.{◌≡◌, ◌*◌, ◌<◌, ◌≤◌, All, None, length, IfNone, IfOk, IfSome, OnErr, OnOk};
+ghost use Rattle.up_bodies.specs.Shelves.{AreTrueFiles, IsTrueFile};
+ghost use Rattle.up_places.specs.Places.{BeginsWith, part_at};
+
+use crate::fault::OpenFault;
+use crate::files::{BodyFault, BodyFiles};
+use crate::open_file::OpenFile;
+use sqlite_disk::Disk;
+use std::alloc::Global;
+use up_events::Trace;
+use up_places::{Place, ReadFailed, Shelf};
+
+/// Reads bodies from the data files of a store. The file that was read last stays open.
+#[derive(Drop)]
+pub struct BodyShelf<'a, D: Disk, B> {
+    alloc: Global,
+    files: &'a B,
+    current: Option<OpenFile<D>>,
+    /// The files that were closed.
+    closed: Trace<OpenFile<D>>,
+    has_failed: bool,
+}
+
+impl<'a, D: Disk + Drop, B: BodyFiles<D>> BodyShelf<'a, D, B> {
+    /// Reads from these files. None is open yet.
+    pub fn new(alloc: Global, files: &'a B) -> BodyShelf<'a, D, B>
+        ensures { AreTrueFiles D.Disk result.closed.items result.current }
+    {
+        BodyShelf {
+            alloc,
+            files,
+            current: None,
+            closed: Trace::new(),
+            has_failed: false,
+        }
+    }
+
+    /// Opens the file of this number.
+    fn opened(&self, number: u64) -> Result<OpenFile<D>, OpenFault>
+        ensures number { IfOk result (λ file. file.number ≡ number) }
+    {
+        let device = self.files.open(number)?;
+        match OpenFile::open(self.alloc, device, &self.files.head(number)) {
+            Ok(file) => Ok(file),
+            Err(refused) => Err(refused.fault),
+        }
+    }
+
+    /// Takes the file of this number, if it is open. Another one that is open is closed.
+    fn take_open(&mut self, number: u64) -> Option<OpenFile<D>>
+        ensures some { IfSome result (λ file. IsTrueFile D.Disk file
+            → All (IsTrueFile D.Disk) self.new.closed.items
+            → AreTrueFiles D.Disk self.old.closed.items self.old.current) }
+        ensures number { IfSome result (λ file. file.number ≡ number) }
+        ensures none { IfNone result (All (IsTrueFile D.Disk) self.new.closed.items
+            → AreTrueFiles D.Disk self.old.closed.items self.old.current) }
+        ensures closed { self.new.current ≡ None }
+        ensures same { self.new.has_failed ≡ self.old.has_failed }
+    {
+        let file = self.current.take()?;
+        if file.number() == number {
+            return Some(file);
+        }
+        self.closed.push(&file);
+        None
+    }
+
+    /// Takes the file of this number, which is opened if it isn't open. Another one that is open is closed.
+    fn take_file(&mut self, number: u64) -> Result<OpenFile<D>, BodyFault>
+        ensures ok { IfOk result (λ file. IsTrueFile D.Disk file
+            → All (IsTrueFile D.Disk) self.new.closed.items
+            → AreTrueFiles D.Disk self.old.closed.items self.old.current) }
+        ensures number { IfOk result (λ file. file.number ≡ number) }
+        ensures err { OnErr result (All (IsTrueFile D.Disk) self.new.closed.items
+            → AreTrueFiles D.Disk self.old.closed.items self.old.current) }
+        ensures closed { self.new.current ≡ None }
+        ensures same { self.new.has_failed ≡ self.old.has_failed }
+    {
+        if let Some(file) = self.take_open(number) {
+            return Ok(file);
+        }
+        match self.opened(number) {
+            Ok(file) => Ok(file),
+            Err(fault) => Err(BodyFault::Opened { number, fault }),
+        }
+    }
+
+    /// Reads the block of this number of a place.
+    fn read_block(&mut self, place: &Place, index: usize, room: &mut [u8]) -> Result<(), BodyFault>
+        requires room { 65_544 ≤ length room.old }
+        requires within { 65_536 * index < length place.now.bytes }
+        ensures bytes { OnOk result (AreTrueFiles D.Disk self.new.closed.items self.new.current
+            → BeginsWith (part_at index place.now.bytes) room.new) }
+        ensures stays { AreTrueFiles D.Disk self.new.closed.items self.new.current
+            → AreTrueFiles D.Disk self.old.closed.items self.old.current }
+        ensures same { self.new.has_failed ≡ self.old.has_failed }
+    {
+        let mut file = self.take_file(place.file())?;
+        let read = file.read(place, index, room);
+        self.current = Some(file);
+        match read {
+            Ok(()) => Ok(()),
+            Err(fault) => Err(BodyFault::Read {
+                number: place.file(),
+                at: place.at(),
+                index,
+                fault,
+            }),
+        }
+    }
+}
+
+impl<D: Disk + Drop, B: BodyFiles<D>> Shelf for BodyShelf<'_, D, B> {
+    ghost use Rattle.up_bodies.specs.Shelves.{AreTrueFiles};
+
+    // Each read of a file returned what the file holds, and it holds each place that was asked for.
+    ghost is_true = { λ s. AreTrueFiles D.Disk s.closed.items s.current };
+
+    ghost has_failed = { λ s. s.has_failed };
+
+    fn read(&mut self, place: &Place, index: usize, room: &mut [u8]) -> Result<(), ReadFailed> {
+        match self.read_block(place, index, room) {
+            Ok(()) => Ok(()),
+            Err(fault) => {
+                self.files.tell(&fault);
+                self.has_failed = true;
+                Err(ReadFailed)
+            }
+        }
+    }
+}
