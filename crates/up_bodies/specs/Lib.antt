@@ -2,4 +2,5 @@
 pub mod Blocks
 pub mod Failures
 pub mod Heads
+pub mod Notes
 pub mod Shelves

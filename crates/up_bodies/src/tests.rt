@@ -1,21 +1,18 @@
 //! What is written to files of bodies, what is read from them, and what is refused.
-ghost use Rattle.std.specs.Prelude.{◌≡◌, ◌+◌, ◌%◌, ◌<◌, length, min};
+mod folders;
 
 use crate::block::block_len;
-use crate::body_shelf::BodyShelf;
-use crate::body_spool::BodySpool;
 use crate::fault::{BlockFault, OpenFault};
-use crate::files::{BodyFault, BodyFiles};
 use crate::head::Head;
+use crate::host::{make_body_file, open_body_file};
 use crate::reader::BlockReader;
 use crate::writer::BlockWriter;
 use sqlite_disk::{Crash, Disk, Memory};
 use std::alloc::Global;
 use std::fmt::Debug;
-use std::io;
 use std::process::Abort;
-use std::sync::atomic::{AtomicU64, Ordering};
-use up_places::{BLOCK, Place, ROOM, Shelf, Spool};
+use std::{fs, io};
+use up_places::BLOCK;
 
 /// The head of the files here.
 static HEAD: Head = Head {
@@ -38,9 +35,13 @@ fn expect_same<T: Debug + PartialEq, R: Abort>(rt: &R, found: &T, wanted: &T) {
     assert_eq!(rt; *found, *wanted);
 }
 
-/// A file with these parts of a body, each of which is a block. All of it is on the disk.
-fn written(alloc: Global, parts: &[&[u8]]) -> Result<BlockWriter<Memory>, BlockFault> {
-    let Ok(mut file) = BlockWriter::create(alloc, Memory::new(alloc), &HEAD) else {
+/// Writes these parts of a body to a new file, each as a block. All of it is on the disk.
+fn written_to<D: Disk + Drop>(
+    alloc: Global,
+    device: D,
+    parts: &[&[u8]],
+) -> Result<BlockWriter<D>, BlockFault> {
+    let Ok(mut file) = BlockWriter::create(alloc, device, &HEAD) else {
         return Err(BlockFault::Broken);
     };
     for part in parts {
@@ -49,6 +50,11 @@ fn written(alloc: Global, parts: &[&[u8]]) -> Result<BlockWriter<Memory>, BlockF
     }
     file.settle()?;
     Ok(file)
+}
+
+/// The same in memory.
+fn written(alloc: Global, parts: &[&[u8]]) -> Result<BlockWriter<Memory>, BlockFault> {
+    written_to(alloc, Memory::new(alloc), parts)
 }
 
 /// A file that has these bytes.
@@ -61,7 +67,7 @@ fn file_of(alloc: Global, bytes: &[u8]) -> io::Result<Memory> {
 }
 
 /// Why a file with this head is not opened, or its first block of a body of 11 bytes not read: a letter.
-fn fault_of(alloc: Global, device: Memory, head: &Head) -> char {
+fn fault_of<D: Disk + Drop>(alloc: Global, device: D, head: &Head) -> char {
     let mut file = match BlockReader::open(alloc, device, head) {
         Ok(file) => file,
         Err(refused) => {
@@ -80,7 +86,7 @@ fn fault_of(alloc: Global, device: Memory, head: &Head) -> char {
     };
     let mut room = [0; 24];
     match file.read(56, 0, &mut room) {
-        Ok(()) if &room[..11] == b"hello world".as_slice() => '-',
+        Ok(()) if room.starts_with(b"hello world") => '-',
         Ok(()) => '?',
         Err(BlockFault::Damaged) => 'B',
         Err(BlockFault::Disk(_)) => 'i',
@@ -106,147 +112,6 @@ fn part(alloc: Global, device: Memory, index: usize, len: usize) -> Result<Vec<u
     file.read(56, index, &mut room)?;
     room.truncate(len);
     Ok(room)
-}
-
-/// A folder of which file 7 is `HELLO`, and no other file can be opened. The files that are made are numbered from 0 on, up
-/// to this number, after which none can be made.
-#[derive(Drop)]
-struct Files {
-    alloc: Global,
-    most: u64,
-    made: AtomicU64,
-    /// How many faults were told, of making, opening, reading and writing: 1, 10, 100 and 1,000 for each.
-    told: AtomicU64,
-}
-
-impl Files {
-    fn new(alloc: Global, most: u64) -> Files {
-        Files {
-            alloc,
-            most,
-            made: AtomicU64::new(0),
-            told: AtomicU64::new(0),
-        }
-    }
-}
-
-impl BodyFiles<Memory> for Files {
-    fn make(&self) -> io::Result<(u64, Memory)> {
-        let number = self.made.fetch_add(1, Ordering::SeqCst);
-        if number < self.most {
-            Ok((number, Memory::new(self.alloc)))
-        } else {
-            Err(io::ErrorKind::StorageFull.into())
-        }
-    }
-
-    fn open(&self, number: u64) -> io::Result<Memory> {
-        if number == 7 {
-            file_of(self.alloc, &HELLO)
-        } else {
-            Err(io::ErrorKind::NotFound.into())
-        }
-    }
-
-    fn head(&self, number: u64) -> Head {
-        Head { number, ..HEAD }
-    }
-
-    fn tell(&self, fault: &BodyFault) {
-        let one = match fault {
-            BodyFault::Made(_) => 1,
-            BodyFault::Opened { .. } => 10,
-            BodyFault::Read { .. } => 100,
-            BodyFault::Written { .. } => 1_000,
-        };
-        self.told.fetch_add(one, Ordering::SeqCst);
-    }
-}
-
-/// Puts a block of this many bytes, at most 65,536.
-fn put_block<S: Spool, R: Abort + AllocGlobal>(rt: &R, spool: &mut S, count: usize)
-    requires whole { length (S.body spool.old) % 65_536 ≡ 0 }
-    ensures { length (S.body spool.new) ≡ length (S.body spool.old) + min count 65_536 }
-{
-    let mut block = vec![in rt.alloc(); 7; count.min(BLOCK)].expect(rt, "memory");
-    spool.put(&mut block).expect(rt, "a put");
-}
-
-/// Puts a body of a whole block, if that is wanted, and of the rest. Returns where it is: the number of the file, the first
-/// byte, and the number of bytes. `None` if the body stays in memory.
-fn put_body<S: Spool, R: Abort + AllocGlobal>(
-    rt: &R,
-    spool: &mut S,
-    has_whole: bool,
-    rest: usize,
-) -> Option<(u64, u64, usize)> {
-    if !spool.begin(Some(rest as u64)).expect(rt, "a begin") {
-        return None;
-    }
-    if has_whole {
-        put_block(rt, spool, BLOCK);
-    }
-    put_block(rt, spool, rest);
-    let place = spool.place();
-    Some((place.file(), place.at(), place.len()))
-}
-
-/// The place in this file with "hello world", as `HELLO` has it.
-fn hello_in<R: Abort + AllocGlobal>(rt: &R, file: u64) -> Place
-    ensures { 0 < length result.bytes }
-{
-    let mut place = Place::empty(file, 56);
-    place.extend(&Vec::from_slice(rt.alloc(), b"hello world").expect(rt, "memory"));
-    place
-}
-
-/// Whether a shelf reads this of such a place.
-fn read_hello<S: Shelf, R: Abort + AllocGlobal>(rt: &R, shelf: &mut S, file: u64) -> bool {
-    let mut room = [0; ROOM];
-    match shelf.read(&hello_in(rt, file), 0, &mut room) {
-        Ok(()) => room.starts_with(b"hello world"),
-        Err(_) => false,
-    }
-}
-
-#[test]
-fn bodies_follow_each_other_in_a_file(rt: HostRuntime) {
-    let files = Files::new(rt.alloc(), 9);
-    let mut spool = BodySpool::new(rt.alloc(), &files, 10, 1 << 20);
-    for (has_whole, rest, wanted) in [
-        (false, 9, None),
-        (false, 10, Some((0, 56, 10))),
-        (true, 11, Some((0, 80, 65_547))),
-        (false, BLOCK, Some((0, 65_648, BLOCK))),
-        (false, 12, Some((0, 131_192, 12))),
-    ] {
-        let place = put_body(&rt, &mut spool, has_whole, rest);
-        expect_same(&rt, &place, &wanted);
-    }
-    expect_same(&rt, &spool.settle().is_ok(), &true);
-    expect_same(&rt, &files.told.load(Ordering::SeqCst), &0);
-}
-
-#[test]
-fn a_full_file_takes_no_further_body(rt: HostRuntime) {
-    let files = Files::new(rt.alloc(), 2);
-    let mut spool = BodySpool::new(rt.alloc(), &files, 0, 100);
-    for (rest, wanted) in [(200, (0, 56, 200)), (28, (1, 56, 28)), (1, (1, 96, 1))] {
-        let place = put_body(&rt, &mut spool, false, rest);
-        expect_same(&rt, &place, &Some(wanted));
-    }
-    expect_same(&rt, &spool.begin(None).is_err(), &true);
-    expect_same(&rt, &files.told.load(Ordering::SeqCst), &1);
-}
-
-#[test]
-fn places_are_read_from_their_files(rt: HostRuntime) {
-    let files = Files::new(rt.alloc(), 0);
-    let mut shelf = BodyShelf::new(rt.alloc(), &files);
-    for (file, wanted) in [(7, true), (7, true), (8, false), (7, true)] {
-        expect_same(&rt, &read_hello(&rt, &mut shelf, file), &wanted);
-    }
-    expect_same(&rt, &files.told.load(Ordering::SeqCst), &10);
 }
 
 #[test]
@@ -310,4 +175,25 @@ fn a_crash_leaves_what_was_settled(rt: HostRuntime) {
     let mut device = file.into_device();
     device.crash();
     expect_same(&rt, &fault_of(alloc, device, &HEAD), &'-');
+}
+
+#[test]
+fn a_file_of_the_system_is_made_once(rt: HostRuntime) {
+    let (folder, path) = ("up_bodies_tests_files", "up_bodies_tests_files/7");
+    let _ = fs::remove_dir_all(&rt, folder);
+    fs::create_dir(&rt, folder).expect(&rt, "a folder");
+    expect_same(&rt, &open_body_file(&rt, path).is_err(), &true);
+    let device = make_body_file(&rt, folder, path).expect(&rt, "a file");
+    let made = written_to(rt.alloc(), device, &[b"hello world"]).expect(&rt, "a body");
+    let device = open_body_file(&rt, path).expect(&rt, "the file");
+    expect_same(&rt, &fault_of(rt.alloc(), device, &HEAD), &'-');
+    expect_same(&rt, &made.end(), &80);
+    let bytes = fs::read(&rt, path).expect(&rt, "its bytes");
+    expect_same(&rt, &bytes.as_slice(), &HELLO.as_slice());
+    let again = match make_body_file(&rt, folder, path) {
+        Ok(_) => None,
+        Err(error) => Some(error.kind()),
+    };
+    expect_same(&rt, &again, &Some(io::ErrorKind::AlreadyExists));
+    fs::remove_dir_all(&rt, folder).expect(&rt, "a removal");
 }
