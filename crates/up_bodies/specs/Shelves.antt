@@ -1,6 +1,6 @@
--- What data files hold, and what was read of them.
-use Rattle.std.specs.Prelude.{◌≡◌, ℕ, List, [], Option, All, IfSome}
-use Rattle.std.specs.Option.{MatchOption}
+-- What was read of data files, and what a crash leaves of them.
+use Rattle.std.specs.Prelude.{◌≡◌, ℕ, List, Option, All, IfSome}
+use Rattle.std.specs.Option.{IsSomeAnd}
 use Rattle.sqlite_disk.specs.declared.Disk.{Ghosts}
 use Rattle.up_bodies.specs.Blocks.{HoldsSpot, WereTrue}
 use Rattle.up_bodies.specs.declared.data_file.DataFile.{DataFile}
@@ -16,12 +16,7 @@ module _ {D : Type 0} (g : Ghosts D) where
   abbrev pub AreTrueFiles : List (OpenFile D) → Option (OpenFile D) → Type 0
   AreTrueFiles closed current = All IsTrueFile closed × IfSome current IsTrueFile
 
-  -- the file of the last body, if there is one, holds the bytes of the place
-  abbrev pub HoldsPut : Option (DataFile D g) → Spot → Type 0
-  HoldsPut last spot = MatchOption last (spot.bytes ≡ []) (λ file.
-      (spot.file ≡ file.place.file) × HoldsSpot (g.seen file.file.device) file.file.seed spot)
-
-  -- every crash leaves the bytes of the place in that file
+  -- every crash leaves the bytes of the place in the file of the last body
   abbrev pub IsSettledPut : Option (DataFile D g) → Spot → Type 0
-  IsSettledPut last spot = MatchOption last (spot.bytes ≡ []) (λ file.
+  IsSettledPut last spot = IsSomeAnd last (λ file.
       (spot.file ≡ file.place.file) × ((c : List ℕ) → g.may_leave file.file.device c → HoldsSpot c file.file.seed spot))

@@ -75,11 +75,9 @@ impl<'a, D: Disk + Drop, B: BodyFiles<D>> BodySpool<'a, D, B> {
 impl<D: Disk + Drop, B: BodyFiles<D>> Spool for BodySpool<'_, D, B> {
     ghost use Rattle.std.specs.Prelude.{[]};
     ghost use Rattle.std.specs.Option.{option_map_or};
-    ghost use Rattle.up_bodies.specs.Shelves.{HoldsPut, IsSettledPut};
+    ghost use Rattle.up_bodies.specs.Shelves.{IsSettledPut};
 
     ghost body = { λ s. option_map_or (λ f. f.place.bytes) s.file [] };
-
-    ghost holds = { λ s. HoldsPut D.Disk s.file };
 
     ghost is_settled = { λ s. IsSettledPut D.Disk s.file };
 
@@ -107,21 +105,14 @@ impl<D: Disk + Drop, B: BodyFiles<D>> Spool for BodySpool<'_, D, B> {
         }
     }
 
-    fn place(&mut self) -> Place {
-        match &mut self.file {
-            Some(file) => file.begin(),
-            None => Place::empty(0, 0),
-        }
-    }
-
-    // If it fails, the next body is put into another file.
-    fn settle(&mut self) -> Result<(), PutFailed> {
+    // If that fails, the next body is put into another file.
+    fn finish(&mut self) -> Result<Place, PutFailed> {
         let Some(file) = &mut self.file else {
-            return Ok(());
+            return Err(PutFailed);
         };
         let number = file.number();
         match file.settle() {
-            Ok(()) => Ok(()),
+            Ok(()) => Ok(file.begin()),
             Err(fault) => {
                 self.file = None;
                 self.files.tell(&BodyFault::Written { number, fault });

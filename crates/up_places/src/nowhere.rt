@@ -32,13 +32,11 @@ impl<R: Wait> Shelf for Nowhere<'_, R> {
 }
 
 impl<R: Wait> Spool for Nowhere<'_, R> {
-    ghost use Rattle.std.specs.Prelude.{◌≡◌, []};
+    ghost use Rattle.std.specs.Prelude.{[]};
 
     ghost body = { λ _. [] };
 
-    ghost holds = { λ _ spot. spot.bytes ≡ [] };
-
-    ghost is_settled = { λ _ spot. spot.bytes ≡ [] };
+    ghost is_settled = { λ _ _. ⊥ };
 
     fn begin(&mut self, _size: Option<u64>) -> Result<bool, PutFailed> {
         Ok(false)
@@ -48,11 +46,7 @@ impl<R: Wait> Spool for Nowhere<'_, R> {
         Err(PutFailed)
     }
 
-    fn place(&mut self) -> Place {
-        Place::empty(0, 0)
-    }
-
-    fn settle(&mut self) -> Result<(), PutFailed> {
-        Ok(())
+    fn finish(&mut self) -> Result<Place, PutFailed> {
+        Err(PutFailed)
     }
 }

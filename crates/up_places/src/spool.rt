@@ -13,9 +13,6 @@ pub trait Spool {
     /// The bytes of the body that is being put.
     ghost body: { Self → List ℕ };
 
-    /// That its files hold the bytes of a place.
-    ghost holds: { Self → Spot → Type 0 };
-
     /// That every crash leaves the bytes of a place.
     ghost is_settled: { Self → Spot → Type 0 };
 
@@ -31,13 +28,8 @@ pub trait Spool {
         requires whole { length (body self.old) % 65_536 ≡ 0 }
         ensures put { OnOk result (body self.new ≡ body self.old ++ bytes.old.items) };
 
-    /// Where the bytes of the body are.
-    fn place(&mut self) -> Place
-        ensures bytes { result.bytes ≡ body self.old }
-        ensures held { holds self.new result };
-
-    /// Has all that was put written through to the disk.
-    fn settle(&mut self) -> Result<(), PutFailed>
-        ensures settled { OnOk result
-            ((spot : Spot) → holds self.old spot → is_settled self.new spot) };
+    /// Has the body written through to the disk, and returns where it is.
+    fn finish(&mut self) -> Result<Place, PutFailed>
+        ensures bytes { IfOk result (λ place. place.bytes ≡ body self.old) }
+        ensures settled { IfOk result (λ place. is_settled self.new place) };
 }

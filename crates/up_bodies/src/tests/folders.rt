@@ -93,7 +93,7 @@ fn put_body<S: Spool, R: Abort + AllocGlobal>(
         put_block(rt, spool, BLOCK);
     }
     put_block(rt, spool, rest);
-    let place = spool.place();
+    let place = spool.finish().expect(rt, "a place");
     Some((place.file(), place.at(), place.len()))
 }
 
@@ -138,7 +138,6 @@ fn bodies_follow_each_other_in_a_file(rt: HostRuntime) {
         let place = put_body(&rt, &mut spool, has_whole, rest);
         expect_same(&rt, &place, &wanted);
     }
-    expect_same(&rt, &spool.settle().is_ok(), &true);
     expect_same(&rt, &files.told.load(Ordering::SeqCst), &0);
 }
 
@@ -185,9 +184,8 @@ fn put_body_in<R: Abort + AllocGlobal>(rt: &R, folder: &BodyFolder<'_, Untold>) 
     let mut spool = BodySpool::new(rt.alloc(), folder, 0, 1 << 20);
     if spool.begin(None).expect(rt, "a body") {
         put_block(rt, &mut spool, 11);
-        spool.settle().expect(rt, "a sync");
     }
-    spool.place().file()
+    spool.finish().expect(rt, "a place").file()
 }
 
 #[test]
