@@ -22,13 +22,15 @@ module _ {X : Type 0} (P : X → Type 0) (xs : List X) (x : X) (all : All P (xs 
   pub all_last : P x
   all_last = subst P (get_or_push xs x x (length xs) refl) (All-get_or P (xs ++ x ∷ []) (length xs) x (grind (arith, common_steps)) all)
 
--- a buffer that was made as long as the block, of one that has room for each
-pub room_is : (index len count : ℕ) (bytes room : List ℕ) → count ≡ min (length bytes - 65_536 * index) 65_536 → len ≡ block_len count → 65_544 ≤ length room
+-- how long a part is
+pub length_part : (index : ℕ) (bytes : List ℕ) → length (part_at index bytes) ≡ min (length bytes - 65_536 * index) 65_536
+length_part index bytes =
+    omega (arith, length-take 65_536 (drop (65_536 * index) bytes), length-drop (65_536 * index) bytes)
+
+-- a buffer with room for each block, cut to the length of one
+pub room_is : (index len : ℕ) (bytes room : List ℕ) → len ≡ block_len (length (part_at index bytes)) → len ≤ 65_544 → 65_544 ≤ length room
     → length (take len room) ≡ block_len (length (part_at index bytes))
-room_is index len count bytes room few is long =
-    let rest = drop (65_536 * index) bytes in
-    let part : length (part_at index bytes) ≡ count = omega (arith, length-take 65_536 rest, length-drop (65_536 * index) bytes, few) in
-    omega (arith, length-take len room, is, part, few, long)
+room_is index len bytes room is few long = length-take len room ∙ omega (arith, few, long) ∙ is
 
 -- a buffer that begins with a block begins with its bytes
 pub block_begins : (seed : ℕ × ℕ) (at : ℕ) (bytes read rest : List ℕ) → read ≡ block seed at bytes → BeginsWith bytes (read ++ rest)

@@ -1,6 +1,7 @@
 //! Bodies that are read from data files.
-ghost use Rattle.std.specs.Prelude.{◌≡◌, ◌*◌, ◌<◌, ◌≤◌, All, None, length, IfNone, IfOk, IfSome, OnErr, OnOk};
-ghost use Rattle.up_bodies.specs.Shelves.{AreTrueFiles, IsTrueFile};
+ghost use Rattle.std.specs.Prelude.{◌≡◌, ◌*◌, ◌<◌, ◌≤◌, [], None, false, length, IfOk, IfSome, OnOk};
+ghost use Rattle.std.specs.Result.{result_ok};
+ghost use Rattle.up_bodies.specs.Shelves.{AreTrueFiles};
 ghost use Rattle.up_places.specs.Places.{BeginsWith, part_at};
 
 use crate::fault::OpenFault;
@@ -25,7 +26,8 @@ pub struct BodyShelf<'a, D: Disk, B> {
 impl<'a, D: Disk + Drop, B: BodyFiles<D>> BodyShelf<'a, D, B> {
     /// Reads from these files. None is open yet.
     pub fn new(alloc: Global, files: &'a B) -> BodyShelf<'a, D, B>
-        ensures { AreTrueFiles D.Disk result.closed.items result.current }
+        ensures none { (result.closed.items ≡ []) × (result.current ≡ None) }
+        ensures calm { result.has_failed ≡ false }
     {
         BodyShelf {
             alloc,
@@ -49,12 +51,9 @@ impl<'a, D: Disk + Drop, B: BodyFiles<D>> BodyShelf<'a, D, B> {
 
     /// Takes the file of this number, if it is open. Another one that is open is closed.
     fn take_open(&mut self, number: u64) -> Option<OpenFile<D>>
-        ensures some { IfSome result (λ file. IsTrueFile D.Disk file
-            → All (IsTrueFile D.Disk) self.new.closed.items
-            → AreTrueFiles D.Disk self.old.closed.items self.old.current) }
+        ensures stays { AreTrueFiles D.Disk self.new.closed.items result
+            → AreTrueFiles D.Disk self.old.closed.items self.old.current }
         ensures number { IfSome result (λ file. file.number ≡ number) }
-        ensures none { IfNone result (All (IsTrueFile D.Disk) self.new.closed.items
-            → AreTrueFiles D.Disk self.old.closed.items self.old.current) }
         ensures closed { self.new.current ≡ None }
         ensures same { self.new.has_failed ≡ self.old.has_failed }
     {
@@ -68,12 +67,9 @@ impl<'a, D: Disk + Drop, B: BodyFiles<D>> BodyShelf<'a, D, B> {
 
     /// Takes the file of this number, which is opened if it isn't open. Another one that is open is closed.
     fn take_file(&mut self, number: u64) -> Result<OpenFile<D>, BodyFault>
-        ensures ok { IfOk result (λ file. IsTrueFile D.Disk file
-            → All (IsTrueFile D.Disk) self.new.closed.items
-            → AreTrueFiles D.Disk self.old.closed.items self.old.current) }
+        ensures stays { AreTrueFiles D.Disk self.new.closed.items (result_ok result)
+            → AreTrueFiles D.Disk self.old.closed.items self.old.current }
         ensures number { IfOk result (λ file. file.number ≡ number) }
-        ensures err { OnErr result (All (IsTrueFile D.Disk) self.new.closed.items
-            → AreTrueFiles D.Disk self.old.closed.items self.old.current) }
         ensures closed { self.new.current ≡ None }
         ensures same { self.new.has_failed ≡ self.old.has_failed }
     {

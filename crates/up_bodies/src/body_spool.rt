@@ -26,7 +26,8 @@ impl<'a, D: Disk + Drop, B: BodyFiles<D>> BodySpool<'a, D, B> {
     /// Puts bodies into files like these. A body that is known to have fewer than `least` bytes stays in memory, and a file
     /// of `most` bytes or more takes no further body.
     pub fn new(alloc: Global, files: &'a B, least: u64, most: usize) -> BodySpool<'a, D, B>
-        ensures { result.file ≡ None }
+        ensures file { result.file ≡ None }
+        ensures bounds { (result.least ≡ least) × (result.most ≡ most) }
     {
         BodySpool {
             alloc,
@@ -75,7 +76,9 @@ impl<'a, D: Disk + Drop, B: BodyFiles<D>> BodySpool<'a, D, B> {
 impl<D: Disk + Drop, B: BodyFiles<D>> Spool for BodySpool<'_, D, B> {
     ghost use Rattle.std.specs.Prelude.{[]};
     ghost use Rattle.std.specs.Option.{option_map_or};
-    ghost use Rattle.up_bodies.specs.Shelves.{IsSettledPut};
+    ghost use Rattle.up_bodies.specs.Shelves.{IsSettledPut, takes_from};
+
+    ghost takes = { λ s. takes_from s.least };
 
     ghost body = { λ s. option_map_or (λ f. f.place.bytes) s.file [] };
 

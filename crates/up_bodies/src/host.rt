@@ -1,6 +1,7 @@
 //! Data files of the operating system.
 ghost use Rattle.std.specs.Prelude.{◌≡◌, ◌<◌, ◌≤◌, ◌^◌, [], ◌∷◌, length, IfOk};
 ghost use Rattle.sqlite_disk.specs.Events.{settled};
+ghost use Rattle.sqlite_disk.specs.Modelled.{calls_of};
 
 use crate::record::Record;
 use sqlite_disk::{Calls, Modelled, Wary, is_no_room};
@@ -38,7 +39,9 @@ pub struct HostFile {
 pub type BodyFile = Modelled<HostFile, Wary>;
 
 /// A file that is open. Its descriptor is none of the standard streams, also if one of these is closed.
-fn opened(file: fs::File) -> io::Result<BodyFile> {
+fn opened(file: fs::File) -> io::Result<BodyFile>
+    ensures { IfOk result (λ file. (calls_of file).log.events ≡ settled 0 ∷ []) }
+{
     let file = if file.as_raw_fd() <= 2 {
         file.try_clone()?
     } else {
@@ -51,7 +54,9 @@ fn opened(file: fs::File) -> io::Result<BodyFile> {
 
 /// Makes an empty file at this path, which only its owner may look into, and has it and its name in this folder on the
 /// disk. An error of the kind `AlreadyExists` if there is a file at the path.
-pub fn make_body_file(rt: &HostRuntime, folder: &str, path: &str) -> io::Result<BodyFile> {
+pub fn make_body_file(rt: &HostRuntime, folder: &str, path: &str) -> io::Result<BodyFile>
+    ensures { IfOk result (λ file. (calls_of file).log.events ≡ settled 0 ∷ []) }
+{
     let file = OpenOptions::new()
         .read(true)
         .write(true)
@@ -65,7 +70,9 @@ pub fn make_body_file(rt: &HostRuntime, folder: &str, path: &str) -> io::Result<
 
 /// Opens the file at this path to be read. It may be open elsewhere and be written, so a crash need not leave it as it is
 /// now: only what was settled there stays.
-pub fn open_body_file(rt: &HostRuntime, path: &str) -> io::Result<BodyFile> {
+pub fn open_body_file(rt: &HostRuntime, path: &str) -> io::Result<BodyFile>
+    ensures { IfOk result (λ file. (calls_of file).log.events ≡ settled 0 ∷ []) }
+{
     opened(OpenOptions::new().read(true).open(rt, path)?)
 }
 

@@ -1,7 +1,7 @@
 //! A data file from which bodies are read.
 ghost use Rattle.std.specs.Prelude.{◌≡◌, ◌+◌, ◌*◌, ◌<◌, ◌≤◌, [], List, ℕ, length, IfErr, IfOk, IsTrue, OnOk};
 ghost use Rattle.sqlite_disk.specs.Disk.{Holds};
-ghost use Rattle.up_bodies.specs.Blocks.{block_len};
+ghost use Rattle.up_bodies.specs.Blocks.{IsUntouched, block_len};
 ghost use Rattle.up_bodies.specs.Failures.{IsUnopenedFor, IsUnreadFor};
 ghost use Rattle.up_bodies.specs.Heads.{IsHeadOf};
 ghost use Rattle.up_bodies.specs.Shelves.{IsTrueFile};
@@ -25,6 +25,15 @@ pub struct OpenFile<D: Disk> {
     file: BlockReader<D>,
     /// The places that were asked for.
     asked: Trace<Place>,
+}
+
+/// How many bytes the block of this number of a place takes.
+fn block_len_of(place: &Place, index: usize) -> usize
+    requires within { 65_536 * index < length place.now.bytes }
+    ensures len { result ≡ block_len (length (part_at index place.now.bytes)) }
+    ensures few { result ≤ 65_544 }
+{
+    block_len((place.len() - BLOCK * index).min(BLOCK))
 }
 
 impl<D: Disk> OpenFile<D> {
@@ -67,12 +76,12 @@ impl<D: Disk> OpenFile<D> {
         ensures cause { IfErr result (IsUnreadFor D.Disk (place.now.at + 65_544 * index)
             (block_len (length (part_at index place.now.bytes)))
             self.old.file.device self.new.file.device) }
+        ensures untouched { IsUntouched D.Disk self.old.file.device self.new.file.device }
         ensures stays { IsTrueFile D.Disk self.new → IsTrueFile D.Disk self.old }
         ensures number { self.new.number ≡ self.old.number }
     {
         self.asked.push(place);
-        let count = (place.len() - BLOCK * index).min(BLOCK);
-        let block = &mut room[..block_len(count)];
-        self.file.read(place.at() as usize, index, block)
+        let len = block_len_of(place, index);
+        self.file.read(place.at() as usize, index, &mut room[..len])
     }
 }

@@ -32,7 +32,9 @@ impl<R: Wait> Shelf for Nowhere<'_, R> {
 }
 
 impl<R: Wait> Spool for Nowhere<'_, R> {
-    ghost use Rattle.std.specs.Prelude.{[]};
+    ghost use Rattle.std.specs.Prelude.{[], false};
+
+    ghost takes = { λ _ _. false };
 
     ghost body = { λ _. [] };
 

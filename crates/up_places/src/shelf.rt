@@ -30,5 +30,6 @@ pub trait Shelf {
         ensures bytes { OnOk result (is_true self.new
             → BeginsWith (part_at index place.now.bytes) room.new) }
         ensures stays { is_true self.new → is_true self.old }
+        ensures calm { OnOk result (has_failed self.new ≡ has_failed self.old) }
         ensures failed { OnErr result (has_failed self.new ≡ true) };
 }

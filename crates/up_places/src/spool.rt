@@ -1,5 +1,5 @@
 //! What takes the bytes of bodies as they arrive.
-ghost use Rattle.std.specs.Prelude.{◌≡◌, ◌%◌, ◌≤◌, ◌++◌, [], List, ℕ, true, length, IfOk, OnOk};
+ghost use Rattle.std.specs.Prelude.{◌≡◌, ◌%◌, ◌≤◌, ◌++◌, [], Bool, List, Option, ℕ, true, length, IfOk, OnOk};
 ghost use Rattle.up_places.specs.Places.{Spot};
 
 use crate::place::Place;
@@ -10,6 +10,9 @@ pub struct PutFailed;
 
 /// What takes the bytes of bodies as they arrive, such as a data file of a store.
 pub trait Spool {
+    /// Whether it takes a body of this size.
+    ghost takes: { Self → Option ℕ → Bool };
+
     /// The bytes of the body that is being put.
     ghost body: { Self → List ℕ };
 
@@ -19,6 +22,7 @@ pub trait Spool {
     /// Begins a body of this size in bytes; of `None` the size is not known yet. Returns whether its bytes are to be put
     /// here. If not, they stay in memory.
     fn begin(&mut self, size: Option<u64>) -> Result<bool, PutFailed>
+        ensures taken { IfOk result (λ taken. taken ≡ takes self.old size) }
         ensures begun { IfOk result (λ taken. taken ≡ true → body self.new ≡ []) };
 
     /// Puts the next bytes of the body: 65,536, or fewer if they are its last ones. What the vector has afterwards has no

@@ -1,4 +1,4 @@
-use Rattle.std.proofs.Common.{◌≡◌, ◌+◌, ◌-◌, ◌*◌, ℕ, IfErr, length, take, drop, min, arith, subst}
+use Rattle.std.proofs.Common.{◌+◌, ◌*◌, ℕ, IfErr, length, take, drop, subst}
 use Rattle.up_bodies.specs.Failures.{IsUnreadFor}
 use Rattle.up_bodies.proofs.Opening.{if_err}
 use Rattle.up_bodies.proofs.Reading.{asked_held, block_begins, on_ok, room_is, were_true}
@@ -8,21 +8,19 @@ use Rattle.up_places.specs.Places.{part_at}
 pub returns-clause-bytes : goal.returns-clause-bytes
 returns-clause-bytes g c =
     let place = c.args.place.now in
-    let count : c.min-count.result ≡ min (length place.bytes - 65_536 * c.args.index) 65_536 = omega (arith, c.min-count.ensures, c.len.ensures, c.requires.within) in
-    let size = room_is c.args.index c.block_len.result c.min-count.result place.bytes c.args.room.now count c.block_len.ensures c.requires.room in
+    let size = room_is c.args.index c.block_len_of-len.result place.bytes c.args.room.now c.block_len_of-len.ensures.len c.block_len_of-len.ensures.few c.requires.room in
     on_ok c.read.result
     (λ known were.
     let held = asked_held g.D.Disk c.args.self.now.file.device c.read.new.self.device c.args.self.now.file.seed c.read.new.self.seed
     c.read.ensures.untouched c.read.ensures.same c.args.self.now.asked.items c.push.new.self.items place c.push.ensures were c.at.result c.at.ensures in
-    block_begins c.args.self.now.file.seed _ (part_at c.args.index place.bytes) c.read.new.room (drop c.block_len.result c.args.room.now)
+    block_begins c.args.self.now.file.seed _ (part_at c.args.index place.bytes) c.read.new.room (drop c.block_len_of-len.result c.args.room.now)
     (known were.0 place.bytes held c.requires.within size))
     c.read.ensures.bytes
 
 pub returns-clause-damaged : goal.returns-clause-damaged
 returns-clause-damaged g c =
     let place = c.args.place.now in
-    let count : c.min-count.result ≡ min (length place.bytes - 65_536 * c.args.index) 65_536 = omega (arith, c.min-count.ensures, c.len.ensures, c.requires.within) in
-    let size = room_is c.args.index c.block_len.result c.min-count.result place.bytes c.args.room.now count c.block_len.ensures c.requires.room in
+    let size = room_is c.args.index c.block_len_of-len.result place.bytes c.args.room.now c.block_len_of-len.ensures.len c.block_len_of-len.ensures.few c.requires.room in
     if_err c.read.result
     (λ fault known is were.
     known is were.0 place.bytes
@@ -33,14 +31,13 @@ returns-clause-damaged g c =
 
 pub returns-clause-cause : goal.returns-clause-cause
 returns-clause-cause g c =
-    let place = c.args.place.now in
-    let count : c.min-count.result ≡ min (length place.bytes - 65_536 * c.args.index) 65_536 = omega (arith, c.min-count.ensures, c.len.ensures, c.requires.within) in
-    let size = room_is c.args.index c.block_len.result c.min-count.result place.bytes c.args.room.now count c.block_len.ensures c.requires.room in
+    let at = c.args.place.now.at + 65_544 * c.args.index in
     let unread = IsUnreadFor g.D.Disk in
     let before = c.args.self.now.file.device in
     let after = c.read.new.self.device in
-    subst (λ (n : ℕ). IfErr c.read.result (unread (place.at + 65_544 * c.args.index) n before after)) size
-    (subst (λ (at : ℕ). IfErr c.read.result (unread (at + 65_544 * c.args.index) (length (take c.block_len.result c.args.room.now)) before after)) c.at.ensures
+    let size = room_is c.args.index c.block_len_of-len.result c.args.place.now.bytes c.args.room.now c.block_len_of-len.ensures.len c.block_len_of-len.ensures.few c.requires.room in
+    subst (λ (n : ℕ). IfErr c.read.result (unread at n before after)) size
+    (subst (λ (k : ℕ). IfErr c.read.result (unread (k + 65_544 * c.args.index) (length (take c.block_len_of-len.result c.args.room.now)) before after)) c.at.ensures
     c.read.ensures.cause)
 
 pub returns-clause-stays : goal.returns-clause-stays
