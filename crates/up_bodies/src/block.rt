@@ -9,6 +9,9 @@ use up_places::BLOCK;
 /// The number of bytes of a checksum.
 pub(crate) const SUM: usize = 8;
 
+/// How many bytes a block with 65,536 bytes of a body takes.
+pub(crate) const ROOM: usize = BLOCK + SUM;
+
 /// What the checksums of a file begin with.
 pub(crate) type Seed = (u32, u32);
 

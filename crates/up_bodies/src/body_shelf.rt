@@ -1,16 +1,17 @@
 //! Bodies that are read from data files.
-ghost use Rattle.std.specs.Prelude.{◌≡◌, ◌*◌, ◌<◌, ◌≤◌, [], None, false, length, IfOk, IfSome, OnOk};
+ghost use Rattle.std.specs.Prelude.{◌≡◌, ◌*◌, ◌<◌, [], None, false, length, IfOk, IfSome, OnOk};
 ghost use Rattle.std.specs.Result.{result_ok};
-ghost use Rattle.up_bodies.specs.Shelves.{AreTrueFiles};
-ghost use Rattle.up_places.specs.Places.{BeginsWith, part_at};
+ghost use Rattle.up_bodies.specs.Shelves.{AreTrueFiles, IsTrueFile};
+ghost use Rattle.up_places.specs.Places.{part_at};
 
-use crate::fault::OpenFault;
+use crate::block::ROOM;
+use crate::fault::{BlockFault, OpenFault};
 use crate::files::{BodyFault, BodyFiles};
 use crate::open_file::OpenFile;
 use sqlite_disk::Disk;
 use std::alloc::Global;
 use up_events::Trace;
-use up_places::{Place, ReadFailed, Shelf};
+use up_places::{BLOCK, Place, ReadFailed, Shelf};
 
 /// Reads bodies from the data files of a store. The file that was read last stays open.
 #[derive(Drop)]
@@ -20,7 +21,30 @@ pub struct BodyShelf<'a, D: Disk, B> {
     current: Option<OpenFile<D>>,
     /// The files that were closed.
     closed: Trace<OpenFile<D>>,
+    /// The block that was read last, without its zeros and its checksum.
+    block: Vec<u8>,
     has_failed: bool,
+}
+
+/// Reads the block of this number of a place from its file, and leaves its zeros and its checksum out.
+fn read_into<D: Disk>(
+    block: &mut Vec<u8>,
+    file: &mut OpenFile<D>,
+    place: &Place,
+    index: usize,
+) -> Result<(), BlockFault>
+    requires same { place.now.file ≡ file.old.number }
+    requires within { 65_536 * index < length place.now.bytes }
+    ensures len { OnOk result (length block.new.items ≡ length (part_at index place.now.bytes)) }
+    ensures bytes { OnOk result (IsTrueFile D.Disk file.new
+        → block.new.items ≡ part_at index place.now.bytes) }
+    ensures stays { IsTrueFile D.Disk file.new → IsTrueFile D.Disk file.old }
+    ensures number { file.new.number ≡ file.old.number }
+{
+    block.resize(ROOM, 0)?;
+    let read = file.read(place, index, block.as_mut_slice());
+    block.truncate((place.len() - BLOCK * index).min(BLOCK));
+    read
 }
 
 impl<'a, D: Disk + Drop, B: BodyFiles<D>> BodyShelf<'a, D, B> {
@@ -34,6 +58,7 @@ impl<'a, D: Disk + Drop, B: BodyFiles<D>> BodyShelf<'a, D, B> {
             files,
             current: None,
             closed: Trace::new(),
+            block: Vec::new(alloc),
             has_failed: false,
         }
     }
@@ -83,17 +108,18 @@ impl<'a, D: Disk + Drop, B: BodyFiles<D>> BodyShelf<'a, D, B> {
     }
 
     /// Reads the block of this number of a place.
-    fn read_block(&mut self, place: &Place, index: usize, room: &mut [u8]) -> Result<(), BodyFault>
-        requires room { 65_544 ≤ length room.old }
+    fn read_block(&mut self, place: &Place, index: usize) -> Result<(), BodyFault>
         requires within { 65_536 * index < length place.now.bytes }
+        ensures len { OnOk result (length self.new.block.items
+            ≡ length (part_at index place.now.bytes)) }
         ensures bytes { OnOk result (AreTrueFiles D.Disk self.new.closed.items self.new.current
-            → BeginsWith (part_at index place.now.bytes) room.new) }
+            → self.new.block.items ≡ part_at index place.now.bytes) }
         ensures stays { AreTrueFiles D.Disk self.new.closed.items self.new.current
             → AreTrueFiles D.Disk self.old.closed.items self.old.current }
         ensures same { self.new.has_failed ≡ self.old.has_failed }
     {
         let mut file = self.take_file(place.file())?;
-        let read = file.read(place, index, room);
+        let read = read_into(&mut self.block, &mut file, place, index);
         self.current = Some(file);
         match read {
             Ok(()) => Ok(()),
@@ -115,8 +141,10 @@ impl<D: Disk + Drop, B: BodyFiles<D>> Shelf for BodyShelf<'_, D, B> {
 
     ghost has_failed = { λ s. s.has_failed };
 
-    fn read(&mut self, place: &Place, index: usize, room: &mut [u8]) -> Result<(), ReadFailed> {
-        match self.read_block(place, index, room) {
+    ghost block = { λ s. s.block.items };
+
+    fn read(&mut self, place: &Place, index: usize) -> Result<(), ReadFailed> {
+        match self.read_block(place, index) {
             Ok(()) => Ok(()),
             Err(fault) => {
                 self.files.tell(&fault);
@@ -124,5 +152,9 @@ impl<D: Disk + Drop, B: BodyFiles<D>> Shelf for BodyShelf<'_, D, B> {
                 Err(ReadFailed)
             }
         }
+    }
+
+    fn block(&self) -> &[u8] {
+        self.block.as_slice()
     }
 }

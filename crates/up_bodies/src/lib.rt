@@ -14,8 +14,6 @@ mod open_file;
 mod reader;
 mod record;
 mod refused;
-#[cfg(test)]
-mod tests;
 mod writer;
 
 pub use block::block_len;

@@ -7,13 +7,12 @@ ghost use Rattle.up_bodies.specs.Heads.{IsHeadOf};
 ghost use Rattle.up_places.specs.Places.{part_at};
 ghost use Rattle.up_bodies.specs.declared.fault.BlockFault.TheVariants.{Damaged};
 
-use crate::block::{Seed, is_sound};
+use crate::block::{ROOM, Seed, is_sound};
 use crate::fault::{BlockFault, OpenFault};
 use crate::head::{HEAD, Head};
 use crate::refused::Refused;
 use sqlite_disk::Disk;
 use std::alloc::Global;
-use up_places::ROOM;
 
 /// A file of blocks that is read.
 #[derive(Drop)]

@@ -6,10 +6,10 @@ use Rattle.up_headers.specs.declared.request.Request.TheVariants as request
 use Rattle.up_wire.specs.Device.{Device}
 use Rattle.up_wire.specs.declared.taken.Taken.{Taken}
 use Rattle.up_message.specs.declared.response.Response.{Response}
-use Rattle.up_dispatch.specs.Turn.{Answering, Converses, IsAnswered, IsCutCarriedOut, IsServed, TurnsLeadTo, ConversationState, TakesTurn}
+use Rattle.up_dispatch.specs.Turn.{Answering, Converses, DiskFacts, IsAnswered, IsCutCarriedOut, IsServed, TurnsLeadTo, ConversationState, TakesTurn}
 use Rattle.up_dispatch.specs.declared.ended.Ended.{Ended}
 
-module _ {C : Type 0} (a b : Answering C)
+module _ {C : Type 0} (disk : DiskFacts) (a b : Answering C)
     (alike : (old new : C) (asks : Request) (response : Response) → a old new asks response → b old new asks response) where
   answered :
       (old new : C) (response : Response) (read : Result Request HeaderFault) → IsAnswered a old new response read
@@ -28,7 +28,7 @@ module _ {C : Type 0} (a b : Answering C)
 
   served :
       (taken : Taken) (max_size : ℕ) (is_last : Bool) (old new : C) (before after : Device) (ended : Option Ended)
-      → IsServed a taken max_size is_last old new before after ended → IsServed b taken max_size is_last old new before after ended
+      → IsServed disk a taken max_size is_last old new before after ended → IsServed disk b taken max_size is_last old new before after ended
   served (Taken.Message m) max_size is_last old new before after ended is =
       (is.0, (is.1.0, is.1.1, answered old new is.0 is.1.0 is.1.2), is.2)
   served (Taken.Cut m) max_size is_last old new before after ended is = ((is.0.0, is.0.1, cut old new is.0.0 is.0.2), is.1, is.2)
@@ -36,8 +36,8 @@ module _ {C : Type 0} (a b : Answering C)
   served Taken.End max_size is_last old new before after ended is = is
 
   turn :
-      (max_size : ℕ) (is_last : Bool) (old new : ConversationState C) (ended : Option Ended) → TakesTurn a max_size is_last old new ended
-      → TakesTurn b max_size is_last old new ended
+      (max_size : ℕ) (is_last : Bool) (old new : ConversationState C) (ended : Option Ended) → TakesTurn disk a max_size is_last old new ended
+      → TakesTurn disk b max_size is_last old new ended
   turn max_size is_last old new ended is = record {
     taken = is.taken;
     sink = is.sink;
@@ -45,13 +45,13 @@ module _ {C : Type 0} (a b : Answering C)
     is_served = served is.taken max_size is_last old.keeper_state new.keeper_state is.sink new.sink ended is.is_served;
   }
 
-  passes : (max_size turns : ℕ) (old new : ConversationState C) → TurnsLeadTo a max_size turns old new → TurnsLeadTo b max_size turns old new
+  passes : (max_size turns : ℕ) (old new : ConversationState C) → TurnsLeadTo disk a max_size turns old new → TurnsLeadTo disk b max_size turns old new
   unfolding TurnsLeadTo
   passes max_size zero old new is = is
   passes max_size (suc turns) old new is = (is.0, passes max_size turns old is.0 is.1, turn max_size _ is.0 new _ is.2)
 
   pub converses_alike :
-      (max_size : ℕ) (old new : ConversationState C) (ended : Ended) → Converses a max_size old new ended → Converses b max_size old new ended
+      (max_size : ℕ) (old new : ConversationState C) (ended : Ended) → Converses disk a max_size old new ended → Converses disk b max_size old new ended
   converses_alike max_size old new ended is = record {
     turns = is.turns;
     last = is.last;

@@ -5,7 +5,7 @@ use Rattle.up_wire.specs.Device.{Device}
 use Rattle.up_dispatch.specs.Answering.{keeper_state}
 use Rattle.up_dispatch.specs.ByBook.{IsAnsweredTo}
 use Rattle.up_dispatch.specs.Keeps.{ClosureAnswers}
-use Rattle.up_dispatch.specs.Turn.{Converses, conversation_state}
+use Rattle.up_dispatch.specs.Turn.{Converses, DiskFacts, conversation_state}
 use Rattle.up_dispatch.specs.declared.ended.Ended.{Ended}
 
 -- the same holds of what came back
@@ -20,13 +20,13 @@ came_back P s s' i i' r r' w w' p q u v is =
 
 -- the book that was lent is the one before, and what there is after is what came back
 pub over_book :
-    {R W : Type 0} (gives : ClosureAnswers) (max_size : ℕ) (source : R → Device) (sink : W → Device)
+    {R W : Type 0} (disk : DiskFacts) (gives : ClosureAnswers) (max_size : ℕ) (source : R → Device) (sink : W → Device)
     (first lent kept final : State) (d e e' : ℕ) (r s s' : R) (w x x' : W) (ended : Ended)
     → lent ≡ first → final ≡ kept → e' ≡ e → s' ≡ s → x' ≡ x
-    → Converses (IsAnsweredTo gives) max_size (conversation_state (keeper_state lent d) (source r) (sink w)) (conversation_state (keeper_state kept e) (source s) (sink x)) ended
-    → Converses (IsAnsweredTo gives) max_size (conversation_state (keeper_state first d) (source r) (sink w)) (conversation_state (keeper_state final e') (source s') (sink x')) ended
-over_book gives max_size source sink first lent kept final d e e' r s s' w x x' ended p q t u v converses =
-    subst (λ (b : State). Converses (IsAnsweredTo gives) max_size (conversation_state (keeper_state b d) (source r) (sink w)) (conversation_state (keeper_state final e') (source s') (sink x')) ended) p
+    → Converses disk (IsAnsweredTo gives) max_size (conversation_state (keeper_state lent d) (source r) (sink w)) (conversation_state (keeper_state kept e) (source s) (sink x)) ended
+    → Converses disk (IsAnsweredTo gives) max_size (conversation_state (keeper_state first d) (source r) (sink w)) (conversation_state (keeper_state final e') (source s') (sink x')) ended
+over_book disk gives max_size source sink first lent kept final d e e' r s s' w x x' ended p q t u v converses =
+    subst (λ (b : State). Converses disk (IsAnsweredTo gives) max_size (conversation_state (keeper_state b d) (source r) (sink w)) (conversation_state (keeper_state final e') (source s') (sink x')) ended) p
     (came_back
-    (λ b i a c. Converses (IsAnsweredTo gives) max_size (conversation_state (keeper_state lent d) (source r) (sink w)) (conversation_state (keeper_state b i) (source a) (sink c)) ended)
+    (λ b i a c. Converses disk (IsAnsweredTo gives) max_size (conversation_state (keeper_state lent d) (source r) (sink w)) (conversation_state (keeper_state b i) (source a) (sink c)) ended)
     kept final e e' s s' x x' q t u v converses)

@@ -17,7 +17,7 @@ use Rattle.up_dispatch.proofs.TurnLemmas.{passes_few}
 use Rattle.up_dispatch.specs.Answering.{KeeperState}
 use Rattle.up_dispatch.specs.ByBook.{GoesOn, IsAnsweredTo, IsDecided, IsOutcome, last_after}
 use Rattle.up_dispatch.specs.Keeps.{ClosureAnswers}
-use Rattle.up_dispatch.specs.Turn.{Converses, IsAnswered, IsCutCarriedOut, IsServed, TurnsLeadTo, ConversationState, TakesTurn}
+use Rattle.up_dispatch.specs.Turn.{Converses, DiskFacts, IsAnswered, IsCutCarriedOut, IsServed, TurnsLeadTo, ConversationState, TakesTurn}
 use Rattle.up_dispatch.specs.declared.ended.Ended.{Ended}
 
 -- one message takes one id at most
@@ -69,7 +69,7 @@ grows_answered :
 grows_answered gives old new asks id response (inl is) = grows_decided old new asks id response is.0 is.2
 grows_answered gives old new asks id response (inr none) = grows_same old new none.1
 
-module _ (gives : ClosureAnswers) where
+module _ (disk : DiskFacts) (gives : ClosureAnswers) where
   -- a request was answered
   goes_on_answered :
       (old new : KeeperState State ℕ) (asks : Request) (response : Response) → IsAnsweredTo gives old new asks response → GoesOn 1 old new
@@ -100,7 +100,7 @@ module _ (gives : ClosureAnswers) where
 
   goes_on_served :
       (taken : Taken) (max_size : ℕ) (is_last : Bool) (old new : KeeperState State ℕ) (before after : Device) (ended : Option Ended)
-      → IsServed (IsAnsweredTo gives) taken max_size is_last old new before after ended → GoesOn 1 old new
+      → IsServed disk (IsAnsweredTo gives) taken max_size is_last old new before after ended → GoesOn 1 old new
   goes_on_served (Taken.Message m) max_size is_last old new before after ended is = goes_on_read old new is.0 is.1.0 is.1.2
   goes_on_served (Taken.Cut m) max_size is_last old new before after ended is = goes_on_cut old new is.0.0 is.0.2
   goes_on_served (Taken.Fault fault bare) max_size is_last old new before after ended is = goes_on_same 1 old new is.0
@@ -108,12 +108,12 @@ module _ (gives : ClosureAnswers) where
 
   goes_on_turn :
       (max_size : ℕ) (is_last : Bool) (old new : ConversationState (KeeperState State ℕ)) (ended : Option Ended)
-      → TakesTurn (IsAnsweredTo gives) max_size is_last old new ended → GoesOn 1 old.keeper_state new.keeper_state
+      → TakesTurn disk (IsAnsweredTo gives) max_size is_last old new ended → GoesOn 1 old.keeper_state new.keeper_state
   goes_on_turn max_size is_last old new ended is =
       goes_on_served is.taken max_size is_last old.keeper_state new.keeper_state is.sink new.sink ended is.is_served
 
   goes_on_passes :
-      (max_size turns : ℕ) (old new : ConversationState (KeeperState State ℕ)) → TurnsLeadTo (IsAnsweredTo gives) max_size turns old new
+      (max_size turns : ℕ) (old new : ConversationState (KeeperState State ℕ)) → TurnsLeadTo disk (IsAnsweredTo gives) max_size turns old new
       → GoesOn turns old.keeper_state new.keeper_state
   unfolding TurnsLeadTo
   goes_on_passes max_size zero old new is =
@@ -124,13 +124,13 @@ module _ (gives : ClosureAnswers) where
       (goes_on_turn max_size _ is.0 new None is.2))
 
   pub goes_on_conversed :
-      (max_size : ℕ) (old new : ConversationState (KeeperState State ℕ)) (ended : Ended) → Converses (IsAnsweredTo gives) max_size old new ended
+      (max_size : ℕ) (old new : ConversationState (KeeperState State ℕ)) (ended : Ended) → Converses disk (IsAnsweredTo gives) max_size old new ended
       → GoesOn 10000 old.keeper_state new.keeper_state
   goes_on_conversed max_size old new ended is =
       let few : is.turns + 1 ≤ 10000 =
       ⊎_elim
       (λ (less : is.turns < 10000). omega arith)
-      (λ (many : 10000 ≤ is.turns). absurd (passes_few _ max_size is.turns old is.last many is.passes))
+      (λ (many : 10000 ≤ is.turns). absurd (passes_few _ _ max_size is.turns old is.last many is.passes))
       (cases_lt is.turns 10000) in
       goes_on_within (is.turns + 1) 10000 old.keeper_state new.keeper_state few
       (goes_on_then is.turns 1 old.keeper_state is.last.keeper_state new.keeper_state (goes_on_passes max_size is.turns old is.last is.passes)

@@ -1,7 +1,7 @@
 -- A conversation as its exchange shows it.
-use Rattle.std.specs.Prelude.{◌≡◌}
+use Rattle.std.specs.Prelude.{◌≡◌, Bool, true}
 use Rattle.up_dispatch.specs.Answering.{KeeperState, keeper_state}
-use Rattle.up_dispatch.specs.Turn.{ConversationState, conversation_state}
+use Rattle.up_dispatch.specs.Turn.{ConversationState, DiskFacts, conversation_state}
 use Rattle.up_dispatch.specs.declared.exchange.Exchange.{Exchange}
 use Rattle.up_wire.specs.Device.{Device}
 
@@ -9,6 +9,10 @@ use Rattle.up_wire.specs.Device.{Device}
 abbrev pub stand_in : {S I R W : Type 0} → (R → Device) → (W → Device) → S → Exchange I R W → ConversationState (KeeperState S I)
 stand_in source sink state exchange =
     conversation_state (keeper_state state exchange.ids.now) (source exchange.source.now) (sink exchange.sink.now)
+
+-- what is known of a disk with these ghosts
+abbrev pub facts_of : {S : Type 0} → (S → Type 0) → (S → Bool) → S → DiskFacts
+facts_of is_true has_failed disk = record { is_true = is_true disk; has_failed = has_failed disk ≡ true }
 
 -- the exchange still holds the same three borrows
 abbrev pub KeepsBorrows : {I R W : Type 0} → Exchange I R W → Exchange I R W → Type 0

@@ -1,13 +1,13 @@
 //! One conversation: each message is read, decided and answered before the next.
 ghost use Rattle.std.specs.Prelude.{◌≡◌, ◌≤◌};
 ghost use Rattle.up_hooks.specs.MayAnswer.{ClosuresMayAnswer};
-ghost use Rattle.up_wire.specs.Response.{response_text};
 ghost use Rattle.up_dispatch.specs.Answering.{Serves, TakesId, answers_with, keeper_state};
-ghost use Rattle.up_dispatch.specs.Exchanges.{KeepsBorrows, stand_in};
+ghost use Rattle.up_dispatch.specs.Exchanges.{KeepsBorrows, facts_of, stand_in};
 ghost use Rattle.up_dispatch.specs.Keeps.{keeping};
-ghost use Rattle.up_dispatch.specs.Turn.{IsTurn, IsCutTurn, IsFaultSent, Converses, Sends, TakesTurn, unanswered};
+ghost use Rattle.up_dispatch.specs.Turn.{IsTurn, IsCutTurn, IsFaultSent, Converses, SendsShown, TakesTurn, unanswered};
 
 use crate::answering::answer_about;
+use crate::bodies::Bodies;
 use crate::ended::{Ended, MAX_MESSAGES};
 use crate::exchange::Exchange;
 use crate::ids::Ids;
@@ -19,6 +19,7 @@ use up_events::{Id, MAX_UPLOAD_BYTES};
 use up_headers::{Request, request_of};
 use up_hooks::{Origin, PreHooks};
 use up_message::{Message, Response};
+use up_places::{Shelf, Spool};
 use up_wire::{Limits, Sink, Source, Taken, WireFault, WriteFailed, read_message, write_response};
 
 /// The id that a request takes: each creation the next one, and any other request 0.
@@ -118,12 +119,20 @@ fn unanswered(fault: WireFault) -> Option<Ended>
     }
 }
 
-/// Writes a response. Returns how the conversation ended, if it did.
-fn send<W: Sink>(sink: &mut W, response: &Response, bare: bool, close: bool) -> Option<Ended>
-    ensures { Sends (W.device sink.old) (W.device sink.new)
-        (response_text response.now bare close) close result }
+/// Writes a response. Bytes of its body that are not in memory are read from the shelf. Returns how the conversation
+/// ended, if it did.
+fn send<W: Sink, S: Shelf>(
+    sink: &mut W,
+    shelf: &mut S,
+    response: &Response,
+    bare: bool,
+    close: bool,
+) -> Option<Ended>
+    ensures sent { SendsShown (facts_of S.is_true S.has_failed shelf.new)
+        (W.device sink.old) (W.device sink.new) response.now bare close result }
+    ensures stays { S.is_true shelf.new → S.is_true shelf.old }
 {
-    match write_response(sink, response, bare, close) {
+    match write_response(sink, shelf, response, bare, close) {
         Ok(()) => { if close { Some(Ended::Closed) } else { None } }
         Err(WriteFailed) => Some(Ended::WriteFailed),
     }
@@ -131,31 +140,40 @@ fn send<W: Sink>(sink: &mut W, response: &Response, bare: bool, close: bool) -> 
 
 /// Answers a message that can't be read, which closes the conversation. After a failed read or write nothing is
 /// answered. Returns how the conversation ended.
-fn answer_fault<W: Sink>(alloc: Global, sink: &mut W, fault: WireFault, bare: bool) -> Option<Ended>
-    ensures { IsFaultSent (unanswered fault) fault bare
-        (W.device sink.old) (W.device sink.new) result }
+fn answer_fault<W: Sink, S: Shelf>(
+    alloc: Global,
+    sink: &mut W,
+    shelf: &mut S,
+    fault: WireFault,
+    bare: bool,
+) -> Option<Ended>
+    ensures sent { IsFaultSent (facts_of S.is_true S.has_failed shelf.new)
+        (unanswered fault) fault bare (W.device sink.old) (W.device sink.new) result }
+    ensures stays { S.is_true shelf.new → S.is_true shelf.old }
 {
     match unanswered(fault) {
         Some(ended) => Some(ended),
         None => {
             let response = reply_to_wire_fault(alloc, fault);
-            send(sink, &response, bare, true)
+            send(sink, shelf, &response, bare, true)
         }
     }
 }
 
 /// Reads a message and answers it. Returns how the conversation ended, if it did. A message that can't be read is
 /// answered and closes the conversation. After a failed read or write, or if a body broke off, nothing is answered.
-fn take_turn<K: Keeper, I: Ids, R: Source, W: Sink>(
+fn take_turn<K: Keeper, I: Ids, R: Source, W: Sink, S: Shelf, P: Spool>(
     alloc: Global,
     keeper: &mut K,
     hooks: &PreHooks,
     max_size: u64,
     exchange: &mut Exchange<'_, I, R, W>,
+    bodies: &mut Bodies<S, P>,
     is_last: bool,
 ) -> Option<Ended>
     requires small { max_size ≤ MAX_UPLOAD_BYTES }
-    ensures turn { TakesTurn
+    ensures stays { S.is_true bodies.new.shelf → S.is_true bodies.old.shelf }
+    ensures turn { TakesTurn (facts_of S.is_true S.has_failed bodies.new.shelf)
         (Serves (keeping K.plans K.commits (ClosuresMayAnswer hooks.now)) I.draws) max_size is_last
         (stand_in R.device W.device (K.state keeper.old) exchange.old)
         (stand_in R.device W.device (K.state keeper.new) exchange.new) result }
@@ -163,35 +181,52 @@ fn take_turn<K: Keeper, I: Ids, R: Source, W: Sink>(
     ensures borrows { KeepsBorrows exchange.old exchange.new }
 {
     let limits = Limits { max_body: max_size };
-    match read_message(alloc, exchange.source, exchange.sink, &limits) {
+    match read_message(
+        alloc,
+        exchange.source,
+        exchange.sink,
+        &mut bodies.spool,
+        &limits,
+    ) {
         Taken::End => Some(Ended::Closed),
         Taken::Cut(message) => {
             carry_out_cut(alloc, keeper, hooks, message, exchange.client, max_size);
             Some(Ended::Cut)
         }
-        Taken::Fault { fault, bare } => answer_fault(alloc, exchange.sink, fault, bare),
+        Taken::Fault { fault, bare } => answer_fault(
+            alloc,
+            exchange.sink,
+            &mut bodies.shelf,
+            fault,
+            bare,
+        ),
         Taken::Message(message) => {
             let bare = message.bare;
             let close = is_last | message.close;
             let client = exchange.client;
             let ids = &mut *exchange.ids;
             let response = answer_to(alloc, keeper, hooks, ids, message, client, max_size);
-            send(exchange.sink, &response, bare, close)
+            send(exchange.sink, &mut bodies.shelf, &response, bare, close)
         }
     }
 }
 
 /// Serves the messages of an input in turn. The 10,000th is the last, and its answer closes the conversation; so does
 /// the answer to a message that asks for it (RFC 9112, section 9.6), and to one of HTTP/1.0.
-pub fn converse<K: Keeper, I: Ids, R: Source, W: Sink>(
+///
+/// A body that the spool takes is put into it as it arrives, and the others are read into memory. The bytes of an upload
+/// that are not in memory are read from the shelf.
+pub fn converse<K: Keeper, I: Ids, R: Source, W: Sink, S: Shelf, P: Spool>(
     alloc: Global,
     keeper: &mut K,
     hooks: &PreHooks,
     max_size: u64,
     exchange: &mut Exchange<'_, I, R, W>,
+    bodies: &mut Bodies<S, P>,
 ) -> Ended
     requires small { max_size ≤ MAX_UPLOAD_BYTES }
-    ensures turns { Converses
+    ensures stays { S.is_true bodies.new.shelf → S.is_true bodies.old.shelf }
+    ensures turns { Converses (facts_of S.is_true S.has_failed bodies.new.shelf)
         (Serves (keeping K.plans K.commits (ClosuresMayAnswer hooks.now)) I.draws) max_size
         (stand_in R.device W.device (K.state keeper.old) exchange.old)
         (stand_in R.device W.device (K.state keeper.new) exchange.new) result }
@@ -200,7 +235,7 @@ pub fn converse<K: Keeper, I: Ids, R: Source, W: Sink>(
 {
     for turn in 0..MAX_MESSAGES {
         let is_last = turn + 1 == MAX_MESSAGES;
-        if let Some(ended) = take_turn(alloc, keeper, hooks, max_size, exchange, is_last) {
+        if let Some(ended) = take_turn(alloc, keeper, hooks, max_size, exchange, bodies, is_last) {
             return ended;
         }
     }

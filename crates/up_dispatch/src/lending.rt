@@ -8,15 +8,18 @@ ghost use Rattle.up_dispatch.specs.Answering.{Answered, KeeperState, Serves, kee
 ghost use Rattle.up_dispatch.specs.ByBook.{GoesOn, IsAnsweredTo, IsOutcome};
 ghost use Rattle.up_dispatch.specs.Counts.{CountsIds};
 ghost use Rattle.up_dispatch.specs.Keepers.{by_book};
-ghost use Rattle.up_dispatch.specs.Turn.{Converses, ConversationState, conversation_state};
+ghost use Rattle.up_dispatch.specs.Exchanges.{KeepsBorrows, stand_in};
+ghost use Rattle.up_dispatch.specs.Turn.{Converses, ConversationState, no_disk};
 ghost use Rattle.up_dispatch.specs.declared.ended.Ended.{Ended};
 
+use crate::bodies::Bodies;
 use crate::conversation::converse;
 use crate::ended::{Ended, MAX_MESSAGES};
 use crate::exchange::Exchange;
 use crate::ids::Counting;
 use crate::keeper::Lent;
 use std::alloc::Global;
+use std::sync::Wait;
 use up_events::MAX_UPLOAD_BYTES;
 use up_hooks::PreHooks;
 use up_machine::Book;
@@ -35,40 +38,32 @@ pub fn lent_answer_is_exact(_hooks: &PreHooks)
 pub fn lent_conversation_is_exact(_hooks: &PreHooks)
     ensures turns { (max_size : ℕ) (old new : ConversationState (KeeperState State ℕ))
         (ended : Ended)
-        → Converses (Serves (by_book (ClosuresMayAnswer _hooks.now)) CountsIds) max_size old new
-        ended
-        → Converses (IsAnsweredTo (ClosuresMayAnswer _hooks.now)) max_size old new ended }
+        → Converses no_disk (Serves (by_book (ClosuresMayAnswer _hooks.now)) CountsIds) max_size old
+        new ended
+        → Converses no_disk (IsAnsweredTo (ClosuresMayAnswer _hooks.now)) max_size old new ended }
     ensures goes_on { (max_size : ℕ) (old new : ConversationState (KeeperState State ℕ))
         (ended : Ended)
-        → Converses (IsAnsweredTo (ClosuresMayAnswer _hooks.now)) max_size old new ended
+        → Converses no_disk (IsAnsweredTo (ClosuresMayAnswer _hooks.now)) max_size old new ended
         → GoesOn MAX_MESSAGES old.keeper_state new.keeper_state }
 {}
 
-/// Serves one conversation by a book alone, with ids that are counted from that of `ids`.
-pub fn converse_by_book<R: Source, W: Sink>(
+/// Serves one conversation by a book alone, with ids that are counted from that of the exchange.
+pub fn converse_by_book<R: Source, W: Sink, T: Wait>(
+    rt: &T,
     alloc: Global,
     book: &mut Book,
     hooks: &PreHooks,
-    ids: &mut Counting,
     max_size: u64,
-    source: &mut R,
-    sink: &mut W,
+    exchange: &mut Exchange<'_, Counting, R, W>,
 ) -> Ended
     requires small { max_size ≤ MAX_UPLOAD_BYTES }
-    ensures turns { Converses (IsAnsweredTo (ClosuresMayAnswer hooks.now)) max_size
-        (conversation_state (keeper_state book.old ids.old) (R.device source.old)
-        (W.device sink.old))
-        (conversation_state (keeper_state book.new ids.new) (R.device source.new)
-        (W.device sink.new))
-        result }
+    ensures turns { Converses no_disk (IsAnsweredTo (ClosuresMayAnswer hooks.now)) max_size
+        (stand_in R.device W.device book.old exchange.old)
+        (stand_in R.device W.device book.new exchange.new) result }
+    ensures borrows { KeepsBorrows exchange.old exchange.new }
 {
     lent_conversation_is_exact(hooks);
     let mut lent = Lent::new(book);
-    let mut exchange = Exchange {
-        ids,
-        source,
-        sink,
-        client: None,
-    };
-    converse(alloc, &mut lent, hooks, max_size, &mut exchange)
+    let mut bodies = Bodies::in_memory(rt);
+    converse(alloc, &mut lent, hooks, max_size, exchange, &mut bodies)
 }

@@ -3,6 +3,7 @@
 
 mod answering;
 mod board;
+mod bodies;
 mod conversation;
 mod counts;
 mod ended;
@@ -24,6 +25,7 @@ mod service;
 
 pub use answering::answer;
 pub use board::Board;
+pub use bodies::Bodies;
 pub use conversation::converse;
 pub use counts::Counts;
 pub use ended::{Ended, MAX_MESSAGES};

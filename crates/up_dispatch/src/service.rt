@@ -6,9 +6,10 @@ ghost use Rattle.up_dispatch.specs.Exchanges.{KeepsBorrows, stand_in};
 ghost use Rattle.up_dispatch.specs.Free.{no_history};
 ghost use Rattle.up_dispatch.specs.Keepers.{by_seat, seat_state, ConversationPlans};
 ghost use Rattle.up_dispatch.specs.Keeps.{keeping};
-ghost use Rattle.up_dispatch.specs.Turn.{Converses};
+ghost use Rattle.up_dispatch.specs.Turn.{Converses, no_disk};
 
 use crate::board::Board;
+use crate::bodies::Bodies;
 use crate::conversation::converse;
 use crate::ended::Ended;
 use crate::exchange::Exchange;
@@ -34,7 +35,7 @@ pub fn converse_at<B: Naming, I: Ids, R: Source, W: Sink, T: Wait>(
     exchange: &mut Exchange<'_, I, R, W>,
 ) -> Ended
     requires free { B.history ≡ no_history }
-    ensures served { Converses
+    ensures served { Converses no_disk
         (Serves (by_seat B.queue B.lanes B.max_size (ClosuresMayAnswer hooks.now)) I.draws)
         B.max_size
         (stand_in R.device W.device (seat_state seat.old []) exchange.old)
@@ -43,7 +44,8 @@ pub fn converse_at<B: Naming, I: Ids, R: Source, W: Sink, T: Wait>(
 {
     let max_size = board.max_size();
     let mut seated = Seated::new(rt, board, seat);
-    converse(alloc, &mut seated, hooks, max_size, exchange)
+    let mut bodies = Bodies::in_memory(rt);
+    converse(alloc, &mut seated, hooks, max_size, exchange, &mut bodies)
 }
 
 /// How the conversations of a server are served.
@@ -83,7 +85,7 @@ pub trait Service {
         exchange: &mut Exchange<'_, I, R, W>,
     ) -> (Ended, Trail<Entry, B>)
         requires same { B.history ≡ history }
-        ensures served { Converses
+        ensures served { Converses no_disk
             (Serves (keeping (ConversationPlans B.queue B.lanes B.max_size)
             (commits B.queue B.lanes B.max_size) (ClosuresMayAnswer hooks.now)) I.draws)
             B.max_size

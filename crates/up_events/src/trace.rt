@@ -20,6 +20,8 @@ impl<T> Model for Trace<T> {
 // A trace owns nothing.
 unsafe impl<T: Send> Send for Trace<T> {}
 
+unsafe impl<T: Sync> Sync for Trace<T> {}
+
 impl<T> Trace<T> {
     /// The empty list.
     pub fn new() -> Trace<T>

@@ -9,9 +9,8 @@ use crate::header_fault::HeaderFault;
 use crate::place::Place;
 use crate::request::{NotDigits, Patch, Request};
 use crate::verb::Verb;
-use std::alloc::AllocError;
 use up_events::Id;
-use up_message::{Field, Message, Piece, is_digits, number, same_name, trim_end_ows};
+use up_message::{Field, Message, is_digits, number, same_name, trim_end_ows};
 
 /// What the fields of a PATCH say: all of it but the id and the bytes.
 #[derive(Clone, Copy)]
@@ -35,13 +34,6 @@ fn read_fields(fields: &[Field]) -> Result<PatchFields, HeaderFault>
     })
 }
 
-/// The bytes of the body of a message, without a copy, and with no more room than they need.
-fn bytes_of(message: Message) -> Result<Piece, AllocError>
-    ensures { IfOk result (λ bytes. bytes ≡ message.body) }
-{
-    Piece::from_sequence(message.body)
-}
-
 /// What a PATCH of an upload asks for (tus 1.0.0, PATCH). No field that is read may be there twice. The bytes are those
 /// of the message, without a copy, and have no more room than they need.
 pub(crate) fn patch_request(id: Id, message: Message) -> Result<Request, HeaderFault>
@@ -55,7 +47,7 @@ pub(crate) fn patch_request(id: Id, message: Message) -> Result<Request, HeaderF
         media: read.media,
         offset: read.offset,
         length: read.length,
-        bytes: bytes_of(message)?,
+        bytes: message.body,
     }))
 }
 

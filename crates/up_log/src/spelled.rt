@@ -4,10 +4,10 @@ ghost use Rattle.up_log.specs.Spelling.{entry};
 
 use crate::entry::Entry;
 use crate::writing::{put_entry, room_of};
+use bytes::Bytes;
 use std::alloc::{AllocError, Global};
 use std::marker::Model;
 use up_events::Trace;
-use up_message::Piece;
 
 /// An entry that is already encoded, so that writing a batch encodes nothing. Contracts describe it as the entry.
 #[derive(Drop)]
@@ -15,7 +15,7 @@ pub struct Spelled {
     /// The encoding, without its end if that is in `back`.
     front: Vec<u8>,
     /// The bytes that a PATCH appends, if they are many. The request has them too, so they are not copied.
-    back: Piece,
+    back: Bytes,
     of: Trace<Entry>,
 }
 

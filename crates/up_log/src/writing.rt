@@ -4,6 +4,7 @@ ghost use Rattle.up_log.specs.Spelling.{word, id, text, maybe, many, flag, kind,
 ghost use Rattle.up_log.specs.Spelling.{new_upload, patch, asked_for, entry, batch};
 
 use crate::entry::{Consent, Entry};
+use bytes::Bytes;
 use std::alloc::{AllocError, Global};
 use up_events::{Id, Kind};
 use up_headers::{NewUpload, NotDigits, Pairs, Patch, Request};
@@ -58,21 +59,25 @@ fn put_text(out: &mut Vec<u8>, bytes: &Sequence<u8>) -> Result<(), AllocError>
 }
 
 /// No bytes.
-fn nothing() -> Piece
+fn nothing() -> Bytes
     ensures { result ≡ [] }
 {
-    Piece::from_static(&[])
+    Bytes::from_static(&[])
 }
 
 /// Puts the number of bytes, and the bytes, unless they are many. Then they are returned, and are still to be put.
-fn put_piece(out: &mut Vec<u8>, bytes: &Piece) -> Result<Piece, AllocError>
+fn put_piece(out: &mut Vec<u8>, bytes: &Piece) -> Result<Bytes, AllocError>
     ensures { IfOk result (λ back. out.new.items ++ back ≡ out.old.items ++ text bytes.now) }
 {
-    put_word(out, bytes.len() as u64)?;
-    if bytes.len() >= MIN_SHARED {
-        return bytes.share();
+    // No entry can name a place yet, and nothing puts bodies into data files yet.
+    let Some(shared) = bytes.in_memory_shared()? else {
+        return Err(AllocError);
+    };
+    put_word(out, shared.len() as u64)?;
+    if shared.len() >= MIN_SHARED {
+        return Ok(shared);
     }
-    out.extend_from_slice(bytes.as_slice())?;
+    out.extend_from_slice(shared.as_slice())?;
     Ok(nothing())
 }
 
@@ -188,7 +193,7 @@ fn put_new_upload(out: &mut Vec<u8>, new: &NewUpload) -> Result<(), AllocError>
 }
 
 /// Returns the bytes that are still to be put, as `put_piece` does.
-fn put_patch(out: &mut Vec<u8>, sent: &Patch) -> Result<Piece, AllocError>
+fn put_patch(out: &mut Vec<u8>, sent: &Patch) -> Result<Bytes, AllocError>
     ensures { IfOk result (λ back. out.new.items ++ back ≡ out.old.items ++ patch sent.now) }
 {
     put_id(out, sent.id)?;
@@ -199,7 +204,7 @@ fn put_patch(out: &mut Vec<u8>, sent: &Patch) -> Result<Piece, AllocError>
 }
 
 /// Returns the bytes that are still to be put, as `put_piece` does.
-fn put_request(out: &mut Vec<u8>, request: &Request) -> Result<Piece, AllocError>
+fn put_request(out: &mut Vec<u8>, request: &Request) -> Result<Bytes, AllocError>
     ensures { IfOk result (λ back.
         out.new.items ++ back ≡ out.old.items ++ asked_for request.now) }
 {
@@ -230,7 +235,7 @@ fn put_request(out: &mut Vec<u8>, request: &Request) -> Result<Piece, AllocError
 }
 
 /// Encodes an entry. Returns the end of the encoding that is still to be put, as `put_piece` does.
-pub(crate) fn put_entry(out: &mut Vec<u8>, logged: &Entry) -> Result<Piece, AllocError>
+pub(crate) fn put_entry(out: &mut Vec<u8>, logged: &Entry) -> Result<Bytes, AllocError>
     ensures { IfOk result (λ back. out.new.items ++ back ≡ out.old.items ++ entry logged.now) }
 {
     put_id(out, logged.id)?;

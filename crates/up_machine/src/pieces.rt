@@ -9,7 +9,7 @@ use bytes::BytesMut;
 use std::alloc::{AllocError, Global};
 use std::marker::Model;
 use up_events::{Accepted, Journal, NoMemory};
-use up_message::{MIN_SHARED, Piece, Run, Segments};
+use up_message::{Found, MIN_SHARED, Piece, Run, Segments};
 
 /// The maximum room of a tail, in bytes.
 const TAIL_ROOM: usize = 65_536;
@@ -189,14 +189,15 @@ impl Pieces {
         ensures err { OnErr result (self.new ≡ self.old) }
         ensures not_noted { OnErr result (journal.new ≡ journal.old) }
     {
-        if more.len() < MIN_SHARED {
-            self.append_small(alloc, journal, change, more.as_slice(), most)
-        } else {
-            self.append_large(alloc, journal, change, more)
+        match more.found() {
+            Found::InMemory(bytes) if bytes.len() < MIN_SHARED => {
+                self.append_small(alloc, journal, change, bytes, most)
+            }
+            _ => self.append_large(alloc, journal, change, more),
         }
     }
 
-    /// The same for a large body, which is shared and not copied.
+    /// The same for a large body, or one in a data file, which is shared and not copied.
     fn append_large(
         &mut self,
         alloc: Global,

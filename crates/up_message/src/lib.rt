@@ -14,7 +14,7 @@ mod sequence;
 pub use digits::{is_digits, number};
 pub use fields::{Values, find_value, same_name, trim_end_ows};
 pub use message::{Field, Message};
-pub use piece::{MIN_SHARED, Piece};
+pub use piece::{Found, MIN_SHARED, Piece};
 pub use response::Response;
 pub use run::Run;
 pub use segments::Segments;

@@ -1,4 +1,5 @@
 //! A message as it was on the wire.
+use crate::piece::Piece;
 use crate::sequence::Sequence;
 use http::Method;
 
@@ -13,8 +14,8 @@ pub struct Message {
     pub target: Sequence<u8>,
     /// The fields of the head, in order, without the blanks around the values.
     pub fields: Sequence<Field>,
-    /// The bytes of the body, without the lines of the chunked coding.
-    pub body: Sequence<u8>,
+    /// The bytes of the body, without the lines of the chunked coding, in memory or in a data file.
+    pub body: Piece,
     /// Whether the method is HEAD, so that the response has no body (RFC 9110, section 9.3.2).
     pub bare: bool,
     /// Whether the connection closes after this message (RFC 9112, section 9.3).

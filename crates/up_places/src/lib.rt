@@ -8,5 +8,5 @@ mod spool;
 
 pub use nowhere::Nowhere;
 pub use place::Place;
-pub use shelf::{BLOCK, ROOM, ReadFailed, Shelf};
+pub use shelf::{BLOCK, ReadFailed, Shelf};
 pub use spool::{PutFailed, Spool};

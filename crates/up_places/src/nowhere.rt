@@ -19,15 +19,21 @@ impl<'a, R: Wait> Nowhere<'a, R> {
 }
 
 impl<R: Wait> Shelf for Nowhere<'_, R> {
-    ghost use Rattle.std.specs.Prelude.{false};
+    ghost use Rattle.std.specs.Prelude.{[], false};
 
     ghost is_true = { λ _. Unit {0} };
 
     ghost has_failed = { λ _. false };
 
-    fn read(&mut self, _place: &Place, _index: usize, _room: &mut [u8]) -> Result<(), ReadFailed> {
+    ghost block = { λ _. [] };
+
+    fn read(&mut self, _place: &Place, _index: usize) -> Result<(), ReadFailed> {
         for _ in self.rt.forever() {}
         unreachable!()
+    }
+
+    fn block(&self) -> &[u8] {
+        &[]
     }
 }
 

@@ -1,14 +1,11 @@
 //! What bytes are read from that are not in memory.
-ghost use Rattle.std.specs.Prelude.{◌≡◌, ◌*◌, ◌<◌, ◌≤◌, Bool, true, length, OnErr, OnOk};
-ghost use Rattle.up_places.specs.Places.{BeginsWith, part_at};
+ghost use Rattle.std.specs.Prelude.{◌≡◌, ◌*◌, ◌<◌, Bool, List, ℕ, true, length, OnErr, OnOk};
+ghost use Rattle.up_places.specs.Places.{part_at};
 
 use crate::place::Place;
 
 /// How many bytes of a place are read at a time, but for its last ones.
 pub const BLOCK: usize = 65_536;
-
-/// The least size in bytes of a buffer into which a block is read. It has room for the block's checksum.
-pub const ROOM: usize = 65_544;
 
 /// A block of a place could not be read.
 #[derive(Clone, Copy, Debug, PartialEq, Eq)]
@@ -22,14 +19,22 @@ pub trait Shelf {
     /// Whether a read failed.
     ghost has_failed: { Self → Bool };
 
-    /// Reads the block of this number, from 0 on, of a place: the buffer then begins with the 65,536 bytes of the place
-    /// from byte 65,536 * `index` on, or with all that are left. What follows them in the buffer has no meaning.
-    fn read(&mut self, place: &Place, index: usize, room: &mut [u8]) -> Result<(), ReadFailed>
-        requires room { 65_544 ≤ length room.old }
+    /// The bytes of the block that was read last.
+    ghost block: { Self → List ℕ };
+
+    /// Reads the block of this number, from 0 on, of a place: the 65,536 bytes from byte 65,536 * `index` of the place on,
+    /// or all that are left.
+    fn read(&mut self, place: &Place, index: usize) -> Result<(), ReadFailed>
         requires within { 65_536 * index < length place.now.bytes }
+        ensures len { OnOk result (length (block self.new)
+            ≡ length (part_at index place.now.bytes)) }
         ensures bytes { OnOk result (is_true self.new
-            → BeginsWith (part_at index place.now.bytes) room.new) }
+            → block self.new ≡ part_at index place.now.bytes) }
         ensures stays { is_true self.new → is_true self.old }
         ensures calm { OnOk result (has_failed self.new ≡ has_failed self.old) }
         ensures failed { OnErr result (has_failed self.new ≡ true) };
+
+    /// The bytes of the block that was read last. Without meaning if no block was read, or if that failed.
+    fn block(&self) -> &[u8]
+        ensures { result.now ≡ block self.now };
 }

@@ -6,7 +6,7 @@ ghost use Rattle.up_hooks.specs.MayAnswer.{ClosuresMayAnswer};
 ghost use Rattle.up_dispatch.specs.Answering.{Serves};
 ghost use Rattle.up_dispatch.specs.Exchanges.{KeepsBorrows, stand_in};
 ghost use Rattle.up_dispatch.specs.Keepers.{seat_state};
-ghost use Rattle.up_dispatch.specs.Turn.{Converses};
+ghost use Rattle.up_dispatch.specs.Turn.{Converses, no_disk};
 ghost use Rattle.up_dispatch.specs.Lists.{EachAt};
 ghost use Rattle.up_store.specs.Permits.{HasCounted, counted_in};
 ghost use Rattle.up_store.specs.StoredCommits.{by_stored_seat};
@@ -25,7 +25,7 @@ use std::alloc::{AllocError, Global};
 use std::marker::{Send, Sync};
 use std::sync::atomic::AtomicU64;
 use std::sync::{Mutex, Wait};
-use up_dispatch::{Board, Ended, Exchange, Ids, Naming, Seat, Service, converse};
+use up_dispatch::{Board, Bodies, Ended, Exchange, Ids, Naming, Seat, Service, converse};
 use up_handed::Counted;
 use up_history::{Chronicle, Trail};
 use up_hooks::PreHooks;
@@ -120,7 +120,7 @@ pub fn converse_stored<
     exchange: &mut Exchange<'_, I, R, W>,
 ) -> (Ended, Trail<Entry, B>)
     requires same { J.history ≡ B.history }
-    ensures served { Converses
+    ensures served { Converses no_disk
         (Serves (by_stored_seat B.queue B.lanes B.max_size (ClosuresMayAnswer hooks.now)) I.draws)
         B.max_size
         (stand_in R.device W.device (seat_state seat.old []) exchange.old)
@@ -129,7 +129,8 @@ pub fn converse_stored<
 {
     let max_size = board.max_size();
     let mut stored = Stored::new(rt, board, store, seat);
-    let ended = converse(alloc, &mut stored, hooks, max_size, exchange);
+    let mut bodies = Bodies::in_memory(rt);
+    let ended = converse(alloc, &mut stored, hooks, max_size, exchange, &mut bodies);
     let Stored { seat, known, .. } = stored;
     give_back(seat);
     (ended, known)

@@ -4,10 +4,12 @@ ghost use Rattle.std.specs.Prelude.{◌<◌, IfOk, length};
 
 mod escaped;
 mod line_difference;
+mod pieces;
 mod responses;
 
 pub use crate::text::escaped::{push_escaped, push_in_brackets, push_pair};
 pub use crate::text::line_difference::{LineDifference, difference};
+pub use crate::text::pieces::bytes_of;
 pub use crate::text::responses::{push_body, push_fields, push_pieces, push_response, push_runs};
 use std::alloc::AllocError;
 use thiserror::Error;

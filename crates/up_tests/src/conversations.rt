@@ -9,12 +9,13 @@ use std::marker::Brand;
 use std::process::Abort;
 use std::sync::{Mutex, Wait};
 use up_dispatch::{
-    Board, BoardParts, Counting, Ended, Exchange, Ids, Keeper, Lent, Naming, Seat, Seated,
+    Board, BoardParts, Bodies, Counting, Ended, Exchange, Ids, Keeper, Lent, Naming, Seat, Seated,
     SharedIds, converse,
 };
 use up_events::Id;
 use up_hooks::PreHooks;
 use up_machine::Book;
+use up_places::{Shelf, Spool};
 use up_wire::{Input, Output, Sink, Source};
 
 const MAX_SIZE: u64 = 1 << 20;
@@ -57,23 +58,37 @@ fn exchange_of<'x, I: Ids, R: Source, W: Sink>(
     }
 }
 
-/// How a conversation ends, and what it writes.
-pub fn talk<K: Keeper, I: Ids>(
+/// How a conversation ends, and what it writes, if its bodies are there.
+pub fn talk_over<K: Keeper, I: Ids, S: Shelf, P: Spool>(
+    alloc: Global,
+    keeper: &mut K,
+    hooks: &PreHooks,
+    ids: &mut I,
+    asked: &[u8],
+    bodies: &mut Bodies<S, P>,
+) -> (Ended, Vec<u8>) {
+    let mut source = Input::new(asked);
+    let mut sink = Output::new(Vec::new(alloc));
+    let mut exchange = exchange_of(ids, &mut source, &mut sink);
+    let ended = converse(alloc, keeper, hooks, MAX_SIZE, &mut exchange, bodies);
+    (ended, sink.into_inner())
+}
+
+/// How a conversation ends, and what it writes, if its bodies are in memory.
+pub fn talk<K: Keeper, I: Ids, R: Wait>(
+    rt: &R,
     alloc: Global,
     keeper: &mut K,
     hooks: &PreHooks,
     ids: &mut I,
     asked: &[u8],
 ) -> (Ended, Vec<u8>) {
-    let mut source = Input::new(asked);
-    let mut sink = Output::new(Vec::new(alloc));
-    let mut exchange = exchange_of(ids, &mut source, &mut sink);
-    let ended = converse(alloc, keeper, hooks, MAX_SIZE, &mut exchange);
-    (ended, sink.into_inner())
+    let mut bodies = Bodies::in_memory(rt);
+    talk_over(alloc, keeper, hooks, ids, asked, &mut bodies)
 }
 
 /// Checks how a conversation ends, and what it writes.
-fn hold<K: Keeper, I: Ids, R: Abort>(
+fn hold<K: Keeper, I: Ids, R: Wait + Abort>(
     rt: &R,
     alloc: Global,
     keeper: &mut K,
@@ -82,7 +97,7 @@ fn hold<K: Keeper, I: Ids, R: Abort>(
     wanted: (Ended, &str),
 ) {
     let hooks = PreHooks::new(Vec::new(alloc));
-    let (ended, written) = talk(alloc, keeper, &hooks, ids, asked.as_bytes());
+    let (ended, written) = talk(rt, alloc, keeper, &hooks, ids, asked.as_bytes());
     let written = str::from_utf8(&written).expect(rt, "text");
     expect_same(rt, &(ended, written), &wanted);
 }

@@ -8,6 +8,8 @@ mod beside;
 #[cfg(test)]
 mod board;
 #[cfg(test)]
+mod bodies;
+#[cfg(test)]
 mod clients;
 #[cfg(test)]
 mod connections;

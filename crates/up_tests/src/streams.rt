@@ -4,7 +4,8 @@ use crate::same::expect_same;
 use std::alloc::Global;
 use std::io::{self, BufReader, Read};
 use std::process::Abort;
-use up_dispatch::{Counting, Ended, converse_by_book};
+use std::sync::Wait;
+use up_dispatch::{Counting, Ended, Exchange, converse_by_book};
 use up_events::Id;
 use up_hooks::PreHooks;
 use up_machine::Book;
@@ -65,11 +66,22 @@ type Wanted<'a> = ([&'a str; 2], Left);
 const SERVED: Left = (Ended::Closed, 2, Some(11));
 
 /// Serves a conversation with a new book.
-fn serve<S: Source>(rt: &impl Abort, alloc: Global, source: &mut S, sink: &mut Slip) -> Left {
+fn serve<S: Source>(
+    rt: &(impl Wait + Abort),
+    alloc: Global,
+    source: &mut S,
+    sink: &mut Slip,
+) -> Left {
     let mut book = Book::new(alloc, 2, MAX_SIZE).expect(rt, "memory");
     let hooks = PreHooks::new(Vec::new(alloc));
     let mut ids = Counting::new();
-    let ended = converse_by_book(alloc, &mut book, &hooks, &mut ids, MAX_SIZE, source, sink);
+    let mut exchange = Exchange {
+        ids: &mut ids,
+        source,
+        sink,
+        client: None,
+    };
+    let ended = converse_by_book(rt, alloc, &mut book, &hooks, MAX_SIZE, &mut exchange);
     let offset = match book.upload(Id::new(1)) {
         Some(view) => Some(view.offset),
         None => None,
@@ -78,7 +90,7 @@ fn serve<S: Source>(rt: &impl Abort, alloc: Global, source: &mut S, sink: &mut S
 }
 
 /// Serves a conversation, and checks the replies and what it leaves. If they differ, `at` is reported.
-fn hold<S: Source, R: Abort>(
+fn hold<S: Source, R: Wait + Abort>(
     rt: &R,
     alloc: Global,
     source: &mut S,
@@ -140,7 +152,7 @@ fn left_after(count: usize) -> Left {
 }
 
 /// Checks what is written, and what is left, if there is only room for these replies.
-fn hold_room(rt: &impl Abort, alloc: Global, replies: &[u8]) {
+fn hold_room(rt: &(impl Wait + Abort), alloc: Global, replies: &[u8]) {
     let room = replies.len();
     let mut sink = Slip::new(alloc, room, 0).expect(rt, "memory");
     let left = serve(
@@ -182,7 +194,13 @@ static INTERRUPTED_WHILE_WAITING: [Row; 2] = [
 ];
 
 /// Serves the input once for each row, and checks the replies, or that there is none, and what is left.
-fn hold_rows(rt: &impl Abort, alloc: Global, input: &str, replies: [&str; 2], rows: &[Row]) {
+fn hold_rows(
+    rt: &(impl Wait + Abort),
+    alloc: Global,
+    input: &str,
+    replies: [&str; 2],
+    rows: &[Row],
+) {
     for (reads, writes, are_written, left) in rows {
         let replies = if *are_written { replies } else { ["", ""] };
         let mut source = Tape::new(input.as_bytes(), *reads, false);
@@ -215,7 +233,7 @@ impl<'a> Read for Dripping<'a> {
 }
 
 /// Serves the input from three sources, of which the last returns one byte per call.
-fn hold_each(rt: &impl Abort, alloc: Global, input: &str, wanted: Wanted) {
+fn hold_each(rt: &(impl Wait + Abort), alloc: Global, input: &str, wanted: Wanted) {
     let bytes = input.as_bytes();
     hold(rt, alloc, &mut Tape::new(bytes, 0, false), 0, wanted, 1);
     hold(rt, alloc, &mut Input::new(bytes), 0, wanted, 2);

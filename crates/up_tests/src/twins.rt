@@ -91,7 +91,7 @@ fn told_from<B: Naming, R: Wait + Abort>(
 {
     let mut seat = board.seat(rt).expect(rt, "a seat");
     let mut keeper = Seated::new(rt, board, &mut seat);
-    let told = talk(alloc, &mut keeper, hooks, &mut Counting::new(), asked);
+    let told = talk(rt, alloc, &mut keeper, hooks, &mut Counting::new(), asked);
     (seat, told)
 }
 
@@ -170,16 +170,16 @@ fn hold<R: Threads + Wait + Abort + Sync>(
 ) {
     let mut book = Book::new(alloc, 2, 1_048_576).expect(rt, "memory");
     let asked = asked.as_bytes();
-    let by_book = talked(alloc, &mut book, hooks, asked);
+    let by_book = talked(rt, alloc, &mut book, hooks, asked);
     let list = Some(book.journal().accepted());
     hold_board(rt, alloc, hooks, asked, &by_book, list, count);
     hold_board(rt, alloc, hooks, asked, &by_book, None, count);
 }
 
 /// Serves the conversation with the book alone.
-fn talked(alloc: Global, book: &mut Book, hooks: &PreHooks, asked: &[u8]) -> Told {
+fn talked<R: Wait>(rt: &R, alloc: Global, book: &mut Book, hooks: &PreHooks, asked: &[u8]) -> Told {
     let mut keeper = Lent::new(book);
-    talk(alloc, &mut keeper, hooks, &mut Counting::new(), asked)
+    talk(rt, alloc, &mut keeper, hooks, &mut Counting::new(), asked)
 }
 
 #[test]

@@ -1,5 +1,6 @@
 -- A body as far as it was read, and one that stopped.
-use Rattle.std.proofs.Common.{◌≡◌, ◌+◌, ◌<◌, ◌++◌, ℕ, List, Vec, length, take, ap, ◌∙◌, append_assoc, inl, inr, refl}
+use Rattle.std.proofs.Common.{◌≡◌, ◌+◌, ◌<◌, ◌≤◌, ◌++◌, ℕ, List, Vec, length, length-append, take, ap, ◌∙◌, append_assoc, arith, inl, inr, refl, Err}
+use Rattle.up_wire.specs.Spooled.{IsPutAway}
 use Rattle.std.specs.declared.alloc.Global.{Global}
 use Rattle.up_wire.specs.declared.body.BodyEnd.{BodyEnd}
 use Rattle.up_wire.specs.declared.framing.Framing.{Framing}
@@ -19,3 +20,13 @@ pub batch_behind : (all filled : ℕ) (items whole was ready body before run : L
     → take (filled + length run) whole ≡ take filled was ++ run → was ≡ ready → take filled ready ≡ body ++ before → take all items ≡ body ++ (before ++ run)
 batch_behind all filled items whole was ready body before run is reach came was_is kept =
     ap (take all) is ∙ ap (λ n. take n whole) reach ∙ came ∙ ap (λ t. take filled t ++ run) was_is ∙ ap (λ t. t ++ run) kept ∙ append_assoc body before run
+
+-- a body that is put away and stops after a block
+pub put_away : (X : Type 0) (size done count : ℕ) (run more body was block : List ℕ) (ending : Ending) (stop : BodyEnd) → was ≡ run → length run ≡ done → done + count ≤ size
+    → block ≡ more → body ≡ was ++ block → IsStop ending (length block < count) ⊥ stop → IsPutAway {X = X} size (run ++ more) ending body (Err stop)
+put_away X size done count run more body was block ending BodyEnd.Ended a b within d e (short, at) =
+    (e ∙ ap (λ l. l ++ block) a ∙ ap (λ l. run ++ l) d, omega (arith, length-append run more, ap length d, b, within, short), at)
+put_away X size done count run more body was block ending BodyEnd.Failed a b within d e (short, at) =
+    (e ∙ ap (λ l. l ++ block) a ∙ ap (λ l. run ++ l) d, omega (arith, length-append run more, ap length d, b, within, short), at)
+put_away X size done count run more body was block ending BodyEnd.Bad a b within d e bad = absurd bad
+put_away X size done count run more body was block ending BodyEnd.NoMemory a b within d e goes_on = tt

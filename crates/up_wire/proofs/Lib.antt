@@ -18,3 +18,4 @@ pub mod OneAnswerKinds
 pub mod OneAnswer
 pub mod Places
 pub mod Bodies
+pub mod Showing

@@ -9,4 +9,6 @@ pub mod Message
 pub mod Reading
 pub mod Steps
 pub mod Response
+pub mod Shown
+pub mod Spooled
 pub mod OneAnswer

@@ -52,11 +52,10 @@ shown bare body = if bare then [] else body
 abbrev pub gap_text : Bool → List ℕ
 gap_text close = concat (close_line close ∷ crlf_bytes ∷ [])
 
--- the closing line, the empty line and the body
-abbrev pub end_text : Bool → Bool → List ℕ → List ℕ
-end_text bare close body = gap_text close ++ shown bare body
+-- everything before the body
+abbrev pub head_text : Response → Bool → Bool → List ℕ
+head_text r bare close = start_text r.status ++ (flat_map field_line r.fields ++ (length_line bare r ++ gap_text close))
 
 -- a response as it is written
 abbrev pub response_text : Response → Bool → Bool → List ℕ
-response_text r bare close =
-    start_text r.status ++ (flat_map field_line r.fields ++ (length_line bare r ++ end_text bare close r.body))
+response_text r bare close = head_text r bare close ++ shown bare r.body

@@ -11,7 +11,7 @@ use http::method::MethodError;
 use httparse::spans::{EMPTY_HEADER_SPAN, HeaderSpan, RequestSpans, parse_request};
 use httparse::{Error, Status};
 use std::alloc::{AllocError, Global};
-use up_message::{Field, Message, Sequence};
+use up_message::{Field, Message, Piece, Sequence};
 
 /// The maximum number of fields of a head.
 pub(crate) const MAX_FIELDS: usize = 64;
@@ -34,7 +34,7 @@ impl Head {
     }
 
     /// The message with this head and body. `bare` is whether the method is HEAD.
-    pub(crate) fn into_message(self, body: Sequence<u8>, bare: bool) -> Message
+    pub(crate) fn into_message(self, body: Piece, bare: bool) -> Message
         ensures method { result.method ≡ self.method }
         ensures target { result.target ≡ self.target }
         ensures fields { result.fields ≡ self.fields }

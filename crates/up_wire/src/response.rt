@@ -1,18 +1,19 @@
 //! Writing a response.
-ghost use Rattle.std.specs.Prelude.{◌≡◌, ◌+◌, ◌<◌, ◌≤◌, flat_map, OnOk, OnErr};
+ghost use Rattle.std.specs.Prelude.{◌≡◌, ◌+◌, ◌<◌, ◌≤◌, flat_map, length, OnOk, OnErr};
 ghost use Rattle.up_wire.specs.Device.{GaveUp, interrupted};
 ghost use Rattle.up_wire.specs.Limits.{max_interruptions};
 ghost use Rattle.up_wire.specs.Steps.{HasWritten};
-ghost use Rattle.up_wire.specs.Response.{Writes, phrase, start_text, field_line, length_line, gap_text, end_text};
-ghost use Rattle.up_wire.specs.Response.{response_text};
-ghost use Rattle.up_message.specs.Joins.{pieced};
+ghost use Rattle.up_wire.specs.Response.{phrase, start_text, field_line, length_line, gap_text, head_text};
+ghost use Rattle.up_wire.specs.Shown.{HasShownResponse, WritesShown, beside};
 
 use crate::device::Sink;
+use crate::shown::write_body;
 use crate::text::WriteFailed;
-use crate::write::{send_on, write_all, write_each};
+use crate::write::{send_on, write_each};
 use http::StatusCode;
 use itoa::Buffer;
-use up_message::{Field, Piece, Response, Run, Segments};
+use up_message::{Field, Response};
+use up_places::Shelf;
 
 /// Writes the line of a field.
 fn write_field<W: Sink>(sink: &mut W, field: &Field, interruptions: &mut u32) -> bool
@@ -88,56 +89,6 @@ fn write_length<W: Sink>(
     write_each(sink, &pieces, interruptions)
 }
 
-/// Writes the pieces of a run, in order.
-fn write_run<W: Sink>(sink: &mut W, run: &Run, interruptions: &mut u32) -> bool
-    requires { interruptions.old < max_interruptions }
-    ensures { HasWritten (W.device sink.old) (W.device sink.new)
-        interruptions.old interruptions.new run.now result }
-{
-    write_pieces(sink, run.pieces(), interruptions)
-}
-
-/// Writes pieces, in order.
-fn write_pieces<W: Sink>(sink: &mut W, pieces: &[Piece], interruptions: &mut u32) -> bool
-    requires { interruptions.old < max_interruptions }
-    ensures { HasWritten (W.device sink.old) (W.device sink.new)
-        interruptions.old interruptions.new (pieced pieces.now) result }
-{
-    for piece in pieces {
-        if !write_all(sink, piece.as_slice(), interruptions) {
-            return false;
-        }
-    }
-    true
-}
-
-/// Writes runs, in order.
-fn write_runs<W: Sink>(sink: &mut W, runs: &[Run], interruptions: &mut u32) -> bool
-    requires { interruptions.old < max_interruptions }
-    ensures { HasWritten (W.device sink.old) (W.device sink.new)
-        interruptions.old interruptions.new (pieced runs.now) result }
-{
-    for run in runs {
-        if !write_run(sink, run, interruptions) {
-            return false;
-        }
-    }
-    true
-}
-
-/// Writes a body.
-fn write_body<W: Sink>(sink: &mut W, body: &Segments, interruptions: &mut u32) -> bool
-    requires { interruptions.old < max_interruptions }
-    ensures { HasWritten (W.device sink.old) (W.device sink.new)
-        interruptions.old interruptions.new body.now result }
-{
-    let (front, last) = body.runs();
-    if !write_runs(sink, front, interruptions) {
-        return false;
-    }
-    write_run(sink, last, interruptions)
-}
-
 /// Writes the lines between the length and the body.
 fn write_gap<W: Sink>(sink: &mut W, close: bool, interruptions: &mut u32) -> bool
     requires { interruptions.old < max_interruptions }
@@ -149,56 +100,8 @@ fn write_gap<W: Sink>(sink: &mut W, close: bool, interruptions: &mut u32) -> boo
     write_each(sink, &pieces, interruptions)
 }
 
-/// Writes everything after the line with the length.
-fn write_end<W: Sink>(
-    sink: &mut W,
-    body: &Segments,
-    bare: bool,
-    close: bool,
-    interruptions: &mut u32,
-) -> bool
-    requires { interruptions.old < max_interruptions }
-    ensures { HasWritten (W.device sink.old) (W.device sink.new)
-        interruptions.old interruptions.new (end_text bare close body.now) result }
-{
-    if !write_gap(sink, close, interruptions) {
-        return false;
-    }
-    if bare {
-        return true;
-    }
-    write_body(sink, body, interruptions)
-}
-
-/// Writes a response. `bare` leaves out the body and its length, and `close` adds `Connection: close`. It takes no
-/// memory. `WriteFailed` if the sink failed, or was interrupted 1,000 times: a prefix of the response may then be
-/// written.
-pub fn write_response<W: Sink>(
-    sink: &mut W,
-    response: &Response,
-    bare: bool,
-    close: bool,
-) -> Result<(), WriteFailed>
-    ensures written { Writes (W.device sink.old).bytes (W.device sink.new).bytes
-        (response_text response.now bare close) result }
-    ensures patient { OnOk result
-        (interrupted (W.device sink.old) (W.device sink.new) < max_interruptions) }
-    ensures failed { OnErr result
-        (GaveUp (W.device sink.new) (interrupted (W.device sink.old) (W.device sink.new))) }
-    ensures bounded { interrupted (W.device sink.old) (W.device sink.new) ≤ max_interruptions }
-{
-    let mut interruptions = 0;
-    if !write_parts(sink, response, bare, close, &mut interruptions) {
-        return Err(WriteFailed);
-    }
-    if !send_on(sink, &mut interruptions) {
-        return Err(WriteFailed);
-    }
-    Ok(())
-}
-
-/// Writes all of a response.
-fn write_parts<W: Sink>(
+/// Writes everything before the body.
+fn write_head<W: Sink>(
     sink: &mut W,
     response: &Response,
     bare: bool,
@@ -207,7 +110,7 @@ fn write_parts<W: Sink>(
 ) -> bool
     requires { interruptions.old < max_interruptions }
     ensures { HasWritten (W.device sink.old) (W.device sink.new)
-        interruptions.old interruptions.new (response_text response.now bare close) result }
+        interruptions.old interruptions.new (head_text response.now bare close) result }
 {
     if !write_start(sink, response.status, interruptions) {
         return false;
@@ -218,5 +121,62 @@ fn write_parts<W: Sink>(
     if !write_length(sink, response, bare, interruptions) {
         return false;
     }
-    write_end(sink, &response.body, bare, close, interruptions)
+    write_gap(sink, close, interruptions)
+}
+
+/// Writes a response. `bare` leaves out the body and its length, and `close` adds `Connection: close`. Bytes of the body
+/// that are not in memory are read from the shelf, block by block. It takes no memory itself. Whatever bytes the shelf
+/// reads, the body that is written has its length.
+///
+/// `WriteFailed` if the sink failed or was interrupted 1,000 times, or if a read from the shelf failed. A prefix of the
+/// response may then be written.
+pub fn write_response<W: Sink, S: Shelf>(
+    sink: &mut W,
+    shelf: &mut S,
+    response: &Response,
+    bare: bool,
+    close: bool,
+) -> Result<(), WriteFailed>
+    ensures written { WritesShown (S.is_true shelf.new)
+        (W.device sink.old) (W.device sink.new) response.now bare close result }
+    ensures stays { S.is_true shelf.new → S.is_true shelf.old }
+    ensures patient { OnOk result
+        (interrupted (W.device sink.old) (W.device sink.new) < max_interruptions) }
+    ensures failed { OnErr result (GaveUp (beside (W.device sink.new) (S.has_failed shelf.new))
+        (interrupted (W.device sink.old) (W.device sink.new))) }
+    ensures bounded { interrupted (W.device sink.old) (W.device sink.new) ≤ max_interruptions }
+{
+    let mut interruptions = 0;
+    if !write_parts(sink, shelf, response, bare, close, &mut interruptions) {
+        return Err(WriteFailed);
+    }
+    if !send_on(sink, &mut interruptions) {
+        return Err(WriteFailed);
+    }
+    Ok(())
+}
+
+/// Writes all of a response.
+fn write_parts<W: Sink, S: Shelf>(
+    sink: &mut W,
+    shelf: &mut S,
+    response: &Response,
+    bare: bool,
+    close: bool,
+    interruptions: &mut u32,
+) -> bool
+    requires patient { interruptions.old < max_interruptions }
+    ensures shown { HasShownResponse (S.is_true shelf.new)
+        (beside (W.device sink.old) (S.has_failed shelf.old))
+        (beside (W.device sink.new) (S.has_failed shelf.new))
+        interruptions.old interruptions.new response.now bare close result }
+    ensures stays { S.is_true shelf.new → S.is_true shelf.old }
+{
+    if !write_head(sink, response, bare, close, interruptions) {
+        return false;
+    }
+    if bare {
+        return true;
+    }
+    write_body(sink, shelf, &response.body, interruptions)
 }

@@ -7,7 +7,7 @@ use std::alloc::Global;
 use std::io::{self, ErrorKind};
 use up_events::{Id, MAX_UPLOAD_BYTES};
 use up_headers::{Request, request_of};
-use up_message::{Field, Message, Sequence};
+use up_message::{Field, Message, Piece, Sequence};
 
 /// Memory ran out.
 pub fn out_of_memory() -> io::Error {
@@ -47,11 +47,11 @@ fn fields_of(alloc: Global, parts: &str) -> io::Result<Sequence<Field>> {
 }
 
 /// The body of a row: the last part that is no field.
-fn body_of(alloc: Global, parts: &str) -> io::Result<Sequence<u8>> {
-    let mut body = Sequence::new(alloc);
+fn body_of(alloc: Global, parts: &str) -> io::Result<Piece> {
+    let mut body = Piece::from_static(b"");
     for part in parts.split(" | ") {
         if !part.contains(": ") {
-            body = Sequence::from_slice(alloc, part.as_bytes())?;
+            body = Piece::copied(alloc, part.as_bytes())?;
         }
     }
     Ok(body)

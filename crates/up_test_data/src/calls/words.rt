@@ -1,7 +1,7 @@
 //! Results and states as text.
 use crate::calls::messages::id_of;
 use crate::text::{
-    push_escaped, push_in_brackets, push_pair, push_pieces, push_response, push_runs,
+    bytes_of, push_escaped, push_in_brackets, push_pair, push_pieces, push_response, push_runs,
 };
 use std::alloc::AllocError;
 use std::fmt::Write;
@@ -77,7 +77,7 @@ pub fn push_request(words: &mut String, request: &Request) -> Result<(), AllocEr
         Request::Patch(patch) => {
             let (id, offset) = (patch.id, patch.offset);
             write!(words, "patch {id:?} at {offset:?} ")?;
-            push_in_brackets(words, patch.bytes.as_slice())
+            push_in_brackets(words, bytes_of(&patch.bytes))
         }
         Request::Head(id) => write!(words, "head {id:?}"),
         Request::Get(id) => write!(words, "get {id:?}"),

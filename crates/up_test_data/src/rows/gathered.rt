@@ -1,11 +1,12 @@
 //! A body, copied into one piece.
+use crate::text::bytes_of;
 use std::alloc::{AllocError, Global};
 use up_message::{Piece, Run, Segments};
 
 /// Appends the pieces to the bytes.
 fn put_pieces(bytes: &mut Vec<u8>, pieces: &[Piece]) -> Result<(), AllocError> {
     for piece in pieces {
-        bytes.extend_from_slice(piece.as_slice())?;
+        bytes.extend_from_slice(bytes_of(piece))?;
     }
     Ok(())
 }

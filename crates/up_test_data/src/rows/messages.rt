@@ -2,6 +2,7 @@
 mod asked;
 mod counting;
 mod devices;
+mod no_files;
 mod reading;
 mod responses;
 mod turns;

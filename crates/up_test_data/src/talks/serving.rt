@@ -35,7 +35,7 @@ fn run<T: Threads + Wait + Sync>(
     settings: &Settings,
     asked: &[u8],
 ) -> Result<Served, AllocError> {
-    let twin = replies_of_book(alloc, &hooks, settings, asked)?;
+    let twin = replies_of_book(rt, alloc, &hooks, settings, asked)?;
     let mut source = Input::new(asked);
     let mut sink = Output::new(Vec::new(alloc));
     let answer = |_: &Event| Outcome::Done;

@@ -1,5 +1,6 @@
 //! Responses and their bytes as text, with Rust's escapes.
 use crate::text::escaped::{push_escaped, push_pair};
+use crate::text::pieces::bytes_of;
 use std::alloc::AllocError;
 use std::fmt::Write;
 use up_message::{Field, Piece, Response, Run, Segments};
@@ -7,7 +8,7 @@ use up_message::{Field, Piece, Response, Run, Segments};
 /// Adds the pieces, one after another.
 pub fn push_pieces(words: &mut String, pieces: &[Piece]) -> Result<(), AllocError> {
     for piece in pieces {
-        push_escaped(words, piece.as_slice())?;
+        push_escaped(words, bytes_of(piece))?;
     }
     Ok(())
 }

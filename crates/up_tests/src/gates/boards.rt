@@ -53,7 +53,7 @@ fn talk_from<B: Naming, R: Wait>(
     requires free { B.history ≡ no_history }
 {
     let mut keeper = Seated::new(rt, board, seat);
-    talk(alloc, &mut keeper, hooks, &mut Counting::new(), asked)
+    talk(rt, alloc, &mut keeper, hooks, &mut Counting::new(), asked)
 }
 
 /// A seat of a board.

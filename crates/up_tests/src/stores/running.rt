@@ -23,6 +23,7 @@ use up_history::Chronicle;
 use up_hooks::PreHooks;
 use up_log::{LogFault, LogReader};
 use up_machine::{Asked, Done, Refusal};
+use up_places::Nowhere;
 use up_replay::{asked_of, fits};
 use up_store::{Histories, Least, Store, Unrestored};
 use up_tie::{Reading, Site};
@@ -122,7 +123,8 @@ pub fn work<K: Keeper, R: Abort>(rt: &R, alloc: Global, keeper: &mut K, job: &Jo
 }
 
 /// Writes the response of a board to this request.
-fn write_answer<K: Keeper>(
+fn write_answer<K: Keeper, R: Wait>(
+    rt: &R,
     alloc: Global,
     keeper: &mut K,
     request: Request,
@@ -134,6 +136,7 @@ fn write_answer<K: Keeper>(
     let hooks = PreHooks::new(Vec::new(alloc));
     write_response(
         sink,
+        &mut Nowhere::new(rt),
         &answer(alloc, keeper, &hooks, request, id),
         false,
         false,
@@ -150,8 +153,8 @@ pub fn seen<B: Naming, K: Keeper, R: Wait + Abort>(
     let mut sink = Output::new(Vec::new(alloc));
     for number in 0..UPLOADS {
         let id = Id::new(u128::from(number));
-        write_answer(alloc, keeper, Request::Head(id), id, &mut sink).expect(rt, "a response");
-        write_answer(alloc, keeper, Request::Get(id), id, &mut sink).expect(rt, "a response");
+        write_answer(rt, alloc, keeper, Request::Head(id), id, &mut sink).expect(rt, "a response");
+        write_answer(rt, alloc, keeper, Request::Get(id), id, &mut sink).expect(rt, "a response");
     }
     (board.counts(rt), sink.into_inner())
 }

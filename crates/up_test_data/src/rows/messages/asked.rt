@@ -1,6 +1,6 @@
 //! What messages ask for, as text.
 use crate::rows::row_fault::RowFault;
-use crate::text::{push_escaped, push_in_brackets, push_pair};
+use crate::text::{bytes_of, push_escaped, push_in_brackets, push_pair};
 use http::Method;
 use std::alloc::{AllocError, Global};
 use std::fmt::Write;
@@ -8,7 +8,7 @@ use up_events::Id;
 use up_headers::{
     HeaderFault, MetadataFault, NewUpload, Pairs, Patch, Request, pairs_of, request_of,
 };
-use up_message::{Field, Message, Sequence};
+use up_message::{Field, Message, Piece, Sequence};
 use up_wire::WireFault;
 
 /// The maximum number of bytes of an upload in these rows.
@@ -38,7 +38,7 @@ fn message_of(alloc: Global, text: &str) -> Option<Message> {
         method: Method::from_bytes(alloc, method.as_bytes()).ok()?,
         target: Sequence::from_slice(alloc, target.as_bytes()).ok()?,
         fields: fields_of(alloc, lines)?,
-        body: Sequence::from_slice(alloc, b"abc").ok()?,
+        body: Piece::copied(alloc, b"abc").ok()?,
         bare: false,
         close: false,
     })
@@ -76,7 +76,7 @@ fn push_patch(words: &mut String, patch: &Patch) -> Result<(), AllocError> {
         "patch {:?} {media} {:?} {:?} ",
         patch.id, patch.offset, patch.length
     )?;
-    push_in_brackets(words, patch.bytes.as_slice())
+    push_in_brackets(words, bytes_of(&patch.bytes))
 }
 
 /// Each pair as " name=ab;".

@@ -1,4 +1,5 @@
 //! Counting the content of many messages, and a plain pass over them, which `bench/heads.py` times.
+use crate::rows::messages::no_files::NoFiles;
 use crate::rows::row_fault::RowFault;
 use std::alloc::Global;
 use up_headers::pairs_of;
@@ -44,7 +45,8 @@ fn read<R: Source, W: Sink>(alloc: Global, source: &mut R, sink: &mut W) -> Tall
         pairs: 0,
     };
     for _ in 0..u64::MAX {
-        let Taken::Message(message) = read_message(alloc, source, sink, &limits) else {
+        let taken = read_message(alloc, source, sink, &mut NoFiles::new(), &limits);
+        let Taken::Message(message) = taken else {
             return tally;
         };
         tally.add(&message, count_pairs(alloc, &message));

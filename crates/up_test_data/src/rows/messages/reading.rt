@@ -2,8 +2,9 @@
 //! sent and bytes are left unread; "cut POST / [bo]"; "3 BadFraming bare"; or "end".
 use crate::rows::messages::Messages;
 use crate::rows::messages::devices::{Drops, WaitingSink, WaitingSource};
+use crate::rows::messages::no_files::NoFiles;
 use crate::rows::row_fault::RowFault;
-use crate::text::{push_escaped, push_in_brackets, push_pair};
+use crate::text::{bytes_of, push_escaped, push_in_brackets, push_pair};
 use std::alloc::{AllocError, Global};
 use std::cell::Cell;
 use std::fmt::Write;
@@ -34,7 +35,7 @@ fn push_message(words: &mut String, message: &Message) -> Result<(), AllocError>
         words.push_str(";")?;
     }
     words.push_str(" ")?;
-    push_in_brackets(words, message.body.as_slice())?;
+    push_in_brackets(words, bytes_of(&message.body))?;
     push_if(words, " bare", message.bare)?;
     push_if(words, " close", message.close)
 }
@@ -105,7 +106,7 @@ fn read_one<R: Source>(
 ) -> Result<bool, AllocError> {
     let limits = Limits { max_body: LIMIT };
     let mut sink = WaitingSink::new(alloc, rows.room, rows.writes, asks);
-    let taken = read_message(alloc, source, &mut sink, &limits);
+    let taken = read_message(alloc, source, &mut sink, &mut NoFiles::new(), &limits);
     push_read(words, &taken, &sink, at)
 }
 

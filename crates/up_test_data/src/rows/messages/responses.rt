@@ -3,8 +3,9 @@ use crate::rows::gathered::gathered;
 use crate::rows::line::cut;
 use crate::rows::messages::Messages;
 use crate::rows::messages::devices::WaitingSink;
+use crate::rows::messages::no_files::NoFiles;
 use crate::rows::row_fault::RowFault;
-use crate::text::{push_in_brackets, put_bytes};
+use crate::text::{bytes_of, push_in_brackets, put_bytes};
 use std::alloc::{AllocError, Global};
 use std::cell::Cell;
 use std::io::BufWriter;
@@ -65,7 +66,14 @@ fn words_of(
 fn told(alloc: Global, rows: &Messages, reply: &Reply) -> Result<String, RowFault> {
     let asks = Cell::new(0);
     let mut sink = WaitingSink::new(alloc, rows.room, rows.writes, &asks);
-    let ended = write_response(&mut sink, &reply.response, reply.bare, reply.closes);
+    let mut shelf = NoFiles::new();
+    let ended = write_response(
+        &mut sink,
+        &mut shelf,
+        &reply.response,
+        reply.bare,
+        reply.closes,
+    );
     let mark = if sink.sent.is_none() { " unsent" } else { "" };
     words_of(alloc, ended, &sink.taken, mark)
 }
@@ -85,7 +93,14 @@ fn holding(alloc: Global) -> Result<Output<BufWriter<Vec<u8>>>, RowFault> {
 /// What such a writer has sent of a reply.
 fn sent_on(alloc: Global, reply: &Reply) -> Result<String, RowFault> {
     let mut sink = holding(alloc)?;
-    let ended = write_response(&mut sink, &reply.response, reply.bare, reply.closes);
+    let mut shelf = NoFiles::new();
+    let ended = write_response(
+        &mut sink,
+        &mut shelf,
+        &reply.response,
+        reply.bare,
+        reply.closes,
+    );
     words_of(alloc, ended, sink.into_inner().get_ref(), "")
 }
 
@@ -114,7 +129,7 @@ fn shared_bytes(alloc: Global, body: &Piece) -> Result<Vec<u8>, RowFault> {
 pub fn shared(alloc: Global, text: &[u8]) -> Result<String, RowFault> {
     let body = Piece::copied(alloc, text)?;
     let bytes = shared_bytes(alloc, &body)?;
-    let mark = if body.as_slice() == bytes.as_slice() {
+    let mark = if bytes_of(&body) == bytes.as_slice() {
         " shared"
     } else {
         ""

@@ -79,8 +79,8 @@ returns-then-not-continue_if_asked g c =
           (λ often. omega (arith, often, still_open a.ending _ _ a.is.goes_on a.took.ends, wrote.tries.counts.counted));
     }
 
-pub returns-in-Whole-read_body : goal.returns-in-Whole-read_body
-returns-in-Whole-read_body g c =
+pub returns-in-Whole-keep_body : goal.returns-in-Whole-keep_body
+returns-in-Whole-keep_body g c =
     let a = c.in-Whole.ensures in
     let limit = c.args.limits.now.max_body in
     let h = c.in-Whole.head in
@@ -90,7 +90,7 @@ returns-in-Whole-read_body g c =
     let wrote = c.continue_if_asked.ensures.written in
     let written = wrote.written in
     let all = written.3 c.if-not-continue_if_asked.false in
-    let b = c.in-Whole-read_body.ensures.answer in
+    let b = c.in-Whole-keep_body.ensures in
     let counted = b.took.counts.counted in
     let m = c.into_message in
     let whole = head_more a.input head b.input a.is.is_head in
@@ -109,7 +109,7 @@ returns-in-Whole-read_body g c =
         framing = c.in-Ok.framing;
         is_framed = framed;
         text = b.input;
-        is_body = subst (λ bytes. IsBody limit c.in-Ok.framing bytes b.input) (sym (m.ensures.body ∙ c.from_vec.ensures)) b.is.0;
+        is_body = subst (λ bytes. IsBody limit c.in-Ok.framing bytes b.input) (sym m.ensures.body) b.is.0;
         behind_is = sym (append-nil b.input);
         parts = parts_are h head m.result has m.ensures.method m.ensures.target m.ensures.fields (m.ensures.bare ∙ c.is_bare-bare.ensures) m.ensures.close;
       };
@@ -128,7 +128,7 @@ returns-in-Cut g c =
     let wrote = c.continue_if_asked.ensures.written in
     let written = wrote.written in
     let all = written.3 c.if-not-continue_if_asked.false in
-    let b = c.in-Cut.ensures.answer in
+    let b = c.in-Cut.ensures in
     let counted = b.took.counts.counted in
     let m = c.into_message-in-Cut in
     let whole = head_more a.input head b.input a.is.is_head in
@@ -147,7 +147,7 @@ returns-in-Cut g c =
           is_head = whole;
           framing = c.in-Ok.framing;
           is_framed = framed;
-          is_cut = subst (λ bytes. IsCutBody limit c.in-Ok.framing bytes b.input) (sym (m.ensures.body ∙ c.from_vec-in-Cut.ensures)) b.is.0;
+          is_cut = subst (λ bytes. IsCutBody limit c.in-Ok.framing bytes b.input) (sym m.ensures.body) b.is.0;
           parts = parts_are h head m.result has m.ensures.method m.ensures.target m.ensures.fields (m.ensures.bare ∙ c.is_bare-bare.ensures) m.ensures.close;
         },
         b.is.1,
@@ -156,8 +156,8 @@ returns-in-Cut g c =
       is_unwritten = λ failed. absurd (cc (failed.1));
     }
 
-pub returns-in-Fault-read_body : goal.returns-in-Fault-read_body
-returns-in-Fault-read_body g c =
+pub returns-in-Fault-keep_body : goal.returns-in-Fault-keep_body
+returns-in-Fault-keep_body g c =
     let a = c.in-Whole.ensures in
     let limit = c.args.limits.now.max_body in
     let h = c.in-Whole.head in
@@ -167,12 +167,12 @@ returns-in-Fault-read_body g c =
     let wrote = c.continue_if_asked.ensures.written in
     let written = wrote.written in
     let all = written.3 c.if-not-continue_if_asked.false in
-    let b = c.in-Fault-read_body.ensures.answer in
+    let b = c.in-Fault-keep_body.ensures in
     let counted = b.took.counts.counted in
     let whole = head_more a.input head b.input a.is.is_head in
     let bare = bare_is h head c.is_bare-bare.result has c.is_bare-bare.ensures in
     let due = due_is limit h head c.in-Ok.framing written.0 has framed all in
-    let both = fault_behind limit (a.input ++ b.input) b.ending c.in-Fault-read_body.fault c.is_bare-bare.result written.0 head b.input c.in-Ok.framing whole framed bare due b.is in
+    let both = fault_behind limit (a.input ++ b.input) b.ending c.in-Fault-keep_body.fault c.is_bare-bare.result written.0 head b.input c.in-Ok.framing whole framed bare due b.is in
     record {
       input = a.input ++ b.input;
       ending = b.ending;
@@ -183,5 +183,5 @@ returns-in-Fault-read_body g c =
       is_patient = patient_of b.ending _ _ _ _ b.took.ends (omega arith);
       is_answer = both.0;
       is_interim = both.1;
-      is_unwritten = λ failed. absurd (no_write c.in-Fault-read_body.fault c.is_bare-bare.result (body_written limit c.in-Ok.framing b.input c.in-Fault-read_body.fault b.is) failed);
+      is_unwritten = λ failed. absurd (no_write c.in-Fault-keep_body.fault c.is_bare-bare.result (body_written limit c.in-Ok.framing b.input c.in-Fault-keep_body.fault b.is) failed);
     }

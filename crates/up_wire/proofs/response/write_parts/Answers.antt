@@ -1,31 +1,11 @@
-use Rattle.std.proofs.Common.{◌++◌, ap}
-use Rattle.std.specs.List.{flat_map}
-use Rattle.up_wire.specs.Response.{field_line, length_line, end_text}
-use Rattle.up_wire.proofs.Writing.{writes_as, cut_at, then_at}
+use Rattle.up_wire.proofs.Showing.{response_cut, response_bare, response_whole}
 use Rattle.up_wire.proofs.response.write_parts.Goals as goal
 
-pub returns-then-not-write_start : goal.returns-then-not-write_start
-returns-then-not-write_start g c =
-    let r = c.args.response.now in
-    let after = length_line c.args.bare r ++ end_text c.args.bare c.args.close r.body in
-    cut_at (flat_map field_line r.fields ++ after) c.if-not-write_start.true c.write_start.ensures
+pub returns-then-not-write_head-clause-shown : goal.returns-then-not-write_head-clause-shown
+returns-then-not-write_head-clause-shown g c = response_cut c.args.response.now c.args.bare c.args.close _ _ c.if-not-write_head.true c.write_head.ensures
 
-pub returns-then-not-write_fields : goal.returns-then-not-write_fields
-returns-then-not-write_fields g c =
-    let r = c.args.response.now in
-    let after = length_line c.args.bare r ++ end_text c.args.bare c.args.close r.body in
-    let fields = writes_as (ap (flat_map field_line) c.as_slice.ensures) c.write_fields.ensures in
-    then_at c.if-not-write_start.false c.write_start.ensures (cut_at after c.if-not-write_fields.true fields)
+pub returns-then-bare-clause-shown : goal.returns-then-bare-clause-shown
+returns-then-bare-clause-shown g c = response_bare c.args.response.now c.args.bare c.args.close _ _ c.if-bare.true c.if-not-write_head.false c.write_head.ensures
 
-pub returns-then-not-write_length : goal.returns-then-not-write_length
-returns-then-not-write_length g c =
-    let end = end_text c.args.bare c.args.close c.args.response.now.body in
-    let fields = writes_as (ap (flat_map field_line) c.as_slice.ensures) c.write_fields.ensures in
-    then_at c.if-not-write_start.false c.write_start.ensures
-    (then_at c.if-not-write_fields.false fields (cut_at end c.if-not-write_length.true c.write_length.ensures))
-
-pub returns : goal.returns
-returns g c =
-    let fields = writes_as (ap (flat_map field_line) c.as_slice.ensures) c.write_fields.ensures in
-    then_at c.if-not-write_start.false c.write_start.ensures
-    (then_at c.if-not-write_fields.false fields (then_at c.if-not-write_length.false c.write_length.ensures c.write_end.ensures))
+pub returns-clause-shown : goal.returns-clause-shown
+returns-clause-shown g c = response_whole (g.W.Sink.device c.write_body.new.sink) c.args.response.now c.args.bare c.args.close (g.S.Shelf.has_failed c.args.shelf.now) (g.S.Shelf.has_failed c.write_body.new.shelf) c.if-bare.false c.if-not-write_head.false c.write_head.ensures c.write_body.ensures.shown

@@ -1,18 +1,15 @@
 //! Bodies that are put into the files of a folder, and read from them.
 ghost use Rattle.std.specs.Prelude.{◌≡◌, ◌+◌, ◌%◌, ◌<◌, length, min};
 
-use super::{HEAD, HELLO, expect_same, file_of};
-use crate::body_folder::{BodyFolder, BodyNotices};
-use crate::body_shelf::BodyShelf;
-use crate::body_spool::BodySpool;
-use crate::files::{BodyFault, BodyFiles};
-use crate::head::Head;
+use super::blocks::{HEAD, HELLO, file_of};
+use crate::same::expect_same;
 use sqlite_disk::Memory;
 use std::alloc::Global;
 use std::process::Abort;
 use std::sync::atomic::{AtomicU64, Ordering};
 use std::{fs, io};
-use up_places::{BLOCK, Place, ROOM, Shelf, Spool};
+use up_bodies::{BodyFault, BodyFiles, BodyFolder, BodyNotices, BodyShelf, BodySpool, Head};
+use up_places::{BLOCK, Place, Shelf, Spool};
 
 /// A folder of which file 7 is `HELLO`, and no other file can be opened. The files that are made are numbered from 0 on, up
 /// to this number, after which none can be made.
@@ -117,11 +114,11 @@ fn read_ends<S: Shelf, R: Abort + AllocGlobal>(
     shelf: &mut S,
     file: u64,
 ) -> Option<(u8, u8)> {
-    let mut room = [0; ROOM];
-    match shelf.read(&hello_in(rt, file), 0, &mut room) {
-        Ok(()) => Some((room[0], room[10])),
-        Err(_) => None,
+    if shelf.read(&hello_in(rt, file), 0).is_err() {
+        return None;
     }
+    let block = shelf.block();
+    Some((*block.first()?, *block.last()?))
 }
 
 #[test]
@@ -165,7 +162,7 @@ fn places_are_read_from_their_files(rt: HostRuntime) {
 
 /// Nobody is told of faults.
 #[derive(Drop)]
-struct Untold;
+pub struct Untold;
 
 impl BodyNotices for Untold {
     fn tell(&self, _: &BodyFault) {}

@@ -1,21 +1,16 @@
 //! What is written to files of bodies, what is read from them, and what is refused.
-mod folders;
-
-use crate::block::block_len;
-use crate::fault::{BlockFault, OpenFault};
-use crate::head::Head;
-use crate::host::{make_body_file, open_body_file};
-use crate::reader::BlockReader;
-use crate::writer::BlockWriter;
+use crate::same::expect_same;
 use sqlite_disk::{Crash, Disk, Memory};
 use std::alloc::Global;
-use std::fmt::Debug;
-use std::process::Abort;
 use std::{fs, io};
+use up_bodies::{
+    BlockFault, BlockReader, BlockWriter, Head, OpenFault, block_len, make_body_file,
+    open_body_file,
+};
 use up_places::BLOCK;
 
 /// The head of the files here.
-static HEAD: Head = Head {
+pub static HEAD: Head = Head {
     store: *b"0123456789abcdef",
     generation: 3,
     number: 7,
@@ -23,17 +18,12 @@ static HEAD: Head = Head {
 
 /// A file with this head and a block of "hello world". Its checksums are those of SQLite's WAL, as another program
 /// computes them.
-static HELLO: [u8; 80] = [
+pub static HELLO: [u8; 80] = [
     117, 112, 32, 98, 111, 100, 121, 10, 2, 0, 0, 0, 0, 0, 0, 0, 3, 0, 0, 0, 0, 0, 0, 0, 7, 0, 0,
     0, 0, 0, 0, 0, 48, 49, 50, 51, 52, 53, 54, 55, 56, 57, 97, 98, 99, 100, 101, 102, 224, 125, 87,
     93, 223, 200, 60, 167, 104, 101, 108, 108, 111, 32, 119, 111, 114, 108, 100, 0, 0, 0, 0, 0, 33,
     21, 80, 85, 155, 1, 106, 141,
 ];
-
-/// Checks that two values are the same. If they differ, shows both and ends the test.
-fn expect_same<T: Debug + PartialEq, R: Abort>(rt: &R, found: &T, wanted: &T) {
-    assert_eq!(rt; *found, *wanted);
-}
 
 /// Writes these parts of a body to a new file, each as a block. All of it is on the disk.
 fn written_to<D: Disk + Drop>(
@@ -58,7 +48,7 @@ fn written(alloc: Global, parts: &[&[u8]]) -> Result<BlockWriter<Memory>, BlockF
 }
 
 /// A file that has these bytes.
-fn file_of(alloc: Global, bytes: &[u8]) -> io::Result<Memory> {
+pub fn file_of(alloc: Global, bytes: &[u8]) -> io::Result<Memory> {
     let mut device = Memory::new(alloc);
     if device.may_be_used() {
         device.write_at(0, bytes)?;

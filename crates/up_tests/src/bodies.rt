@@ -1,0 +1,4 @@
+//! Bodies in data files.
+mod blocks;
+mod folders;
+mod talks;

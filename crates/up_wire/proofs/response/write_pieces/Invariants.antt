@@ -1,8 +1,0 @@
-use Rattle.std.proofs.Common.{take, true}
-use Rattle.up_message.specs.Joins.{pieced}
-use Rattle.up_wire.specs.Steps.{HasWritten}
-use Rattle.up_wire.proofs.response.write_pieces.Given as goal
-
-abbrev pub invariant-loop-piece : goal.invariant-loop-piece
-invariant-loop-piece g l =
-    HasWritten (g.W.Sink.device l.fn.sink) (g.W.Sink.device l.sink) l.fn.interruptions l.interruptions (pieced (take l.piece-index l.pieces)) true
