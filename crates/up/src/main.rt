@@ -63,61 +63,66 @@ fn asked<R: Print>(rt: &R, alloc: Global, arguments: Vec<String>) -> Result<Opti
     }
 }
 
-/// What a run is given.
+/// What the words ask for. `None` if it is only the version, which was then printed. No standard stream is closed when
+/// the first file is opened.
+fn wanted(rt: &HostRuntime) -> Result<Option<Words>, Fault> {
+    open_closed_streams(rt)?;
+    asked(rt, rt.alloc(), arguments(rt)?)
+}
+
+/// What a run is given besides the words.
 #[derive(Drop)]
 struct Opened<'a> {
-    words: Words,
-    /// The store, if the arguments ask for one. Its files are open.
+    /// The store, if the words ask for one. Its files are open.
     store: Option<OpenStore<'a>>,
-    /// Where connections arrive, if the arguments ask for some.
+    /// Where connections arrive, if the words ask for some.
     listener: Option<TcpListener>,
-    /// The hook server, if the arguments ask for one.
+    /// The hook server, if the words ask for one.
     client: Option<HookClient<HostRuntime>>,
 }
 
-/// Opens what the arguments ask for. `None` if they only ask for the version. No standard stream is closed when the
-/// first file is opened.
-fn prepared(rt: &HostRuntime) -> Result<Option<Opened<'_>>, Fault> {
-    open_closed_streams(rt)?;
-    let Some(words) = asked(rt, rt.alloc(), arguments(rt)?)? else {
-        return Ok(None);
-    };
-    let client = client_of(rt, &words)?;
-    let store = store_of(rt, &words)?;
+/// Opens what the words ask for.
+fn opened_for<'a>(rt: &'a HostRuntime, words: &Words) -> Result<Opened<'a>, Fault> {
+    let client = client_of(rt, words)?;
+    let store = store_of(rt, words)?;
     let listener = match &words.serve {
         Some(serving) => Some(listen(rt, serving)?),
         None => None,
     };
-    Ok(Some(Opened {
-        words,
+    Ok(Opened {
         store,
         listener,
         client,
-    }))
+    })
 }
 
 /// Serves with what was opened.
 fn run<R: Input + Print + Eprint + AllocGlobal + Clock + RandomSource + Threads + Wait + Sync>(
     rt: &R,
-    opened: Opened<'_>,
+    words: &Words,
+    opened: &mut Opened<'_>,
 ) -> Result<(), Fault> {
-    let Opened {
-        words,
-        mut store,
-        mut listener,
-        client,
-    } = opened;
     let lines = EventLines::new(rt.alloc(), io::writer(rt))?;
     let wanted = match &words.serve {
         Some(serving) if serving.events => Some(&lines),
         _ => None,
     };
-    run_by_rules(rt, &words, wanted, &mut listener, &mut store, &client)
+    run_by_rules(
+        rt,
+        words,
+        wanted,
+        &mut opened.listener,
+        &mut opened.store,
+        &opened.client,
+    )
 }
 
 fn main(rt: HostRuntime) -> ExitCode {
-    let ended = match prepared(&rt) {
-        Ok(Some(opened)) => run(&rt, opened),
+    let ended = match wanted(&rt) {
+        Ok(Some(words)) => match opened_for(&rt, &words) {
+            Ok(mut opened) => run(&rt, &words, &mut opened),
+            Err(fault) => Err(fault),
+        },
         Ok(None) => Ok(()),
         Err(fault) => Err(fault),
     };

@@ -78,9 +78,12 @@ fn after_unread(served: Result<(), Fault>) -> Result<(), Fault> {
 /// ended.
 fn run_continued<
     'x,
+    H: Shown + Drop,
+    D: Disk + Drop + Send + 'x,
+    N: StoreNotices + LogFile<D> + Drop + Send + Sync + 'x,
+    F: Folder<D> + Drop + Sync + 'x,
     J: Site + Send + 'x,
     K: Chronicle + Send + 'x,
-    H: Shown + Drop,
     R: Print + Eprint + AllocGlobal + Clock + RandomSource + Threads + Wait + Sync,
 >(
     rt: &R,
@@ -88,7 +91,7 @@ fn run_continued<
     arrivals: Arrivals,
     post_hooks: Vec<H>,
     counts: Vec<Opened<StoreFile>>,
-    keeping: &'x Keeping<StoreFile, &'x StoreLines<'x, R>, StoreFolder<'x>, J, K>,
+    keeping: &'x Keeping<D, N, F, J, K>,
 ) -> Result<(), Fault>
     requires one_for_each { length post_hooks.items ≡ beside.now.settings.lanes }
     requires one_each { vec_len counts ≡ beside.now.settings.lanes }

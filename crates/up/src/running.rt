@@ -1,5 +1,5 @@
 //! A run of the server, once the closures of its rules are made.
-ghost use Rattle.std.specs.Prelude.{◌≡◌, [], All, IfSome, IsTrue, length};
+ghost use Rattle.std.specs.Prelude.{◌≡◌, [], All, IfOk, IfSome, IsTrue, length};
 ghost use Rattle.up_hooks.specs.Recorded.{AnswersWithCodes, has_code};
 
 use crate::fault::Fault;
@@ -25,7 +25,7 @@ use up_server::{
     Shown, Visits, Watch, keep_serving, replay,
 };
 use up_wire::Output;
-use up_words::{Settings, Words};
+use up_words::{Serving, Settings, Words};
 
 /// The descriptor of standard input.
 const STDIN: i32 = 0;
@@ -59,6 +59,25 @@ pub struct Beside<'a, R> {
     have_failed: Option<&'a AtomicBool>,
 }
 
+impl<'a, R> Beside<'a, R> {
+    /// How connections are served, if the words ask for some.
+    fn serving(&self) -> Option<&'a Serving> {
+        self.words.serve.as_ref()
+    }
+
+    fn notices(&self) -> &NoticeLines<'a, R> {
+        &self.notices
+    }
+
+    fn watch(&self) -> Option<&Watch> {
+        self.watch.as_ref()
+    }
+
+    fn ending(&self) -> Option<&Ending> {
+        self.ending.as_ref()
+    }
+}
+
 /// Where connections arrive, and the closures that are asked about their uploads.
 #[derive(Drop)]
 pub struct Arrivals {
@@ -71,7 +90,7 @@ pub fn visits_of<'a, R, S>(
     beside: &'a Beside<'a, R>,
     service: &'a S,
 ) -> Option<Visits<'a, NoticeLines<'a, R>, S>> {
-    let serving = beside.words.serve.as_ref()?;
+    let serving = beside.serving()?;
     Some(Visits {
         connections: serving.connections,
         open: serving.open,
@@ -79,9 +98,9 @@ pub fn visits_of<'a, R, S>(
             seconds: serving.patience,
             least_rate: serving.least_rate,
         },
-        watch: beside.watch.as_ref(),
-        ending: beside.ending.as_ref(),
-        notices: &beside.notices,
+        watch: beside.watch(),
+        ending: beside.ending(),
+        notices: beside.notices(),
         service,
     })
 }
@@ -94,6 +113,26 @@ fn is_counted(words: &Words) -> bool {
         }
         None => false,
     }
+}
+
+/// What a run of this size is given beside its connections and hooks.
+fn beside_of<'a, R: Eprint + AllocGlobal, W: Write + Drop>(
+    rt: &'a R,
+    words: &'a Words,
+    lines: Option<&'a EventLines<W>>,
+    settings: Settings,
+) -> Result<Beside<'a, R>, Fault>
+    ensures { IfOk result (λ beside. beside.settings ≡ settings) }
+{
+    let ending = ending_of(rt.alloc(), words)?;
+    Ok(Beside {
+        words,
+        settings,
+        notices: NoticeLines::new(rt),
+        watch: watch_of(words),
+        ending,
+        have_failed: lines.map(|lines| lines.have_failed()),
+    })
 }
 
 /// Serves what the words ask for, with these closures. Takes the listener and the store, if there are any. The
@@ -112,6 +151,39 @@ pub fn run_with<
     store: &mut Option<OpenStore<'_>>,
     client: Option<&'a HookClient<C>>,
 ) -> Result<(), Fault> {
+    let settings = match &*store {
+        Some(store) => store.files.settings,
+        None => words.settings,
+    };
+    let beside = beside_of(rt, words, lines, settings)?;
+    run_beside(
+        rt,
+        &beside,
+        lines,
+        listener.take(),
+        hooks,
+        store.take(),
+        client,
+    )
+}
+
+/// The same, once it is known how large the run is.
+fn run_beside<
+    R: Input + Print + Eprint + AllocGlobal + Clock + RandomSource + Threads + Wait + Sync,
+    W: Write + Drop + Send,
+    C: Net<Listener = TcpListener, Stream = TcpStream> + Clock + Eprint + AllocGlobal + Sync,
+>(
+    rt: &R,
+    beside: &Beside<'_, R>,
+    lines: Option<&EventLines<W>>,
+    listener: Option<TcpListener>,
+    hooks: PreHooks,
+    store: Option<OpenStore<'_>>,
+    client: Option<&HookClient<C>>,
+) -> Result<(), Fault>
+    requires same { IfSome store (λ store.
+        store.files.settings.lanes ≡ beside.now.settings.lanes) }
+{
     let answer = move |event: &Event| -> Outcome
         ensures { IsTrue (has_code result) }
     {
@@ -120,30 +192,15 @@ pub fn run_with<
             None => Outcome::Done,
         }
     };
-    let settings = match &*store {
-        Some(store) => store.files.settings,
-        None => words.settings,
-    };
-    let ending = ending_of(rt.alloc(), words)?;
-    let beside = Beside {
-        words,
-        settings,
-        notices: NoticeLines::new(rt),
-        watch: watch_of(words),
-        ending,
-        have_failed: lines.map(|lines| lines.have_failed()),
-    };
-    let Some(listener) = listener.take() else {
-        return run_input(rt, &beside, hooks, answer);
+    let Some(listener) = listener else {
+        return run_input(rt, beside, hooks, answer);
     };
     let arrivals = Arrivals { listener, hooks };
-    if let Some(client) = client {
-        return run_told(rt, &beside, arrivals, lines, store.take(), client);
-    }
-    match store.take() {
-        Some(store) => run_lined(rt, &beside, arrivals, lines, store),
-        None if is_counted(words) => run_counted(rt, &beside, arrivals, answer),
-        None => run_recorded(rt, &beside, arrivals, answer),
+    match (client, store) {
+        (Some(client), store) => run_told(rt, beside, arrivals, lines, store, client),
+        (None, Some(store)) => run_lined(rt, beside, arrivals, lines, store),
+        (None, None) if is_counted(beside.words) => run_counted(rt, beside, arrivals, answer),
+        (None, None) => run_recorded(rt, beside, arrivals, answer),
     }
 }
 
@@ -252,15 +309,34 @@ fn run_told<
         store.files.settings.lanes ≡ beside.now.settings.lanes) }
 {
     let (alloc, lanes) = (rt.alloc(), beside.settings.lanes);
-    let end = beside.ending.as_ref().map(|ending| ending.until());
-    let Ok(couriers) = told_couriers(rt, alloc, lanes, client, event_lines, end) else {
-        return Err(Fault::Server(ServerFault::Memory));
-    };
+    let end = beside.ending().map(|ending| ending.until());
+    match told_couriers(rt, alloc, lanes, client, event_lines, end) {
+        Ok(couriers) => run_couriers(rt, beside, arrivals, couriers, store),
+        Err(_) => Err(Fault::Server(ServerFault::Memory)),
+    }
+}
+
+/// Serves what the listener accepts, over the store, if there is one, with these post-hooks.
+fn run_couriers<
+    H: Shown + Drop,
+    R: Print + Eprint + AllocGlobal + Clock + RandomSource + Threads + Wait + Sync,
+>(
+    rt: &R,
+    beside: &Beside<'_, R>,
+    arrivals: Arrivals,
+    post_hooks: Vec<H>,
+    store: Option<OpenStore<'_>>,
+) -> Result<(), Fault>
+    requires same { IfSome store (λ store.
+        store.files.settings.lanes ≡ beside.now.settings.lanes) }
+    requires one_for_each { length post_hooks.items ≡ beside.now.settings.lanes }
+    requires new { All (λ h. H.is_sound h × (H.handed h ≡ [])) post_hooks.items }
+{
     if let Some(store) = store {
-        return run_stored(rt, beside, arrivals, couriers, store);
+        return run_stored(rt, beside, arrivals, post_hooks, store);
     }
     match visits_of(beside, &AtOnce) {
-        Some(visits) => run_on(rt, beside, &visits, arrivals, couriers),
+        Some(visits) => run_on(rt, beside, &visits, arrivals, post_hooks),
         None => Ok(()),
     }
 }
