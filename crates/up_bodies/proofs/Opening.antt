@@ -1,5 +1,5 @@
 -- The first bytes of a file of bodies.
-use Rattle.std.proofs.Common.{IsTrue, length, subst, ◌≡◌, ◌≢◌, IfErr, Result, Ok, Err, ℕ, ◌<◌, ◌^◌, List, sym, ◌∙◌, ap, arith}
+use Rattle.std.proofs.Common.{IsTrue, length, subst, ◌≡◌, ◌≢◌, ℕ, ◌<◌, ◌^◌, List, sym, ◌∙◌, ap, arith}
 use Rattle.std.proofs.lemmas.Nat.{from_le_bytes-to_le_bytes_8}
 use Rattle.sqlite_disk.specs.Disk.{Holds}
 use Rattle.sqlite_disk.specs.declared.Disk.{Ghosts}
@@ -21,11 +21,6 @@ other head text small differs seed is =
     let named : number_at 16 text ≡ is.generation =
     ap (number_at 16) is.text_is ∙ generation_in (record head { generation = is.generation }) (omega (arith, small, is.earlier)) in
     differs (is.text_is ∙ ap (λ (g : ℕ). head_text (record head { generation = g })) (sym named))
-
--- what is known of each error is known of this one
-pub if_err : {T E : Type 0} {P Q : E → Type 0} (result : Result T E) → ((e : E) → P e → Q e) → IfErr result P → IfErr result Q
-if_err (Ok x) then known = known
-if_err (Err e) then known = then e known
 
 module _ {D : Type 0} (g : Ghosts D) (head : Head) (old new : D) (read : List ℕ) (size : length read ≡ 56)
     (there : IsTrue (g.is_clean new) → Holds (g.seen old) 0 read) where

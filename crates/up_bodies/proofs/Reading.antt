@@ -1,5 +1,5 @@
 -- What is read of the places of a file.
-use Rattle.std.proofs.Common.{◌≡◌, ℕ, ◌-◌, ◌*◌, ◌≤◌, List, [], ◌∷◌, ◌++◌, All, Result, Ok, Err, OnOk, length, take, drop, min, refl, sym, ◌∙◌, ap, subst, arith}
+use Rattle.std.proofs.Common.{◌≡◌, ℕ, ◌-◌, ◌*◌, ◌≤◌, List, [], ◌∷◌, ◌++◌, All, length, take, drop, min, refl, sym, ◌∙◌, ap, subst, arith}
 use Rattle.std.proofs.lemmas.Grind.{common_steps}
 use Rattle.std.proofs.lemmas.List.{get_or_push, length-drop, length-take, take-append-le}
 use Rattle.std.proofs.lemmas.List.Elements.{All-get_or, All-take}
@@ -8,11 +8,6 @@ use Rattle.sqlite_disk.specs.declared.Disk.{Ghosts}
 use Rattle.up_bodies.specs.Blocks.{HoldsBlocks, HoldsSpot, IsUntouched, WereTrue, block, block_len}
 use Rattle.up_bodies.proofs.Held.{length_block, taken_block}
 use Rattle.up_places.specs.Places.{BeginsWith, Spot, part_at}
-
--- what is known of a result is known of it
-pub on_ok : {T E P Q : Type 0} (result : Result T E) → (P → Q) → OnOk result P → OnOk result Q
-on_ok (Ok x) then known = then known
-on_ok (Err e) then known = known
 
 module _ {X : Type 0} (P : X → Type 0) (xs : List X) (x : X) (all : All P (xs ++ x ∷ [])) where
   -- what holds of all holds of those before the last

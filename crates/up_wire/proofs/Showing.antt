@@ -1,9 +1,9 @@
 -- Writing bytes that are read from a shelf, one text after another.
 use Rattle.std.proofs.Common.{◌≡◌, ℕ, ◌+◌, ◌-◌, ◌/◌, ◌%◌, ◌<◌, ◌≤◌, ◌||◌, Bool, true, false, List, [], ◌∷◌, ◌++◌, length, take, drop, get_or, refl, sym, ap, ◌∙◌, append-nil, length-append, length-take, length-drop, min, take-append-drop, take-add, subst, arith, inl, inr, Result, Ok, Err, OnOk, OnErr}
 use Rattle.std.specs.List.{flat_map}
-use Rattle.std.proofs.lemmas.Bool.{or_left, or_right, cases_lt}
+use Rattle.std.proofs.lemmas.Bool.{or_left, or_right}
 use Rattle.std.specs.Result.{is_err}
-use Rattle.std.proofs.lemmas.List.{take_all}
+use Rattle.std.proofs.lemmas.List.{take_all, take_min}
 use Rattle.up_wire.specs.Device.{Device, GaveUp}
 use Rattle.up_wire.specs.Limits.{max_interruptions}
 use Rattle.up_wire.specs.Steps.{HasWritten}
@@ -124,13 +124,14 @@ when_ok (Ok x) worked p = p
 when_ok (Err e) worked p = absurd (cc)
 
 -- a block that was read of these bytes and is written
-pub block_shown : {T : Type 0} {a b : Device} {i j : ℕ} {done : Bool} (f g : Bool) (all block : List ℕ) (from m n : ℕ) → m ≡ n → length block ≡ m → from + n ≤ length all
-    → (T → block ≡ take m (drop from all)) → HasWritten a b i j block done → HasShown T (beside a f) (beside b g) i j (take n (drop from all)) done
-block_shown f g all block from m n same size within read writes = record {
+pub block_shown : {T : Type 0} {a b : Device} {i j : ℕ} {done : Bool} (f g : Bool) (all block : List ℕ) (from : ℕ) → from + length block ≤ length all
+    → (T → block ≡ take (length block) (drop from all)) → HasWritten a b i j block done
+    → HasShown T (beside a f) (beside b g) i j (take (length block) (drop from all)) done
+block_shown f g all block from within read writes = record {
   shown = block;
   is_shown = record {
-    as_many = omega (arith, size, same, within, length-take n (drop from all), length-drop from all);
-    same = λ yes. read yes ∙ ap (λ k. take k (drop from all)) same;
+    as_many = omega (arith, within, length-take (length block) (drop from all), length-drop from all);
+    same = read;
   };
   written = beside_written f g writes;
 }
@@ -183,21 +184,37 @@ response_whole {T} {a} {b} c {i} {j} {k} {first} {done} r bare close f g some wh
           (writes_then (beside_written f f (subst (HasWritten a b i j (head_text r bare close)) whole head)) body.written);
     }
 
--- as many bytes as there are, and at most m
-take_few : (m n : ℕ) (bytes : List ℕ) → n ≡ min m (length bytes) → take m bytes ≡ take n bytes
-take_few m n bytes few = elim (cases_lt (length bytes) m) [
-  | inl less ↦ take_all m bytes (omega (arith, less)) ∙ sym (take_all n bytes (omega (arith, few, less)))
-  | inr more ↦ ap (λ k. take k bytes) (omega (arith, few, more))
-]
-
 module _ (from : ℕ) (bytes block : List ℕ) (whole : from % 65_536 ≡ 0) (as_many : length block ≡ length (part_at (from / 65_536) bytes)) where
   part_here : part_at (from / 65_536) bytes ≡ take 65_536 (drop from bytes)
   part_here = ap (λ k. take 65_536 (drop k bytes)) (omega (arith, whole))
 
   -- how many bytes the block from this byte on has
-  pub block_size : length block ≡ min 65_536 (length bytes - from)
+  block_size : length block ≡ min 65_536 (length bytes - from)
   block_size = as_many ∙ ap length part_here ∙ length-take 65_536 (drop from bytes) ∙ ap (min 65_536) (length-drop from bytes)
 
   -- the block from this byte on is the bytes that are to be written
-  pub block_is : block ≡ part_at (from / 65_536) bytes → block ≡ take (length block) (drop from bytes)
-  block_is same = same ∙ part_here ∙ take_few 65_536 (length block) (drop from bytes) (block_size ∙ ap (min 65_536) (sym (length-drop from bytes)))
+  block_is : block ≡ part_at (from / 65_536) bytes → block ≡ take (length block) (drop from bytes)
+  block_is same =
+      same
+      ∙ part_here
+      ∙ sym (take_min 65_536 (drop from bytes))
+      ∙ ap (λ k. take k (drop from bytes)) (ap (min 65_536) (length-drop from bytes) ∙ sym block_size)
+
+-- a buffer has the block from this byte on
+pub record IsBlockOf (T : Type 0) (from : ℕ) (bytes block : List ℕ) : Type 0 where
+  pub size : length block ≡ min 65_536 (length bytes - from)
+  pub within : from + length block ≤ length bytes
+  pub same : T → block ≡ take (length block) (drop from bytes)
+
+-- a read that worked finds the block
+pub block_of : {A E T : Type 0} (from : ℕ) (bytes block read : List ℕ) → (from < length bytes → from % 65_536 ≡ 0) → from < length bytes → block ≡ read
+    → (r : Result A E) → is_err r ≡ false → OnOk r (length read ≡ length (part_at (from / 65_536) bytes))
+    → OnOk r (T → read ≡ part_at (from / 65_536) bytes) → IsBlockOf T from bytes block
+block_of from bytes block read whole inside is r worked as_many same =
+    let count = ap length is ∙ when_ok r worked as_many in
+    let size = block_size from bytes block (whole inside) count in
+    record {
+      size = size;
+      within = omega (arith, size, inside);
+      same = λ yes. block_is from bytes block (whole inside) count (is ∙ when_ok r worked same yes);
+    }

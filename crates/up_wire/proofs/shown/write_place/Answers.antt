@@ -1,7 +1,6 @@
-use Rattle.std.proofs.Common.{refl, sym, ap, ◌∙◌, ◌≡◌, ◌+◌, ◌/◌, ◌<◌, ◌≤◌, subst, length, drop, take, take-append-drop, take-add, arith}
-use Rattle.up_places.specs.Places.{part_at}
+use Rattle.std.proofs.Common.{refl, sym, ◌∙◌, ◌+◌, ◌<◌, subst, length, drop, take-append-drop, take-add, arith}
 use Rattle.up_wire.specs.Steps.{HasWritten}
-use Rattle.up_wire.proofs.Showing.{block_is, block_shown, block_size, in_three, shows_as, shows_broken, shows_cut_at, shows_then, shows_then_at, when_err, when_ok}
+use Rattle.up_wire.proofs.Showing.{block_of, block_shown, in_three, shows_as, shows_broken, shows_cut_at, shows_then, shows_then_at, when_err}
 use Rattle.up_wire.proofs.shown.write_place.Goals as goal
 
 pub returns-then-is_err-clause-shown : goal.returns-then-is_err-clause-shown
@@ -15,63 +14,44 @@ returns-then-not-write_all-clause-shown g c =
     let all = c.args.place.now.bytes in
     let from = c.spans.from in
     let block = c.block-block.result.now in
-    let inside : from < length all = omega (arith, c.len-len.ensures, c.spans-test.true) in
-    let whole = c.spans.invariant.whole inside in
-    let worked = sym c.is_err.ensures.value ∙ c.if-is_err.false in
-    let as_many : length block ≡ length (part_at (from / 65_536) all) = ap length c.block-block.ensures ∙ when_ok c.read.result worked c.read.ensures.len in
-    let size = block_size from all block whole as_many in
-    let within : from + length block ≤ length all = omega (arith, size, inside) in
-    let read = when_ok c.read.result worked c.read.ensures.bytes in
-    let same : g.S.Shelf.is_true c.read.new.self → block ≡ take (length block) (drop from all) = λ yes. block_is from all block whole as_many (c.block-block.ensures ∙ read yes) in
+    let it =
+    block_of from all block _ c.spans.invariant.whole (omega (arith, c.len-len.ensures, c.spans-test.true)) c.block-block.ensures c.read.result
+    (sym c.is_err.ensures.value ∙ c.if-is_err.false) c.read.ensures.len c.read.ensures.bytes in
     shows_as (sym (in_three from (length block) all))
     (shows_cut_at (drop (from + length block) all) c.if-not-write_all.true
     (shows_then c.read.ensures.stays c.spans.invariant.shown
-    (block_shown (g.S.Shelf.has_failed c.spans.shelf) (g.S.Shelf.has_failed c.read.new.self) all block from (length block) (length block) refl refl within same c.write_all.ensures)))
+    (block_shown (g.S.Shelf.has_failed c.spans.shelf) (g.S.Shelf.has_failed c.read.new.self) all block from it.within it.same c.write_all.ensures)))
 
 pub overflow_add-from : goal.overflow_add-from
 overflow_add-from g c =
-    let all = c.args.place.now.bytes in
-    let from = c.spans.from in
-    let block = c.block-block.result.now in
-    let inside : from < length all = omega (arith, c.len-len.ensures, c.spans-test.true) in
-    let whole = c.spans.invariant.whole inside in
-    let worked = sym c.is_err.ensures.value ∙ c.if-is_err.false in
-    let as_many : length block ≡ length (part_at (from / 65_536) all) = ap length c.block-block.ensures ∙ when_ok c.read.result worked c.read.ensures.len in
-    let size = block_size from all block whole as_many in
-    omega (arith, size, inside, c.len-len.ensures)
+    let it =
+    block_of c.spans.from c.args.place.now.bytes c.block-block.result.now _ c.spans.invariant.whole (omega (arith, c.len-len.ensures, c.spans-test.true)) c.block-block.ensures c.read.result
+    (sym c.is_err.ensures.value ∙ c.if-is_err.false) c.read.ensures.len c.read.ensures.bytes in
+    omega (arith, it.within, c.len-len.ensures)
 
 pub spans-smaller : goal.spans-smaller
 spans-smaller g c =
-    let all = c.args.place.now.bytes in
-    let from = c.spans.from in
-    let block = c.block-block.result.now in
-    let inside : from < length all = omega (arith, c.len-len.ensures, c.spans-test.true) in
-    let whole = c.spans.invariant.whole inside in
-    let worked = sym c.is_err.ensures.value ∙ c.if-is_err.false in
-    let as_many : length block ≡ length (part_at (from / 65_536) all) = ap length c.block-block.ensures ∙ when_ok c.read.result worked c.read.ensures.len in
-    let size = block_size from all block whole as_many in
-    omega (arith, size, inside)
+    let inside : c.spans.from < length c.args.place.now.bytes = omega (arith, c.len-len.ensures, c.spans-test.true) in
+    let it =
+    block_of c.spans.from c.args.place.now.bytes c.block-block.result.now _ c.spans.invariant.whole inside c.block-block.ensures c.read.result
+    (sym c.is_err.ensures.value ∙ c.if-is_err.false) c.read.ensures.len c.read.ensures.bytes in
+    omega (arith, it.size, inside)
 
 pub spans-preserved : goal.spans-preserved
 spans-preserved g c =
     let all = c.args.place.now.bytes in
     let from = c.spans.from in
     let block = c.block-block.result.now in
-    let inside : from < length all = omega (arith, c.len-len.ensures, c.spans-test.true) in
-    let whole = c.spans.invariant.whole inside in
-    let worked = sym c.is_err.ensures.value ∙ c.if-is_err.false in
-    let as_many : length block ≡ length (part_at (from / 65_536) all) = ap length c.block-block.ensures ∙ when_ok c.read.result worked c.read.ensures.len in
-    let size = block_size from all block whole as_many in
-    let within : from + length block ≤ length all = omega (arith, size, inside) in
-    let read = when_ok c.read.result worked c.read.ensures.bytes in
-    let same : g.S.Shelf.is_true c.read.new.self → block ≡ take (length block) (drop from all) = λ yes. block_is from all block whole as_many (c.block-block.ensures ∙ read yes) in
+    let it =
+    block_of from all block _ c.spans.invariant.whole (omega (arith, c.len-len.ensures, c.spans-test.true)) c.block-block.ensures c.read.result
+    (sym c.is_err.ensures.value ∙ c.if-is_err.false) c.read.ensures.len c.read.ensures.bytes in
     record {
       shown =
           shows_as (sym (take-add from (length block) all))
           (shows_then_at refl c.read.ensures.stays c.spans.invariant.shown
-          (block_shown (g.S.Shelf.has_failed c.spans.shelf) (g.S.Shelf.has_failed c.read.new.self) all block from (length block) (length block) refl refl within same
+          (block_shown (g.S.Shelf.has_failed c.spans.shelf) (g.S.Shelf.has_failed c.read.new.self) all block from it.within it.same
           (subst (HasWritten _ _ _ _ block) c.if-not-write_all.false c.write_all.ensures)));
       stays = λ yes. c.spans.invariant.stays (c.read.ensures.stays yes);
-      within = within;
-      whole = λ less. omega (arith, less, whole, size);
+      within = it.within;
+      whole = λ less. omega (arith, less, c.spans.invariant.whole (omega (arith, c.len-len.ensures, c.spans-test.true)), it.size);
     }

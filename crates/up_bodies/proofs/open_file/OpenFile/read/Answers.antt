@@ -1,7 +1,7 @@
 use Rattle.std.proofs.Common.{◌+◌, ◌*◌, ℕ, IfErr, length, take, drop, subst}
+use Rattle.std.proofs.lemmas.Result.{IfErr-weaker, on_ok_weaker}
 use Rattle.up_bodies.specs.Failures.{IsUnreadFor}
-use Rattle.up_bodies.proofs.Opening.{if_err}
-use Rattle.up_bodies.proofs.Reading.{asked_held, block_begins, on_ok, room_is, were_true}
+use Rattle.up_bodies.proofs.Reading.{asked_held, block_begins, room_is, were_true}
 use Rattle.up_bodies.proofs.open_file.OpenFile.read.Goals as goal
 use Rattle.up_places.specs.Places.{part_at}
 
@@ -9,7 +9,7 @@ pub returns-clause-bytes : goal.returns-clause-bytes
 returns-clause-bytes g c =
     let place = c.args.place.now in
     let size = room_is c.args.index c.block_len_of-len.result place.bytes c.args.room.now c.block_len_of-len.ensures.len c.block_len_of-len.ensures.few c.requires.room in
-    on_ok c.read.result
+    on_ok_weaker c.read.result
     (λ known were.
     let held = asked_held g.D.Disk c.args.self.now.file.device c.read.new.self.device c.args.self.now.file.seed c.read.new.self.seed
     c.read.ensures.untouched c.read.ensures.same c.args.self.now.asked.items c.push.new.self.items place c.push.ensures were c.at.result c.at.ensures in
@@ -21,7 +21,7 @@ pub returns-clause-damaged : goal.returns-clause-damaged
 returns-clause-damaged g c =
     let place = c.args.place.now in
     let size = room_is c.args.index c.block_len_of-len.result place.bytes c.args.room.now c.block_len_of-len.ensures.len c.block_len_of-len.ensures.few c.requires.room in
-    if_err c.read.result
+    IfErr-weaker c.read.result _ _
     (λ fault known is were.
     known is were.0 place.bytes
     (asked_held g.D.Disk c.args.self.now.file.device c.read.new.self.device c.args.self.now.file.seed c.read.new.self.seed
