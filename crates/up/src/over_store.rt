@@ -90,7 +90,7 @@ fn run_continued<
     beside: &'x Beside<'x, R>,
     arrivals: Arrivals,
     post_hooks: Vec<H>,
-    counts: Vec<Opened<StoreFile>>,
+    counts: Vec<Opened<D>>,
     keeping: &'x Keeping<D, N, F, J, K>,
 ) -> Result<(), Fault>
     requires one_for_each { length post_hooks.items ≡ beside.now.settings.lanes }

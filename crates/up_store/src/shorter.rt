@@ -1,7 +1,7 @@
 //! A shorter log, while it is being written.
 use crate::folder::Folder;
 use crate::store::Store;
-use crate::voids::Voids;
+use crate::voids::{Voids, finished};
 use sqlite_disk::Disk;
 use std::alloc::{AllocError, Global};
 use std::collections::BTreeSet;
@@ -68,20 +68,16 @@ where
     if reader.next_batch(alloc)?.is_some() {
         return Err(LogFault::Foreign);
     }
-    match reader.finish() {
-        Ok(log) => Ok(log),
-        Err(refused) => Err(refused.fault),
-    }
+    finished(reader)
 }
 
-/// The uploads that a shorter log of this store leaves out completely.
-fn survey<D: Disk, N, J: Site, K: Chronicle, R: Wait>(
+/// Sees all entries of the log of a store.
+fn see_all<D: Disk, N, J: Site, K: Chronicle, R: Wait>(
     rt: &R,
     alloc: Global,
     store: &Store<D, N, J, K>,
-    ended: &[EndedUpload],
-) -> Result<BTreeSet<Id>, LogFault> {
-    let mut survey = Survey::new(alloc);
+    survey: &mut Survey,
+) -> Result<(), LogFault> {
     let mut place = Log::<D>::first_place();
     let end = store.size(rt);
     for _ in 0..u64::MAX {
@@ -94,6 +90,18 @@ fn survey<D: Disk, N, J: Site, K: Chronicle, R: Wait>(
         survey.see(alloc, entries.as_slice())?;
         place = next;
     }
+    Ok(())
+}
+
+/// The uploads that a shorter log of this store leaves out completely.
+fn survey<D: Disk, N, J: Site, K: Chronicle, R: Wait>(
+    rt: &R,
+    alloc: Global,
+    store: &Store<D, N, J, K>,
+    ended: &[EndedUpload],
+) -> Result<BTreeSet<Id>, LogFault> {
+    let mut survey = Survey::new(alloc);
+    see_all(rt, alloc, store, &mut survey)?;
     Ok(survey.left_out(ids_of(alloc, ended)?))
 }
 

@@ -12,10 +12,27 @@ use up_log::{Consent, Entry, Log, LogFault, LogReader, Spelled};
 #[derive(Drop)]
 pub struct Voids<D: Disk> {
     log: Log<D>,
+    spare: Spare,
+}
+
+/// The memory with which a place is added when memory has run out.
+#[derive(Drop)]
+struct Spare {
     /// A batch of one entry, which the next one takes the place of.
     batch: Vec<Spelled>,
     /// The memory in which `Log::append` puts a batch together.
     room: Vec<u8>,
+}
+
+impl Spare {
+    fn new(alloc: Global) -> Result<Spare, AllocError> {
+        let mut batch = Vec::with_capacity(alloc, 1)?;
+        batch.push(Spelled::new(alloc, &void_of(0))?)?;
+        Ok(Spare {
+            batch,
+            room: Vec::with_capacity(alloc, ROOM)?,
+        })
+    }
 }
 
 /// How many bytes of `room` a batch of one void takes, rounded up.
@@ -40,6 +57,32 @@ fn take_places(places: &mut BTreeSet<u64>, entries: &[Entry]) -> Result<(), Allo
     Ok(())
 }
 
+/// Adds the places of the entries that a reader has yet to read.
+fn read_places<D: Disk>(
+    alloc: Global,
+    reader: &mut LogReader<D>,
+    places: &mut BTreeSet<u64>,
+) -> Result<(), LogFault> {
+    for _ in 0..u64::MAX {
+        let Some(entries) = reader.next_batch(alloc)? else {
+            break;
+        };
+        take_places(places, entries.as_slice())?;
+    }
+    Ok(())
+}
+
+/// The log of a reader that has read all of it. The error says why it can't be written to.
+pub(crate) fn finished<D: Disk>(reader: LogReader<D>) -> Result<Log<D>, LogFault>
+where
+    D: Drop,
+{
+    match reader.finish() {
+        Ok(log) => Ok(log),
+        Err(refused) => Err(refused.fault),
+    }
+}
+
 impl<D: Disk> Voids<D> {
     /// Reads the log of the voids to its end, and returns their places too. Takes the memory with which a place is
     /// added later. The error says why the log can't be read, or that memory ran out.
@@ -47,21 +90,12 @@ impl<D: Disk> Voids<D> {
     where
         D: Drop,
     {
-        let mut batch = Vec::with_capacity(alloc, 1)?;
-        batch.push(Spelled::new(alloc, &void_of(0))?)?;
-        let room = Vec::with_capacity(alloc, ROOM)?;
+        let spare = Spare::new(alloc)?;
         let mut reader = reader;
         let mut places = BTreeSet::new(alloc);
-        for _ in 0..u64::MAX {
-            let Some(entries) = reader.next_batch(alloc)? else {
-                break;
-            };
-            take_places(&mut places, entries.as_slice())?;
-        }
-        match reader.finish() {
-            Ok(log) => Ok((Voids { log, batch, room }, places)),
-            Err(refused) => Err(refused.fault),
-        }
+        read_places(alloc, &mut reader, &mut places)?;
+        let log = finished(reader)?;
+        Ok((Voids { log, spare }, places))
     }
 
     /// The places of all voids. The error says why the log can't be read, or that memory ran out.
@@ -86,10 +120,11 @@ impl<D: Disk> Voids<D> {
     /// Adds a place, and returns once it is on the disk. Takes no memory: the batch takes as much as the one before.
     /// The error is that of the write.
     pub fn add(&mut self, place: u64) -> Result<(), LogFault> {
-        let Some(before) = self.batch.pop() else {
+        let Some(before) = self.spare.batch.pop() else {
             return Err(LogFault::Memory);
         };
-        self.batch.push(before.again(&void_of(place))?)?;
-        self.log.append(&mut self.room, &self.batch)
+        let Spare { batch, room } = &mut self.spare;
+        batch.push(before.again(&void_of(place))?)?;
+        self.log.append(room, batch)
     }
 }
