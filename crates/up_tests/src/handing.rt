@@ -5,7 +5,7 @@ ghost use Rattle.up_handed.specs.OnDisk.{IsOnDisk};
 ghost use Rattle.up_hooks.specs.Recorded.{AnswersWithCodes};
 
 use crate::desk::Desk;
-use crate::limited::full_once;
+use crate::faulty::FaultyFile;
 use crate::same::expect_same;
 use sqlite_disk::{Crash, Disk, Fuse, Memory};
 use sqlite_std_file::Unknown;
@@ -186,7 +186,7 @@ fn a_lane_goes_on_when_the_disk_works_again(rt: HostRuntime) {
         (8, 3, 4),
         (9, 3, 4),
     ] {
-        let device = full_once(Memory::new(alloc), calls);
+        let device = FaultyFile::failing_at(Memory::new(alloc), calls);
         let first = run_over(alloc, |_: &Event| Outcome::Done, device, 3).expect(&rt, "a run");
         expect_same(&rt, &(calls, told(first.hook())), &(calls, (1, handed)));
         let (_, count) = first.into_parts();

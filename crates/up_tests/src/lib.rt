@@ -20,6 +20,8 @@ mod desk;
 #[cfg(test)]
 mod failing;
 #[cfg(test)]
+mod faulty;
+#[cfg(test)]
 mod fifteen;
 #[cfg(test)]
 mod files;
@@ -35,8 +37,6 @@ mod heads;
 mod hooks;
 #[cfg(test)]
 mod lanes;
-#[cfg(test)]
-mod limited;
 #[cfg(test)]
 mod logs;
 #[cfg(test)]

@@ -1,8 +1,8 @@
 //! When it is reported that an upload has ended, on disks that fail.
 ghost use Rattle.up_hooks.specs.Recorded.{AnswersWithCodes};
 
+use crate::faulty::FaultyFile;
 use crate::handing::opened;
-use crate::limited::full_once;
 use crate::same::expect_same;
 use sqlite_disk::{Disk, Fuse, Memory};
 use std::alloc::Global;
@@ -64,7 +64,7 @@ fn an_upload_is_reported_once_its_last_event_is_counted(rt: HostRuntime) {
     let alloc = rt.alloc();
     let answer = |_: &Event| Outcome::Done;
     // Opening takes two calls. The third writes the count. It fails once, or so do all that follow.
-    let device = full_once(Memory::new(alloc), 3);
+    let device = FaultyFile::failing_at(Memory::new(alloc), 3);
     let found = removed_over(alloc, answer, device).expect(&rt, "a count");
     expect_same(&rt, &found, &(0, 3));
     let device = Fuse::new(Memory::new(alloc), 2);

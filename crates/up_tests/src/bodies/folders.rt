@@ -3,7 +3,7 @@ ghost use Rattle.std.specs.Prelude.{◌≡◌, ◌+◌, ◌%◌, ◌<◌, length
 
 use super::blocks::{HEAD, HELLO, file_of};
 use crate::same::expect_same;
-use sqlite_disk::Memory;
+use sqlite_disk::{Disk, Memory};
 use std::alloc::Global;
 use std::process::Abort;
 use std::sync::atomic::{AtomicU64, Ordering};
@@ -121,6 +121,18 @@ fn read_ends<S: Shelf, R: Abort + AllocGlobal>(
     Some((*block.first()?, *block.last()?))
 }
 
+/// Checks what one shelf reads of such places in these files.
+fn hold_ends<D: Disk + Drop, B: BodyFiles<D>, R: Abort + AllocGlobal>(
+    rt: &R,
+    files: &B,
+    wanted: &[(u64, Option<(u8, u8)>)],
+) {
+    let mut shelf = BodyShelf::new(rt.alloc(), files);
+    for (file, wanted) in wanted {
+        expect_same(rt, &read_ends(rt, &mut shelf, *file), wanted);
+    }
+}
+
 #[test]
 fn bodies_follow_each_other_in_a_file(rt: HostRuntime) {
     let files = Files::new(rt.alloc(), 9);
@@ -153,10 +165,8 @@ fn a_full_file_takes_no_further_body(rt: HostRuntime) {
 #[test]
 fn places_are_read_from_their_files(rt: HostRuntime) {
     let files = Files::new(rt.alloc(), 0);
-    let mut shelf = BodyShelf::new(rt.alloc(), &files);
-    for (file, wanted) in [(7, HELLO_ENDS), (7, HELLO_ENDS), (8, None), (7, HELLO_ENDS)] {
-        expect_same(&rt, &read_ends(&rt, &mut shelf, file), &wanted);
-    }
+    let wanted = [(7, HELLO_ENDS), (7, HELLO_ENDS), (8, None), (7, HELLO_ENDS)];
+    hold_ends(&rt, &files, &wanted);
     expect_same(&rt, &files.told.load(Ordering::SeqCst), &10);
 }
 
@@ -176,9 +186,9 @@ fn folder_of(rt: &HostRuntime) -> io::Result<BodyFolder<'_, Untold>> {
     BodyFolder::open(rt, STORE, HEAD.store, 3, Untold)
 }
 
-/// Puts a body of 11 bytes into a new file of the folder, and returns its number.
-fn put_body_in<R: Abort + AllocGlobal>(rt: &R, folder: &BodyFolder<'_, Untold>) -> u64 {
-    let mut spool = BodySpool::new(rt.alloc(), folder, 0, 1 << 20);
+/// Puts a body of 11 bytes into a new file, and returns its number.
+fn put_body_in<D: Disk + Drop, B: BodyFiles<D>, R: Abort + AllocGlobal>(rt: &R, files: &B) -> u64 {
+    let mut spool = BodySpool::new(rt.alloc(), files, 0, 1 << 20);
     if spool.begin(None).expect(rt, "a body") {
         put_block(rt, &mut spool, 11);
     }
@@ -196,10 +206,7 @@ fn a_folder_numbers_its_files(rt: HostRuntime) {
     }
     let folder = folder_of(&rt).expect(&rt, "the folder");
     folder.remove(0).expect(&rt, "a removal");
-    let mut shelf = BodyShelf::new(rt.alloc(), &folder);
-    for (file, wanted) in [(0, None), (1, SEVENS), (2, None)] {
-        expect_same(&rt, &read_ends(&rt, &mut shelf, file), &wanted);
-    }
+    hold_ends(&rt, &folder, &[(0, None), (1, SEVENS), (2, None)]);
     expect_same(&rt, &put_body_in(&rt, &folder), &2);
     fs::remove_dir_all(&rt, STORE).expect(&rt, "a removal");
 }
@@ -214,8 +221,7 @@ fn an_earlier_log_reads_no_later_file(rt: HostRuntime) {
     expect_same(&rt, &put_body_in(&rt, &folder), &0);
     for (generation, wanted) in [(3, None), (4, SEVENS), (5, SEVENS)] {
         folder.set_generation(generation);
-        let mut shelf = BodyShelf::new(rt.alloc(), &folder);
-        expect_same(&rt, &read_ends(&rt, &mut shelf, 0), &wanted);
+        hold_ends(&rt, &folder, &[(0, wanted)]);
     }
     fs::remove_dir_all(&rt, store).expect(&rt, "a removal");
 }

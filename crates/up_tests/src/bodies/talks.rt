@@ -2,10 +2,11 @@
 use super::folders::Untold;
 use crate::conversations::talk_over;
 use crate::same::expect_same;
+use sqlite_disk::Disk;
 use std::alloc::{AllocError, Global};
 use std::process::Abort;
 use std::{fs, io};
-use up_bodies::{BodyFile, BodyFolder, BodyShelf, BodySpool};
+use up_bodies::{BodyFiles, BodyFolder, BodyShelf, BodySpool};
 use up_dispatch::{Bodies, Counting, Ended, Lent};
 use up_hooks::PreHooks;
 use up_machine::Book;
@@ -70,17 +71,14 @@ fn new_folder(rt: &HostRuntime) -> io::Result<BodyFolder<'_, Untold>> {
     BodyFolder::open(rt, STORE, [7; 16], 1, Untold)
 }
 
-/// Bodies in the files of the folder.
-fn bodies_in<'a>(
+/// Bodies in these files.
+fn bodies_in<D: Disk + Drop, B: BodyFiles<D>>(
     alloc: Global,
-    folder: &'a BodyFolder<'a, Untold>,
-) -> Bodies<
-    BodyShelf<'a, BodyFile, BodyFolder<'a, Untold>>,
-    BodySpool<'a, BodyFile, BodyFolder<'a, Untold>>,
-> {
+    files: &B,
+) -> Bodies<BodyShelf<'_, D, B>, BodySpool<'_, D, B>> {
     Bodies {
-        shelf: BodyShelf::new(alloc, folder),
-        spool: BodySpool::new(alloc, folder, 4096, 1 << 26),
+        shelf: BodyShelf::new(alloc, files),
+        spool: BodySpool::new(alloc, files, 4096, 1 << 26),
     }
 }
 
@@ -116,13 +114,14 @@ fn hold<S: Shelf, P: Spool, R: Abort>(
 }
 
 /// Sends the first half, which breaks off there, and then the second, and gets both.
-fn hold_halves<S: Shelf, P: Spool, R: Abort>(
+fn hold_halves<D: Disk + Drop, B: BodyFiles<D>, R: Abort>(
     rt: &R,
     alloc: Global,
     book: &mut Book,
-    bodies: &mut Bodies<S, P>,
+    files: &B,
     content: &[u8],
 ) {
+    let bodies = &mut bodies_in(alloc, files);
     let (first, second) = content.split_at(content.len() / 2);
     let asked = [BEGIN.as_bytes(), first];
     hold(
@@ -138,30 +137,35 @@ fn hold_halves<S: Shelf, P: Spool, R: Abort>(
     hold(rt, alloc, book, bodies, &asked, (Ended::Closed, &wanted));
 }
 
+/// Gets the upload, of which a block is damaged: what comes before that block.
+fn hold_damaged<D: Disk + Drop, B: BodyFiles<D>, R: Abort>(
+    rt: &R,
+    alloc: Global,
+    book: &mut Book,
+    files: &B,
+    content: &[u8],
+) {
+    let (front, _) = content.split_at(content.len().min(165_536));
+    let wanted = [FOUND.as_bytes(), front];
+    let bodies = &mut bodies_in(alloc, files);
+    hold(
+        rt,
+        alloc,
+        book,
+        bodies,
+        &[GET.as_bytes()],
+        (Ended::WriteFailed, &wanted),
+    );
+}
+
 #[test]
 fn bodies_go_through_data_files(rt: HostRuntime) {
     let alloc = rt.alloc();
     let content = content(alloc).expect(&rt, "memory");
     let folder = new_folder(&rt).expect(&rt, "a folder");
     let mut book = Book::new(alloc, 2, 1 << 20).expect(&rt, "memory");
-    hold_halves(
-        &rt,
-        alloc,
-        &mut book,
-        &mut bodies_in(alloc, &folder),
-        &content,
-    );
+    hold_halves(&rt, alloc, &mut book, &folder, &content);
     damage(&rt).expect(&rt, "a byte");
-    let (front, _) = content.split_at(content.len().min(165_536));
-    let front = [FOUND.as_bytes(), front];
-    let wanted = (Ended::WriteFailed, front.as_slice());
-    hold(
-        &rt,
-        alloc,
-        &mut book,
-        &mut bodies_in(alloc, &folder),
-        &[GET.as_bytes()],
-        wanted,
-    );
+    hold_damaged(&rt, alloc, &mut book, &folder, &content);
     fs::remove_dir_all(&rt, STORE).expect(&rt, "a removal");
 }

@@ -6,7 +6,7 @@ ghost use Rattle.up_hooks.specs.Verdicts.{is_allowed_verdict};
 use super::hold;
 use crate::replaying::{done, replayed, run_with};
 use crate::same::expect_same;
-use std::alloc::Global;
+use std::alloc::{AllocError, Global};
 use std::marker::Sync;
 use std::process::Abort;
 use std::sync::atomic::{AtomicU64, Ordering};
@@ -84,23 +84,20 @@ fn hold_with(
     hold(rt, ended, &sink.into_inner(), wanted);
 }
 
-#[test]
-fn refuses_with_the_status_and_reason_of_a_closure(rt: HostRuntime) {
-    let mut hooks = Vec::new(rt.alloc());
+/// One closure, which judges creations by the length.
+fn judging_by_length(alloc: Global) -> Result<PreHooks, AllocError> {
     let judge = |ask: &Ask| -> Verdict
         ensures { IsTrue (is_allowed_verdict result) }
     { by_length(ask) };
-    let judge = Box::new(rt.alloc(), judge).expect(&rt, "memory");
-    hooks
-        .push(PreHook::new(Point::Create, judge))
-        .expect(&rt, "memory");
-    hold_with(
-        &rt,
-        rt.alloc(),
-        PreHooks::new(hooks),
-        ONE_TO_SEVEN,
-        ALL_REFUSED,
-    );
+    let mut hooks = Vec::new(alloc);
+    hooks.push(PreHook::new(Point::Create, Box::new(alloc, judge)?))?;
+    Ok(PreHooks::new(hooks))
+}
+
+#[test]
+fn refuses_with_the_status_and_reason_of_a_closure(rt: HostRuntime) {
+    let hooks = judging_by_length(rt.alloc()).expect(&rt, "memory");
+    hold_with(&rt, rt.alloc(), hooks, ONE_TO_SEVEN, ALL_REFUSED);
 }
 
 /// Allows a request that has this token, and refuses any other.

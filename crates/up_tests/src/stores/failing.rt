@@ -4,7 +4,7 @@ use super::disks::Files;
 use super::running::{CommitResult, Outcome, Seen, hold_again, job_of, restored, standing};
 use super::tally::{Again, Tally};
 use super::together::{jobs_of, jobs_that_keep, shared_file, told_plainly};
-use crate::limited::full_once;
+use crate::faulty::FaultyFile;
 use crate::logs::{Row, What};
 use crate::same::expect_same;
 use sqlite_disk::{Crash, Fuse, Memory};
@@ -204,8 +204,8 @@ fn full_at<R: Threads + Wait + Abort + Sync>(
 ) -> Option<(usize, usize)> {
     let tally = Tally::new(alloc).expect(rt, "memory");
     let disks = (
-        full_once(Memory::new(alloc), calls),
-        full_once(Memory::new(alloc), 0),
+        FaultyFile::failing_at(Memory::new(alloc), calls),
+        FaultyFile::failing_at(Memory::new(alloc), 0),
     );
     let (told, logs) = made_on(rt, alloc, disks, &tally, &CREATIONS)?;
     let (first, all) = made(&told);
@@ -243,8 +243,8 @@ fn a_store_goes_on_once_its_disk_works(rt: HostRuntime) {
 fn told_at_once<R: Threads + Wait + Abort + Sync>(rt: &R, alloc: Global, calls: u64) -> [u64; 3] {
     let tally = Tally::new(alloc).expect(rt, "memory");
     let disks = (
-        full_once(shared_file(alloc).expect(rt, "a log"), calls),
-        full_once(Memory::new(alloc), 0),
+        FaultyFile::failing_at(shared_file(alloc).expect(rt, "a log"), calls),
+        FaultyFile::failing_at(Memory::new(alloc), 0),
     );
     let jobs = jobs_that_keep(alloc).expect(rt, "memory");
     let ran = ran_on(rt, alloc, disks, &tally, jobs);

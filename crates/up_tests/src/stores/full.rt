@@ -4,7 +4,7 @@ use super::course::{Course, kept};
 use super::disks::Files;
 use super::running::{CommitResult, Job, Outcome, Seen, change, hold_again, restored};
 use super::tally::{Again, Tally};
-use crate::limited::{Scarce, scarce};
+use crate::faulty::FaultyFile;
 use crate::logs::{Row, What, file_of};
 use crate::same::expect_same;
 use sqlite_disk::Memory;
@@ -116,7 +116,7 @@ struct Steps<'a> {
     steps: &'a [(Step, Told)],
 }
 
-impl Course<Scarce<'_, Memory>> for Steps<'_> {
+impl Course<FaultyFile<'_>> for Steps<'_> {
     type Found = Vec<Told>;
 
     fn take<B: Naming, J: Site, K: Chronicle, P: Keeper, R: Wait + Abort>(
@@ -124,7 +124,7 @@ impl Course<Scarce<'_, Memory>> for Steps<'_> {
         rt: &R,
         alloc: Global,
         _board: &Board<B>,
-        store: &Store<Scarce<'_, Memory>, &Tally, J, K>,
+        store: &Store<FaultyFile<'_>, &Tally, J, K>,
         keeper: &mut P,
     ) -> Vec<Told> {
         let mut found = Vec::new(alloc);
@@ -138,7 +138,7 @@ impl Course<Scarce<'_, Memory>> for Steps<'_> {
 }
 
 /// The disks of these files, with room.
-fn whole(files: Files<Scarce<'_, Memory>>) -> (Memory, Memory) {
+fn whole(files: Files<FaultyFile<'_>>) -> (Memory, Memory) {
     let (changes, voids) = files.into_disks();
     (changes.into_inner(), voids.into_inner())
 }
@@ -152,8 +152,8 @@ fn stepped<R: Wait + Abort>(
 ) -> (Vec<Told>, (Memory, Memory)) {
     let room = tally.room();
     let disks = (
-        scarce(Memory::new(alloc), room),
-        scarce(Memory::new(alloc), room),
+        FaultyFile::with_room(Memory::new(alloc), room),
+        FaultyFile::with_room(Memory::new(alloc), room),
     );
     let (found, logs) = kept(rt, alloc, disks, tally, &Steps { tally, steps });
     (found, whole(logs))
@@ -270,13 +270,16 @@ fn jobs_of(alloc: Global) -> Result<Vec<Job>, AllocError> {
 fn scarce_files(
     alloc: Global,
     tally: &Tally,
-) -> Result<(Scarce<'_, Memory>, Scarce<'_, Memory>), LogFault> {
+) -> Result<(FaultyFile<'_>, FaultyFile<'_>), LogFault> {
     let first = rows_from(alloc, What::Make, 0)?;
     let second = rows_from(alloc, What::Make, EACH)?;
     let changes = file_of(alloc, &[first.as_slice(), second.as_slice()])?;
     let voids = file_of(alloc, &[])?;
     let room = tally.room();
-    Ok((scarce(changes, room), scarce(voids, room)))
+    Ok((
+        FaultyFile::with_room(changes, room),
+        FaultyFile::with_room(voids, room),
+    ))
 }
 
 /// Checks that all removals were made, few creations, and that each of these was made or refused without a decision.
@@ -299,7 +302,7 @@ fn ran_while_filling<'a, R: Threads + Wait + Abort + Sync>(
     rt: &R,
     alloc: Global,
     tally: &'a Tally,
-) -> Ran<Scarce<'a, Memory>> {
+) -> Ran<FaultyFile<'a>> {
     let disks = scarce_files(alloc, tally).expect(rt, "logs");
     let jobs = jobs_of(alloc).expect(rt, "memory");
     ran_on(rt, alloc, disks, tally, jobs)
@@ -309,7 +312,7 @@ fn ran_while_filling<'a, R: Threads + Wait + Abort + Sync>(
 fn hold_seen<R: Wait + Abort>(
     rt: &R,
     alloc: Global,
-    logs: Files<Scarce<'_, Memory>>,
+    logs: Files<FaultyFile<'_>>,
     seen: &Seen,
     room: u64,
 ) {

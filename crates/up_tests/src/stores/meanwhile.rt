@@ -4,7 +4,7 @@ ghost use Rattle.std.specs.Prelude.{◌≡◌};
 use super::running::{Boxed, change, store_on};
 use super::tally::Tally;
 use super::tasks::{Task, run};
-use crate::limited::{FullOnce, full_once};
+use crate::faulty::FaultyFile;
 use crate::logs::{Row, What, heads_of, reader_of};
 use crate::same::expect_same;
 use sqlite_disk::Memory;
@@ -23,8 +23,8 @@ use up_message::Sequence;
 use up_store::{Current, EndedUploads, Folder, Histories, Shortening, Store, Stored, Unrestored};
 use up_tie::Site;
 
-/// A disk of which two calls can fail.
-type File = FullOnce<FullOnce<Memory>>;
+/// A file of which two calls can fail.
+type File = FaultyFile<'static>;
 
 /// The generation of the log with which the store begins.
 const FIRST: u64 = 3;
@@ -58,7 +58,7 @@ const NONE: Calls = Calls {
 };
 
 fn disk(alloc: Global, calls: (u64, u64)) -> File {
-    full_once(full_once(Memory::new(alloc), calls.1), calls.0)
+    FaultyFile::failing_twice(Memory::new(alloc), calls)
 }
 
 /// Makes logs on disks in memory. While it makes the first ones, changes are made through the store.

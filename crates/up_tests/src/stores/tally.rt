@@ -1,7 +1,7 @@
 //! What a store reports, and disks whose files can be opened again.
 ghost use Rattle.std.specs.Prelude.{IfOk, ⊤};
 
-use crate::limited::{Limit, Limited};
+use crate::faulty::FaultyFile;
 use sqlite_disk::{Disk, Fuse, Memory};
 use std::alloc::{AllocError, Global};
 use std::io;
@@ -30,7 +30,7 @@ struct Counts {
     /// The least and the greatest generation whose file was to be opened again.
     least: AtomicU64,
     greatest: AtomicU64,
-    /// The room that a `Scarce` disk has.
+    /// The room that a disk has.
     room: AtomicU64,
     /// The room that is kept for removals.
     spare: AtomicU64,
@@ -198,8 +198,8 @@ impl<D: Disk> Again for Fuse<D> {
     }
 }
 
-impl<D: Disk, L: Limit> Again for Limited<D, L> {
-    fn again(self) -> Limited<D, L> {
+impl<'a> Again for FaultyFile<'a> {
+    fn again(self) -> FaultyFile<'a> {
         self.reopened()
     }
 }

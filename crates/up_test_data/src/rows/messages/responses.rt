@@ -10,7 +10,7 @@ use std::alloc::{AllocError, Global};
 use std::cell::Cell;
 use std::io::BufWriter;
 use up_message::{Piece, Response, Segments, Sequence};
-use up_wire::{Output, WriteFailed, flush, write_pieces, write_response};
+use up_wire::{Output, Sink, WriteFailed, flush, write_pieces, write_response};
 
 /// A response, whether it is bare, and whether it closes.
 #[derive(Drop)]
@@ -62,18 +62,21 @@ fn words_of(
     Ok(words)
 }
 
+fn write_reply<W: Sink>(sink: &mut W, reply: &Reply) -> Result<(), WriteFailed> {
+    write_response(
+        sink,
+        &mut NoFiles::new(),
+        &reply.response,
+        reply.bare,
+        reply.closes,
+    )
+}
+
 /// What a sink that takes one byte at a time has received.
 fn told(alloc: Global, rows: &Messages, reply: &Reply) -> Result<String, RowFault> {
     let asks = Cell::new(0);
     let mut sink = WaitingSink::new(alloc, rows.room, rows.writes, &asks);
-    let mut shelf = NoFiles::new();
-    let ended = write_response(
-        &mut sink,
-        &mut shelf,
-        &reply.response,
-        reply.bare,
-        reply.closes,
-    );
+    let ended = write_reply(&mut sink, reply);
     let mark = if sink.sent.is_none() { " unsent" } else { "" };
     words_of(alloc, ended, &sink.taken, mark)
 }
@@ -93,14 +96,7 @@ fn holding(alloc: Global) -> Result<Output<BufWriter<Vec<u8>>>, RowFault> {
 /// What such a writer has sent of a reply.
 fn sent_on(alloc: Global, reply: &Reply) -> Result<String, RowFault> {
     let mut sink = holding(alloc)?;
-    let mut shelf = NoFiles::new();
-    let ended = write_response(
-        &mut sink,
-        &mut shelf,
-        &reply.response,
-        reply.bare,
-        reply.closes,
-    );
+    let ended = write_reply(&mut sink, reply);
     words_of(alloc, ended, sink.into_inner().get_ref(), "")
 }
 
