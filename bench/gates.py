@@ -4,11 +4,15 @@
     bench/gates.py ../before .
     bench/gates.py ../before . --without up_log,up_store
     bench/gates.py . --jobs 4 --crates up_wire
+    bench/gates.py ../before . --kept --crates up_tests up --without up_events
 
 Each tree is a clean clone of its own, and each has the same number of jobs. What is counted is processor time: of the
 provers for a crate's proof, for its tests, for its edits and for making a program of it, and of all other processes
 together. They are looked at five times a second, so the last fraction of a second of each is missed. Do nothing else
-meanwhile: beside other work a prover takes up to twice the processor time.
+meanwhile: beside other work a prover takes up to twice the processor time. The tests of two trees take 20 GB at a time.
+
+A crate that is the same in both trees, with all crates below it, takes the same time in both. With `--kept` it is
+proved in one of them alone, so it belongs to those that are left out of the sums.
 
 While it runs, `kill -USR1` with its number makes it say what it has counted so far.
 """
@@ -84,11 +88,12 @@ def look(works, used):
         used[key] = found[1]
 
 
-def words_of(crates):
-    """The words that run the gate from nothing. A kit whose `rt ci` keeps no proofs always does, and takes no words."""
+def words_of(crates, kept):
+    """The words that run the gate, from nothing unless it may take what was kept. A kit whose `rt ci` keeps no proofs
+    takes no words."""
     told = subprocess.run(["rt", "help"], stdout=subprocess.PIPE, stderr=subprocess.STDOUT, text=True).stdout
     if "--anew" in told:
-        return ["rt", "ci", "--anew", *crates]
+        return ["rt", "ci", *([] if kept else ["--anew"]), *crates]
     if crates:
         sys.exit("`rt ci` of this kit proves all crates, and takes no names")
     return ["rt", "ci"]
@@ -138,9 +143,10 @@ def main():
     parser.add_argument("trees", nargs="+", metavar="TREE", help="the top of a clean clone")
     parser.add_argument("--jobs", type=int, default=2, help="how many checks each tree runs at a time (2)")
     parser.add_argument("--crates", nargs="*", default=[], help="these crates and those below them alone")
+    parser.add_argument("--kept", action="store_true", help="take what earlier runs on this machine kept")
     parser.add_argument("--without", default="", help="crates that are left out of the sums, with commas between them")
     given = parser.parse_args()
-    words = words_of(given.crates)
+    words = words_of(given.crates, given.kept)
     works, used, asked = {}, {}, []
     signal.signal(signal.SIGUSR1, lambda *_: asked.append(True))
     runs = [begin(number, tree, given, words) for number, tree in enumerate(given.trees)]
