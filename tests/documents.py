@@ -1,7 +1,7 @@
 #!/usr/bin/env python3
-"""Compares the documents with the sources: the tables of crates, modules and rules and the list of definitions in
+"""Compares the documents with the sources: the tables of crates and rules and the list of definitions in
 docs/ARCHITECTURE.md, the words with their limits and defaults in docs/RUNNING.md, and the refusals in docs/PROTOCOL.md.
-It checks that the help of the program names the limits in its code, and that the edits of `must-fail` fit. It checks
+It checks that each module says what it is for. It checks that the help of the program names the limits in its code, and that the edits of `must-fail` fit. It checks
 the links and the length of lines in all documents. It also compares the drawn data of the crates with what the
 generators draw.
 
@@ -19,12 +19,13 @@ import re
 import subprocess
 import sys
 
+from modules import modules
 from serving import ROOT, same, try_all
 
 TOP = pathlib.Path(ROOT)
 CRATES = TOP / "crates"
 
-# Crates that have no table of modules: programs that try others, tests, and the texts for these.
+# Crates that have no row in the tables of crates: programs that try others, and tests.
 UNLISTED = {"up_example", "up_test_data"}
 
 # Files of definitions that docs/ARCHITECTURE.md names together, since no public contract shows their content.
@@ -50,11 +51,6 @@ def crates():
     return [name for name in found if name != "up_tests"]
 
 
-def first_cells(lines):
-    """The first column of the rows of a table."""
-    return [line.split("|")[1].strip() for line in lines if line.startswith("|") and not line.startswith("|---")]
-
-
 def named(text):
     """The texts between backquotes."""
     return re.findall(r"`([^`]+)`", text)
@@ -70,16 +66,21 @@ def each_crate():
 
 
 def each_module():
-    """ARCHITECTURE's tables have exactly the modules of each library."""
-    page = text_of("docs/ARCHITECTURE.md")
-    tables = {}
-    for head in re.finditer(r"^\| module of `(\w+)`.*\n\|---.*\n((?:\|.*\n)+)", page, re.MULTILINE):
-        tables[head[1]] = sorted(name for cell in first_cells(head[2].splitlines()) for name in named(cell))
-    same(sorted(tables), sorted(set(crates()) - UNLISTED), "the crates with a table of modules")
-    for name, listed in tables.items():
-        root = next(path for path in (CRATES / name / "src/lib.rt", CRATES / name / "src/main.rt") if path.exists())
-        there = re.findall(r"^mod (\w+);", root.read_text(encoding="utf-8"), re.MULTILINE)
-        same(listed, sorted(there), f"the modules of {name}")
+    """Each crate and each of its modules says in the first lines of its file what it is for, in whole sentences."""
+    for name in crates():
+        for module, text in modules(name):
+            same(bool(re.fullmatch(r"[A-Z`].{8,}[.:]", text)), True, f"whether {name}'s {module} says it by {text!r}")
+
+
+def each_trusted():
+    """PROVED names exactly the ported crates that crates.txt lists, and each file that says `unsafe`."""
+    part = text_of("docs/PROVED.md").partition("## What is trusted")[2]
+    used = {it for line in text_of("crates.txt").splitlines() for it in line.partition(":")[2].split()}
+    names = set(named(part.partition("ported crates")[2]))
+    same(sorted(names), sorted(it for it in used if not it.startswith("up_")), "the ported crates")
+    files = [path for path in CRATES.glob("*/src/**/*.rt") if re.search(r"\bunsafe\b", path.read_text(encoding="utf-8"))]
+    missing = [str(path.relative_to(CRATES)) for path in files if f"`{path.relative_to(CRATES)}`" not in part]
+    same(missing, [], "the files that say `unsafe`")
 
 
 def each_definition():
@@ -241,8 +242,8 @@ def each_edit():
 
 if __name__ == "__main__":
     CASES = [
-        each_crate, each_module, each_definition, each_rule, each_word, each_limit, each_default, each_refusal, each_link,
-        each_line, each_edit, each_drawn,
+        each_crate, each_module, each_trusted, each_definition, each_rule, each_word, each_limit, each_default,
+        each_refusal, each_link, each_line, each_edit, each_drawn,
     ]
     given = argparse.ArgumentParser(description=__doc__, formatter_class=argparse.RawDescriptionHelpFormatter)
     given.add_argument("names", nargs="*", metavar="NAME", help="the cases to be tried, instead of all")

@@ -13,8 +13,10 @@ import socket
 import subprocess
 import sys
 import tempfile
+import textwrap
 import threading
 import time
+import traceback
 
 ROOT = os.path.dirname(os.path.dirname(os.path.abspath(__file__)))
 
@@ -458,6 +460,7 @@ def try_all(cases, names, passed_over=()):
         except Exception as fault:
             failed += 1
             print(f"failed: {title} {type(fault).__name__}: {fault}", flush=True)
+            print(textwrap.indent(traceback.format_exc(), "    "), end="", flush=True)
     for what in passed_over:
         print(f"passed over: {what}")
     print(f"{passed} passed, {failed} failed")
