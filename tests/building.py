@@ -31,7 +31,7 @@ USES = {"up_a": [], "up_b": ["up_a"], "up_c": ["up_a"], "up_d": ["up_a", "up_b",
 USES["up"] = list(USES)
 
 # A toolchain. It notes what it does in the file RT_NOTES, and keeps some work of each crate in its `out`. With the
-# crate RT_SLOW it never comes to an end, and the crate RT_BAD it refuses.
+# crate RT_SLOW it never comes to an end, the crate RT_BAD it refuses, and with each it waits for the file RT_GATE.
 RT = r"""#!/bin/sh
 [ "$1" != version ] || { echo "rt of a test"; exit; }
 crate=${PWD##*/}
@@ -43,6 +43,7 @@ mkdir -p out/rlib
 echo "work" >out/work || exit
 echo "so far: 1 of 3 functions checked"
 [ "$crate" != "${RT_SLOW:-}" ] || exec sleep 1000
+while [ ! -e "${RT_GATE:-/}" ]; do sleep 0.05; done
 sleep 0.1
 [ "$crate" != "${RT_BAD:-}" ] || { echo "one: this is NOT PROVED"; echo "two: all is well"; exit 1; }
 [ "$crate" = up ] || [ "$1" = lib ] || { echo "error: $1 of a library"; exit 1; }
@@ -180,14 +181,16 @@ def changed_source():
 
 
 def two_at_once():
-    """Of two that begin at once, one builds, and the other waits for it."""
+    """If one builds, another one waits for it."""
     with tree() as at:
-        runs = [at.begin("--version") for _ in range(2)]
-        ends = [ended(run) for run in runs]
-        same([it[:2] for it in ends], [(0, "up 1 --version\n")] * 2, "what both do")
+        gate = at.folder / "gate"
+        first = at.begin("--version", RT_GATE=str(gate))
+        soon(at.notes.exists, "the first crate")
+        second = at.begin("--version")
+        same(second.stderr.readline(), "up: waiting for another ./up that builds\n", "what the second one says")
+        gate.touch()
+        same([ended(run)[:2] for run in (first, second)], [(0, "up 1 --version\n")] * 2, "what both do")
         in_order(at.noted())
-        waits = [it[2] == "up: waiting for another ./up that builds\n" for it in ends]
-        same(sorted(waits), [False, True], "whether they waited")
 
 
 def signals():
