@@ -87,7 +87,7 @@ class Tree:
         environment = {**os.environ, "PATH": path, "RT_NOTES": str(self.notes), **given}
         pipes = {"stdin": subprocess.DEVNULL, "stdout": subprocess.PIPE, "stderr": subprocess.PIPE}
         environment.pop("UP_PROGRAM", None)
-        return subprocess.Popen([self.folder / "up", *words], env=environment, text=True, **pipes)
+        return subprocess.Popen([self.folder / "up", *words], env=environment, text=True, preexec_fn=heed, **pipes)
 
     def run(self, *words, **given):
         """The status of `./up` with these words, and what it writes."""
@@ -104,6 +104,12 @@ class Tree:
         same((self.folder / "out").exists(), False, "whether rooms are left")
         works = [it for it in USES if (self.folder / "crates" / it / "out").exists()]
         return [it for it in works if (self.folder / "crates" / it / "out/work").exists()]
+
+
+def heed():
+    """Has no signal ignored, even if this script is run so that some are."""
+    for number in (signal.SIGTERM, signal.SIGINT, signal.SIGHUP):
+        signal.signal(number, signal.SIG_DFL)
 
 
 def ended(run):
