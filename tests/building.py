@@ -41,6 +41,7 @@ for used in $(sed -n "s/^$crate[^:]*: *//p" ../../crates.txt); do
 done
 mkdir -p out/rlib
 echo "work" >out/work || exit
+echo "told: $*"
 echo "so far: 1 of 3 functions checked"
 [ "$crate" != "${RT_SLOW:-}" ] || exec sleep 1000
 while [ ! -e "${RT_GATE:-/}" ]; do sleep 0.05; done
@@ -55,8 +56,8 @@ echo "ended $crate" >>"$RT_NOTES"
 
 
 class Tree:
-    """A folder with `./up`, which proves so many crates at a time whatever machine this is, a small program, and a
-    toolchain."""
+    """A folder with `./up`, which proves so many crates at a time whatever machine this is, or as many as it chooses
+    itself, a small program, and a toolchain."""
 
     def __init__(self, folder, crates=2):
         self.folder = pathlib.Path(folder, "tree")
@@ -64,9 +65,10 @@ class Tree:
         for name in ("up", "packaging/up"):
             (self.folder / name).parent.mkdir(parents=True, exist_ok=True)
             shutil.copy(os.path.join(ROOT, name), self.folder / name)
-        text = (self.folder / "up").read_text()
-        shares = re.search(r"\n    return crates, (.*)\n", text)[0]
-        (self.folder / "up").write_text(text.replace(shares, f"\n    return {crates}, 4\n"))
+        if crates:
+            text = (self.folder / "up").read_text()
+            shares = re.search(r"\n    return crates, (.*)\n", text)[0]
+            (self.folder / "up").write_text(text.replace(shares, f"\n    return {crates}, 4\n"))
         (self.folder / "HANDLES").write_text("Handles allowed: none.\n")
         lines = [f"{crate} may_wait=1: {' '.join(used)} clap\n" for crate, used in USES.items()]
         (self.folder / "crates.txt").write_text("# The crates.\n" + "".join(lines))
@@ -98,6 +100,18 @@ class Tree:
         lines = self.notes.read_text().splitlines() if self.notes.exists() else []
         self.notes.unlink(missing_ok=True)
         return [" ".join(word for word in line.split() if not word.isdigit()) for line in lines]
+
+    def most_at_once(self):
+        """The most crates that were proved at a time since this was last asked."""
+        running, most = 0, 0
+        for line in self.noted():
+            running += 1 if line.startswith("begun") else -1
+            most = max(most, running)
+        return most
+
+    def logged(self):
+        """The lines of the build's log."""
+        return (self.folder / "crates/up/out/build.log").read_text().splitlines()
 
     def is_tidy(self):
         """Checks that nothing is left of rooms, and that no crate has lost what is kept of it."""
@@ -146,8 +160,7 @@ def first_build():
         first = "up: proving up_a: 0 of 5 crates are proved"
         same([*lines[:2], lines[-1]], [begun, first, "up: all is proved"], "the first lines and the last one")
         same(sorted(line.split()[2] for line in lines[1:-1]), sorted(f"{it}:" for it in USES), "what is being proved")
-        line = "up_c: logic=proved crate=up_c functions=3"
-        same(line in log.read_text().splitlines(), True, "whether the log has a line")
+        same("up_c: logic=proved crate=up_c functions=3" in at.logged(), True, "whether the log has a line")
         same(sorted(at.is_tidy()), sorted(USES), "the crates of which something is kept")
 
 
@@ -156,11 +169,22 @@ def most_at_once():
     for crates in (1, 2):
         with tree(crates) as at:
             at.run("--version")
-            running, most = 0, 0
-            for line in at.noted():
-                running += 1 if line.startswith("begun") else -1
-                most = max(most, running)
-            same(most, crates, "the most crates at a time")
+            same(at.most_at_once(), crates, "the most crates at a time")
+
+
+def shares():
+    """On one processor one crate is proved at a time, with one job. On this machine at most two crates are, with at
+    most as many jobs each as there are processors."""
+    for processors in (1, len(os.sched_getaffinity(0))):
+        with tree(crates=None) as at:
+            chosen = ",".join(map(str, sorted(os.sched_getaffinity(0))[:processors]))
+            words = ["taskset", "-c", chosen, at.folder / "up", "--version"]
+            environment = {**os.environ, "PATH": f"{at.tools}:{os.environ['PATH']}", "RT_NOTES": str(at.notes)}
+            subprocess.run(words, env=environment, stdout=subprocess.DEVNULL, stderr=subprocess.DEVNULL, check=True)
+            jobs = [int(line.split()[4]) for line in at.logged() if " told: " in line]
+            same(len(jobs), len(USES), "how many crates are proved")
+            same([it for it in jobs if not 1 <= it <= processors], [], f"wrong numbers of jobs of {processors}")
+            same(at.most_at_once() <= min(processors, 2), True, f"whether so few are proved on {processors}")
 
 
 def second_start():
@@ -262,6 +286,8 @@ def no_toolchain():
         same(at.run("--version", path="/usr/bin:/bin"), (1, "", told), "what it does")
         at.run("--version")
         same(at.run("--version", path="/usr/bin:/bin"), (1, "", told), "what it does once the program is built")
+        status, out, err = at.run("try", "--version", path="/usr/bin:/bin")
+        same((status, out, err.splitlines()[-1]), (1, "", "up: there is no `rt` in PATH"), "what `try` does")
 
 
 def unlisted():
@@ -291,18 +317,22 @@ def no_space():
 
 
 def words():
-    """All words are the program's, also those that mean something to a shell. `install` puts things in place."""
+    """All words are the program's, also those that mean something to a shell. `install` puts things in place, or says
+    that it can't."""
     with tree() as at:
         same(at.run("a b", "$HOME", "*", "")[:2], (0, "up 1 a b $HOME * \n"), "what the program is given")
         status, out, err = at.run("install", "/opt", DESTDIR=str(at.tools))
         same((status, out), (0, ""), f"the status, behind {err!r}")
         told = subprocess.run([at.tools / "opt/bin/up", "--version"], capture_output=True, text=True).stdout
         same(told, "up 1 --version\n", "what is installed")
+        status, out, err = at.run("install", str(at.source("up_a")))
+        last = f"up: {at.source('up_a')}/lib/up/up could not be installed"
+        same((status, out, err.splitlines()[-1]), (1, "", last), "what it does below a file")
 
 
 CASES = [
-    first_build, most_at_once, second_start, changed_source, two_at_once, signals, killed, ignored_signal, bad_crate,
-    no_toolchain, unlisted, words,
+    first_build, most_at_once, shares, second_start, changed_source, two_at_once, signals, killed, ignored_signal,
+    bad_crate, no_toolchain, unlisted, words,
 ]
 PASSED_OVER = () if may_mount() else ("no_space: it needs leave to mount a disk",)
 if may_mount():

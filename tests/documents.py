@@ -1,9 +1,9 @@
 #!/usr/bin/env python3
 """Compares the documents with the sources: the tables of crates and rules and the list of definitions in
 docs/ARCHITECTURE.md, the words with their limits and defaults in docs/RUNNING.md, and the refusals in docs/PROTOCOL.md.
-It checks that each module says what it is for. It checks that the help of the program names the limits in its code, and that the edits of `must-fail` fit. It checks
-the links and the length of lines in all documents. It also compares the drawn data of the crates with what the
-generators draw.
+It checks that each module says what it is for, that the help of the program names the limits in its code, and that the
+edits of `must-fail` fit. It checks the links and the length of lines in all documents. It also compares the drawn data
+of the crates with what the generators draw.
 
     tests/documents.py [NAME..]
 

@@ -30,7 +30,10 @@ def modules(crate):
 
 def main(names):
     """Prints the modules of these crates, or of all."""
-    for crate in names or sorted(path.parent.name for path in pathlib.Path(ROOT, "crates").glob("*/src")):
+    there = sorted(path.parent.name for path in pathlib.Path(ROOT, "crates").glob("*/src"))
+    for crate in names or there:
+        if crate not in there:
+            sys.exit(f"there is no crate {crate}")
         for name, text in modules(crate):
             print(f"{name}: {text}" if name == crate else f"    {name}: {text}")
 
