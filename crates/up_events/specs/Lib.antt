@@ -13,3 +13,4 @@ pub mod Blocks
 pub mod Left
 pub mod Ascending
 pub mod Ended
+pub mod Traces
