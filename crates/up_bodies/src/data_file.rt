@@ -13,7 +13,7 @@ use crate::writer::BlockWriter;
 use sqlite_disk::Disk;
 use std::alloc::Global;
 use std::mem;
-use up_places::Place;
+use up_places::{Place, Position};
 
 /// A data file to which one connection writes bodies, one after another. Bytes that were written to it are never
 /// changed.
@@ -39,7 +39,10 @@ impl<D: Disk> DataFile<D> {
             IsUnmadeFor D.Disk device refused.device refused.fault) }
     {
         let file = BlockWriter::create(alloc, device, head)?;
-        let place = Place::empty(head.number, file.end() as u64);
+        let place = Place::empty(Position {
+            file: head.number,
+            at: file.end() as u64,
+        });
         Ok(DataFile { file, place })
     }
 
@@ -65,7 +68,10 @@ impl<D: Disk> DataFile<D> {
             ≡ record self.old.place { at = self.old.file.end; bytes = [] } }
         ensures same { self.new.file ≡ self.old.file }
     {
-        let next = Place::empty(self.place.file(), self.file.end() as u64);
+        let next = Place::empty(Position {
+            file: self.place.file(),
+            at: self.file.end() as u64,
+        });
         mem::replace(&mut self.place, next)
     }
 
@@ -107,7 +113,7 @@ impl<D: Disk> DataFile<D> {
         let len = bytes.len();
         self.file.put(bytes)?;
         bytes.truncate(len);
-        self.place.extend(bytes);
+        self.place.extend(bytes.as_slice());
         Ok(())
     }
 

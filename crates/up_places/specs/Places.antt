@@ -1,6 +1,5 @@
 -- Places of data files.
-use Rattle.std.specs.Prelude.{◌≡◌, ℕ, ◌*◌, List, Vec, flat_map, length, take, drop, refl}
-use Rattle.std.specs.Global.{Global}
+use Rattle.std.specs.Prelude.{◌≡◌, ℕ, ◌*◌, List, length, replicate, take, drop, refl}
 use Rattle.std.specs.Coded.{Coded, code_by, coded×, coded_ℕ, coded_list}
 
 -- bytes in a file, and where they are
@@ -17,9 +16,13 @@ spot_code =
     (λ p. record { file = p.0; at = p.1.0; bytes = p.1.1 })
     (λ _. refl)
 
--- the bytes of these vectors, one after another
-abbrev pub joined : List (Vec ℕ Global) → List ℕ
-joined parts = flat_map (λ (part : Vec ℕ Global). part.items) parts
+-- the bytes that data files have: of a file, from a byte on, as many as are asked for
+abbrev pub Content : Type 0
+Content = ℕ → ℕ → ℕ → List ℕ
+
+-- that of no data files
+abbrev pub no_content : Content
+no_content file at count = replicate count 0
 
 -- the i-th 65,536 of the bytes
 abbrev pub part_at : ℕ → List ℕ → List ℕ

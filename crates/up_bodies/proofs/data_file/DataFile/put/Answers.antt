@@ -47,7 +47,7 @@ extend-requires g c =
     let some : 0 < length more = search rules in
     let small : c.args.self.now.file.end + block_len (length more) < 2 ^ 64 = omega (arith, c.in_ok-put.ensures.small, c.in_ok-put.ensures.end) in
     record {
-      small = omega (arith, ap length kept, put_fits place.at c.args.self.now.file.end place.bytes c.args.self.now.whole c.requires.whole more some c.requires.few small);
+      small = omega (arith, ap length (c.as_slice.ensures.value ∙ kept), put_fits place.at c.args.self.now.file.end place.bytes c.args.self.now.whole c.requires.whole more some c.requires.few small);
     }
 
 pub invariant_of-self-2 : goal.invariant_of-self-2
@@ -64,7 +64,7 @@ invariant_of-self-2 g c =
     let grown = c.in_ok-put.ensures.grows place.at place.bytes c.args.self.now.held (are_whole place.at file.end place.bytes c.args.self.now.whole c.requires.whole) in
     let next : Spot = record place { bytes = place.bytes ++ more } in
     let is : c.extend.new.self ≡ next =
-    c.extend.ensures ∙ ap (λ (l : List ℕ). record place { bytes = place.bytes ++ l }) kept in
+    c.extend.ensures ∙ ap (λ (l : List ℕ). record place { bytes = place.bytes ++ l }) (c.as_slice.ensures.value ∙ kept) in
     let end = c.in_ok-put.ensures.end in
     record {
       whole = subst (λ (s : Spot). EndAfterWhole s.at s.bytes c.put.new.self.end) (sym is)
