@@ -1,8 +1,7 @@
 -- Writing bytes that are read from a shelf, one text after another.
-use Rattle.std.proofs.Common.{◌≡◌, ℕ, ◌+◌, ◌-◌, ◌/◌, ◌%◌, ◌<◌, ◌≤◌, ◌||◌, Bool, true, false, List, [], ◌∷◌, ◌++◌, length, take, drop, get_or, refl, sym, ap, ◌∙◌, append-nil, length-append, length-take, length-drop, min, take-append-drop, take-add, subst, arith, inl, inr, Result, Ok, Err, OnOk, OnErr}
+use Rattle.std.proofs.Common.{◌≡◌, ℕ, ◌+◌, ◌-◌, ◌/◌, ◌%◌, ◌<◌, ◌≤◌, ◌||◌, Bool, true, false, List, [], ◌∷◌, ◌++◌, length, take, drop, get_or, refl, sym, ap, ◌∙◌, append-nil, length-append, length-take, length-drop, min, take-append-drop, take-add, subst, arith, inl, inr}
 use Rattle.std.specs.List.{flat_map}
 use Rattle.std.proofs.lemmas.Bool.{or_left, or_right}
-use Rattle.std.specs.Result.{is_err}
 use Rattle.std.proofs.lemmas.List.{take_all, take_min}
 use Rattle.up_wire.specs.Device.{Device, GaveUp}
 use Rattle.up_wire.specs.Limits.{max_interruptions}
@@ -115,14 +114,6 @@ pub each_shown_whole : {X : Type 0} {T : Type 0} {a b : Device} {m j : ℕ} (f :
     → HasShown T a b m j (flat_map f (take i xs)) true → HasShown T a b m j (flat_map f xs) true
 each_shown_whole f xs i all shows = shows_as (ap (flat_map f) (take_all i xs all)) shows
 
-pub when_err : {A E P : Type 0} (r : Result A E) → is_err r ≡ true → OnErr r P → P
-when_err (Ok x) failed p = absurd (cc)
-when_err (Err e) failed p = p
-
-pub when_ok : {A E P : Type 0} (r : Result A E) → is_err r ≡ false → OnOk r P → P
-when_ok (Ok x) worked p = p
-when_ok (Err e) worked p = absurd (cc)
-
 -- a block that was read of these bytes and is written
 pub block_shown : {T : Type 0} {a b : Device} {i j : ℕ} {done : Bool} (f g : Bool) (all block : List ℕ) (from : ℕ) → from + length block ≤ length all
     → (T → block ≡ take (length block) (drop from all)) → HasWritten a b i j block done
@@ -207,14 +198,13 @@ pub record IsBlockOf (T : Type 0) (from : ℕ) (bytes block : List ℕ) : Type 0
   pub same : T → block ≡ take (length block) (drop from bytes)
 
 -- a read that worked finds the block
-pub block_of : {A E T : Type 0} (from : ℕ) (bytes block read : List ℕ) → (from < length bytes → from % 65_536 ≡ 0) → from < length bytes → block ≡ read
-    → (r : Result A E) → is_err r ≡ false → OnOk r (length read ≡ length (part_at (from / 65_536) bytes))
-    → OnOk r (T → read ≡ part_at (from / 65_536) bytes) → IsBlockOf T from bytes block
-block_of from bytes block read whole inside is r worked as_many same =
-    let count = ap length is ∙ when_ok r worked as_many in
+pub block_of : {T : Type 0} (from : ℕ) (bytes block read : List ℕ) → (from < length bytes → from % 65_536 ≡ 0) → from < length bytes → block ≡ read
+    → length read ≡ length (part_at (from / 65_536) bytes) → (T → read ≡ part_at (from / 65_536) bytes) → IsBlockOf T from bytes block
+block_of from bytes block read whole inside is as_many same =
+    let count = ap length is ∙ as_many in
     let size = block_size from bytes block (whole inside) count in
     record {
       size = size;
       within = omega (arith, size, inside);
-      same = λ yes. block_is from bytes block (whole inside) count (is ∙ when_ok r worked same yes);
+      same = λ yes. block_is from bytes block (whole inside) count (is ∙ same yes);
     }

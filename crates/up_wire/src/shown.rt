@@ -2,7 +2,7 @@
 ghost use Rattle.std.specs.Prelude.{◌<◌};
 ghost use Rattle.up_message.specs.Joins.{pieced};
 ghost use Rattle.up_wire.specs.Limits.{max_interruptions};
-ghost use Rattle.up_wire.specs.Shown.{HasShown, beside};
+ghost use Rattle.up_wire.specs.Shown.{Shows};
 
 use crate::device::Sink;
 use crate::write::write_all;
@@ -17,18 +17,16 @@ fn write_place<W: Sink, S: Shelf>(
     interruptions: &mut u32,
 ) -> bool
     requires patient { interruptions.old < max_interruptions }
-    ensures shown { HasShown (S.is_true shelf.new)
-        (beside (W.device sink.old) (S.has_failed shelf.old))
-        (beside (W.device sink.new) (S.has_failed shelf.new))
+    ensures shown { Shows W.Sink S.Shelf sink.old sink.new shelf.old shelf.new
         interruptions.old interruptions.new place.now.bytes result }
     ensures stays { S.is_true shelf.new → S.is_true shelf.old }
 {
     let len = place.len();
     let mut from = 0;
     'spans: while from < len {
-        if shelf.read(place, from / BLOCK).is_err() {
+        let Ok(()) = shelf.read(place, from / BLOCK) else {
             return false;
-        }
+        };
         let block = shelf.block();
         if !write_all(sink, block, interruptions) {
             return false;
@@ -46,9 +44,7 @@ fn write_piece<W: Sink, S: Shelf>(
     interruptions: &mut u32,
 ) -> bool
     requires patient { interruptions.old < max_interruptions }
-    ensures shown { HasShown (S.is_true shelf.new)
-        (beside (W.device sink.old) (S.has_failed shelf.old))
-        (beside (W.device sink.new) (S.has_failed shelf.new))
+    ensures shown { Shows W.Sink S.Shelf sink.old sink.new shelf.old shelf.new
         interruptions.old interruptions.new piece.now result }
     ensures stays { S.is_true shelf.new → S.is_true shelf.old }
 {
@@ -66,9 +62,7 @@ fn write_pieces<W: Sink, S: Shelf>(
     interruptions: &mut u32,
 ) -> bool
     requires patient { interruptions.old < max_interruptions }
-    ensures shown { HasShown (S.is_true shelf.new)
-        (beside (W.device sink.old) (S.has_failed shelf.old))
-        (beside (W.device sink.new) (S.has_failed shelf.new))
+    ensures shown { Shows W.Sink S.Shelf sink.old sink.new shelf.old shelf.new
         interruptions.old interruptions.new (pieced pieces.now) result }
     ensures stays { S.is_true shelf.new → S.is_true shelf.old }
 {
@@ -88,9 +82,7 @@ fn write_runs<W: Sink, S: Shelf>(
     interruptions: &mut u32,
 ) -> bool
     requires patient { interruptions.old < max_interruptions }
-    ensures shown { HasShown (S.is_true shelf.new)
-        (beside (W.device sink.old) (S.has_failed shelf.old))
-        (beside (W.device sink.new) (S.has_failed shelf.new))
+    ensures shown { Shows W.Sink S.Shelf sink.old sink.new shelf.old shelf.new
         interruptions.old interruptions.new (pieced runs.now) result }
     ensures stays { S.is_true shelf.new → S.is_true shelf.old }
 {
@@ -110,9 +102,7 @@ pub(crate) fn write_body<W: Sink, S: Shelf>(
     interruptions: &mut u32,
 ) -> bool
     requires patient { interruptions.old < max_interruptions }
-    ensures shown { HasShown (S.is_true shelf.new)
-        (beside (W.device sink.old) (S.has_failed shelf.old))
-        (beside (W.device sink.new) (S.has_failed shelf.new))
+    ensures shown { Shows W.Sink S.Shelf sink.old sink.new shelf.old shelf.new
         interruptions.old interruptions.new body.now result }
     ensures stays { S.is_true shelf.new → S.is_true shelf.old }
 {

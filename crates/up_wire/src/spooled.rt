@@ -1,7 +1,7 @@
 //! Reading a body into memory, or into a spool.
-ghost use Rattle.std.specs.Prelude.{◌≡◌, ◌<◌, [], IfSome};
+ghost use Rattle.std.specs.Prelude.{◌≡◌, ◌<◌, [], ℕ, IfSome};
 ghost use Rattle.up_wire.specs.Limits.{max_interruptions};
-ghost use Rattle.up_wire.specs.Spooled.{IsBlockRead, IsBodyKept, IsPutAway};
+ghost use Rattle.up_wire.specs.Spooled.{IsBlockRead, IsPutAway, KeepsBody};
 ghost use Rattle.up_wire.specs.Steps.{HasRead};
 
 use crate::body::{BodyEnd, BodyRead, read_body, read_bytes};
@@ -77,20 +77,18 @@ fn finished<P: Spool>(alloc: Global, spool: &mut P) -> Option<Piece>
     Piece::at(alloc, place).ok()
 }
 
-/// Reads a body of this size into the spool. The limit is that of all bodies, which it is within.
+/// Reads a body of this size into the spool.
 fn read_spooled<R: Source, P: Spool>(
     alloc: Global,
     source: &mut R,
     spool: &mut P,
     interruptions: &mut u32,
-    _limit: u64,
     size: u64,
 ) -> BodyKept
     requires patient { interruptions.old < max_interruptions }
     requires begun { P.body spool.old ≡ [] }
-    ensures { HasRead (R.device source.old) (R.device source.new)
-        interruptions.old interruptions.new
-        (λ input ending. IsBodyKept _limit (Framing.Sized size) input ending result) }
+    ensures { (limit : ℕ) → KeepsBody R.Source source.old source.new
+        interruptions.old interruptions.new limit (Framing.Sized size) result }
 {
     let ended = read_blocks(alloc, source, spool, interruptions, size);
     let Some(piece) = finished(alloc, spool) else {
@@ -119,9 +117,8 @@ fn read_to_memory<R: Source>(
     framing: Framing,
 ) -> BodyKept
     requires patient { interruptions.old < max_interruptions }
-    ensures { HasRead (R.device source.old) (R.device source.new)
-        interruptions.old interruptions.new
-        (λ input ending. IsBodyKept limit framing input ending result) }
+    ensures { KeepsBody R.Source source.old source.new
+        interruptions.old interruptions.new limit framing result }
 {
     let (body, is_whole) = match read_body(alloc, source, interruptions, limit, framing) {
         BodyRead::Whole(body) => (body, true),
@@ -145,13 +142,12 @@ pub(crate) fn keep_body<R: Source, P: Spool>(
     framing: Framing,
 ) -> BodyKept
     requires patient { interruptions.old < max_interruptions }
-    ensures { HasRead (R.device source.old) (R.device source.new)
-        interruptions.old interruptions.new
-        (λ input ending. IsBodyKept limit framing input ending result) }
+    ensures { KeepsBody R.Source source.old source.new
+        interruptions.old interruptions.new limit framing result }
 {
     if let Framing::Sized(size) = framing {
         match spool.begin(Some(size)) {
-            Ok(true) => return read_spooled(alloc, source, spool, interruptions, limit, size),
+            Ok(true) => return read_spooled(alloc, source, spool, interruptions, size),
             Ok(false) => {}
             Err(_) => return BodyKept::Fault(WireFault::NoMemory),
         }

@@ -1,10 +1,10 @@
 use Rattle.std.proofs.Common.{◌≡◌, take, true, ◌<◌, ◌≤◌, ◌-◌, ◌%◌, length}
-use Rattle.up_wire.specs.Shown.{beside, HasShown}
+use Rattle.up_wire.specs.Shown.{Shows}
 use Rattle.up_wire.proofs.shown.write_place.Given as goal
 
 abbrev pub invariant-spans : goal.invariant-spans
 invariant-spans g l = record {
-  shown : HasShown (g.S.Shelf.is_true l.shelf) (beside (g.W.Sink.device l.fn.sink) (g.S.Shelf.has_failed l.fn.shelf)) (beside (g.W.Sink.device l.sink) (g.S.Shelf.has_failed l.shelf)) l.fn.interruptions l.interruptions (take l.from l.place.bytes) true;
+  shown : Shows g.W.Sink g.S.Shelf l.fn.sink l.sink l.fn.shelf l.shelf l.fn.interruptions l.interruptions (take l.from l.place.bytes) true;
   stays : g.S.Shelf.is_true l.shelf → g.S.Shelf.is_true l.fn.shelf;
   within : l.from ≤ length l.place.bytes;
   whole : l.from < length l.place.bytes → l.from % 65_536 ≡ 0;
