@@ -1,7 +1,9 @@
 //! A run of the server over a store.
 ghost use Rattle.std.specs.Prelude.{◌≡◌, [], All, List, length, vec_len};
+ghost use Rattle.up_log.specs.Held.{AreHeld};
 ghost use Rattle.up_log.specs.Logs.{IsReaderAt};
 ghost use Rattle.up_log.specs.declared.entry.Entry.{Entry as Logged};
+ghost use Rattle.up_places.specs.Places.{no_content};
 
 use crate::fault::Fault;
 use crate::running::{Arrivals, Beside, run_on, visits_of};
@@ -124,7 +126,8 @@ fn run_named<
     requires written { histories.written ≡ J.history }
     requires drawn { histories.drawn ≡ K.history }
     requires reader { J.premise → (batches : List (List Logged))
-        × IsReaderAt ⟦<StoreFile as Disk>⟧ store.files.changes J.setup [] batches }
+        × IsReaderAt ⟦<StoreFile as Disk>⟧ store.files.changes J.setup [] batches
+        × AreHeld no_content batches }
     requires one_for_each { length post_hooks.items ≡ beside.now.settings.lanes }
     requires same { store.files.settings.lanes ≡ beside.now.settings.lanes }
     requires new { All (λ h. H.is_sound h × (H.handed h ≡ [])) post_hooks.items }

@@ -12,6 +12,7 @@ use Rattle.up_headers.specs.declared.request.Request.TheVariants as request
 use Rattle.up_headers.specs.declared.request.Patch.{Patch}
 use Rattle.up_log.specs.declared.entry.Consent.{Consent}
 use Rattle.up_log.specs.declared.entry.Entry.{Entry}
+use Rattle.up_places.specs.declared.position.Position.{Position}
 use Rattle.up_machine.specs.Content.{made_of}
 use Rattle.up_machine.specs.Decision.{change_of, create_rows, decide_plan, patch_change, patch_declared, patch_offset, response_to, rows_of, unless}
 use Rattle.up_machine.specs.Responses.{reached_offset, removed}
@@ -84,22 +85,22 @@ module _ (s : State) (entry : Entry) where
   looked None response = refl
   looked (Some refused) response = refl
 
-pub unmoved : (among : ℕ → Bool) (s : State) (id : ℕ) (consent : Consent) (r : Request) → AreGone among s.content → is_about among r id ≡ true → makes among r id ≡ false → replayed_one s (record { id = id; consent = consent; request = r }) ≡ s
-unmoved among s id consent request.Options gone about none = refl
-unmoved among s id consent (request.Create new) gone about none = absurd (false≢true (sym none ∙ about))
-unmoved among s id consent (request.Head u) gone about none =
-    let entry : Entry = record { id = id; consent = consent; request = request.Head u } in
+pub unmoved : (among : ℕ → Bool) (s : State) (id : ℕ) (consent : Consent) (place : Option Position) (r : Request) → AreGone among s.content → is_about among r id ≡ true → makes among r id ≡ false → replayed_one s (record { id = id; consent = consent; place = place; request = r }) ≡ s
+unmoved among s id consent place request.Options gone about none = refl
+unmoved among s id consent place (request.Create new) gone about none = absurd (false≢true (sym none ∙ about))
+unmoved among s id consent place (request.Head u) gone about none =
+    let entry : Entry = record { id = id; consent = consent; place = place; request = request.Head u } in
     looked s entry (first_that_holds (rows_of s (request.Head u) id (asked_of consent))) (response_to s (request.Head u) id)
-unmoved among s id consent (request.Patch p) gone about none =
-    let entry : Entry = record { id = id; consent = consent; request = request.Patch p } in
+unmoved among s id consent place (request.Patch p) gone about none =
+    let entry : Entry = record { id = id; consent = consent; place = place; request = request.Patch p } in
     ap (λ o. carried s entry (patch_decision p (asked_of consent) s.closed s.max_size o)) (gone p.id about)
     ∙ patch_unmoved s entry p (asked_of consent)
-unmoved among s id consent (request.Delete u) gone about none =
-    let entry : Entry = record { id = id; consent = consent; request = request.Delete u } in
+unmoved among s id consent place (request.Delete u) gone about none =
+    let entry : Entry = record { id = id; consent = consent; place = place; request = request.Delete u } in
     ap (λ o. carried s entry (delete_decision u (asked_of consent) s.closed o)) (gone u about)
     ∙ delete_unmoved s entry u (asked_of consent)
-unmoved among s id consent (request.Get u) gone about none =
-    let entry : Entry = record { id = id; consent = consent; request = request.Get u } in
+unmoved among s id consent place (request.Get u) gone about none =
+    let entry : Entry = record { id = id; consent = consent; place = place; request = request.Get u } in
     looked s entry (first_that_holds (rows_of s (request.Get u) id (asked_of consent))) (response_to s (request.Get u) id)
 
 -- the uploads stay gone where a request is about others
@@ -127,8 +128,8 @@ ended_one : (among : ℕ → Bool) (s t : State) (entry : Entry) → IsWithoutEn
 ended_one among s t entry e none =
     elim (is_about among entry.request entry.id) as (λ b. is_about among entry.request entry.id ≡ b → IsWithoutEnded among (replayed_one s entry) (replayed_one t entry)) [
       | true ↦ λ about.
-          let first = unmoved among s entry.id entry.consent entry.request e.ended about none in
-          let second = unmoved among t entry.id entry.consent entry.request e.without.gone about none in
+          let first = unmoved among s entry.id entry.consent entry.place entry.request e.ended about none in
+          let second = unmoved among t entry.id entry.consent entry.place entry.request e.without.gone about none in
           subst (λ x. IsWithoutEnded among x (replayed_one t entry)) (sym first) (subst (IsWithoutEnded among s) (sym second) e)
       | false ↦ λ other. record {
         without = both_one among s t e.without entry other (looks among s t entry.request entry.id e none);

@@ -86,7 +86,7 @@ next : (among : ℕ → Bool) (lane : ℕ) (s : State) (entry : Entry) → AreGo
 next among lane s entry gone none =
     elim (is_about among entry.request entry.id) as (λ b. is_about among entry.request entry.id ≡ b → GoesOnGone among lane s (replayed_one s entry)) [
       | true ↦ λ about.
-          let same = unmoved among s entry.id entry.consent entry.request gone about none in
+          let same = unmoved among s entry.id entry.consent entry.place entry.request gone about none in
           subst (GoesOnGone among lane s) (sym same) (record { goes = goes_same among lane s; gone = gone })
       | false ↦ λ other. record { goes = goes_one among lane s entry other; gone = gone_one among s entry other gone }
     ] refl

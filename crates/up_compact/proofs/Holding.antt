@@ -1,7 +1,9 @@
 -- The last head holds.
 use Rattle.std.proofs.Common.{◌≡◌, ℕ, List, [], ◌∷◌, ◌++◌, map, Option, Some, None, refl, ap, ◌∙◌}
 use Rattle.up_log.specs.Reading.{◌>>=◌}
+use Rattle.up_log.specs.Held.{batch_back}
 use Rattle.up_log.specs.declared.entry.Entry.{Entry}
+use Rattle.up_places.specs.Places.{Content}
 use Rattle.up_compact.specs.Heads.{LastHeadHolds, batch_of, head_after, head_of, ids_of, entry_with_number, numbers_in}
 use Rattle.up_compact.specs.declared.head.Head.{Head}
 
@@ -11,6 +13,11 @@ ids_again (n ∷ numbers) = ap (λ (l : List ℕ). n ∷ l) (ids_again numbers)
 
 head_again : (head : Head) → head_of (ids_of (batch_of head)) ≡ Some head
 head_again head = ap head_of (ids_again (numbers_in head))
+
+-- a batch has the same ids when it is read again
+pub ids_back : (content : Content) (batch : List Entry) → ids_of (batch_back content batch) ≡ ids_of batch
+ids_back content [] = refl
+ids_back content (entry ∷ batch) = ap (λ (l : List ℕ). entry.id ∷ l) (ids_back content batch)
 
 -- a batch that says this head comes first
 pub step : (head next : Head) (batch : List Entry) (batches : List (List Entry)) → head_of (ids_of batch) ≡ Some next → head_after head (batch ∷ batches) ≡ head_after next batches

@@ -21,7 +21,7 @@ kept_same among t (entry ∷ more) gone none =
     let here = All-head MakesNone entry more none in
     let rest = All-tail MakesNone entry more none in
     elim (is_left_out among entry) as (λ b. is_left_out among entry ≡ b → replayed t (cond (not b) (entry ∷ kept among more) (kept among more)) ≡ replayed (replayed_one t entry) more) [
-      | true ↦ λ about. kept_same among t more gone rest ∙ ap (λ (x : State). replayed x more) (sym (unmoved among t entry.id entry.consent entry.request gone about here))
+      | true ↦ λ about. kept_same among t more gone rest ∙ ap (λ (x : State). replayed x more) (sym (unmoved among t entry.id entry.consent entry.place entry.request gone about here))
       | false ↦ λ other. kept_same among (replayed_one t entry) more (gone_one among t entry other gone) rest
     ] refl
 

@@ -8,7 +8,7 @@ use Rattle.up_log.specs.declared.entry.Entry.{Entry}
 
 -- an entry that asks for nothing, with the number as its id
 abbrev pub entry_with_number : ℕ → Entry
-entry_with_number n = record { id = n; consent = Skipped; request = request.Options }
+entry_with_number n = record { id = n; consent = Skipped; place = None; request = request.Options }
 
 -- the numbers of a head
 abbrev pub numbers_in : Head → List ℕ

@@ -4,8 +4,7 @@ ghost use Rattle.up_compact.specs.Heads.{batch_of, first_head, head_of, ids_of, 
 
 use std::alloc::{AllocError, Global};
 use up_events::Id;
-use up_headers::Request;
-use up_log::{Consent, Entry, LogFault, Spelled};
+use up_log::{Entry, LogFault, Spelled};
 use up_message::Sequence;
 
 /// The current log, of those that were written one after another, and how it continues the one before.
@@ -24,11 +23,7 @@ pub struct Head {
 fn entry_of(number: u64) -> Entry
     ensures { result ≡ entry_with_number number }
 {
-    Entry {
-        id: Id::new(u128::from(number)),
-        consent: Consent::Skipped,
-        request: Request::Options,
-    }
+    Entry::nothing(Id::new(u128::from(number)))
 }
 
 /// Adds the entry with this number to a batch.

@@ -10,6 +10,7 @@ use crate::head::Head;
 use sqlite_disk::Disk;
 use std::alloc::Global;
 use up_log::{Log, LogFault, LogReader};
+use up_places::NoFiles;
 
 /// The heads of all logs but the first, in a log of their own. The last one is the current one.
 #[derive(Drop)]
@@ -35,7 +36,7 @@ impl<D: Disk> Heads<D> {
     {
         let mut reader = reader;
         let mut head = Head::first(alloc);
-        while let Some(batch) = reader.next_batch(alloc)? {
+        while let Some(batch) = reader.next_batch(alloc, &NoFiles)? {
             head = Head::read(alloc, batch.as_slice())?;
         }
         match reader.finish() {

@@ -4,6 +4,7 @@ ghost use Rattle.up_compact.specs.Shorter.{is_left_out, kept};
 ghost use Rattle.up_compact.specs.Surveys.{has_id};
 ghost use Rattle.up_compact.specs.Writing.{HasEntries, IsBehind, carried_out, staying};
 ghost use Rattle.up_log.specs.Blocks.{written};
+ghost use Rattle.up_log.specs.Held.{AreHeld};
 ghost use Rattle.up_log.specs.Logs.{IsCleanLog, IsSettled};
 ghost use Rattle.up_log.specs.declared.entry.Entry.{Entry as Logged};
 ghost use Rattle.up_log.specs.declared.setup.Setup.{Setup as Numbers};
@@ -14,6 +15,7 @@ use std::collections::BTreeSet;
 use up_events::Id;
 use up_headers::Request;
 use up_log::{Entry, Log, LogFault, Spelled};
+use up_places::Contents;
 
 /// How much of a log has been processed.
 #[derive(Clone, Copy, PartialEq, Eq)]
@@ -135,17 +137,20 @@ impl Progress {
     }
 }
 
-/// Appends all entries that stay, from this place of a log to its end, to a shorter log. The longer log is unchanged.
-/// The errors are those of `Log::batch_at` and of `add_staying`.
-pub fn catch_up<D: Disk, S: Disk>(
+/// Appends all entries that stay, from this place of a log to its end, to a shorter log. These data files have the bytes
+/// of which the log names the places. The longer log is unchanged. The errors are those of `Log::batch_at` and of
+/// `add_staying`.
+pub fn catch_up<D: Disk, S: Disk, C: Contents>(
     alloc: Global,
     log: &mut Log<D>,
+    files: &C,
     shorter: &mut Log<S>,
     left_out: &LeftOut,
     progress: Progress,
 ) -> Result<Progress, LogFault>
     ensures added { (setup : Numbers) (read left : List (List Logged))
-        → IsSettled D.Disk log.old setup (read ++ left) → IsBehind progress setup read
+        → IsSettled D.Disk log.old setup (read ++ left) → AreHeld (C.content files.now) left
+        → IsBehind progress setup read
         → HasEntries S.Disk shorter.old setup
         (staying (has_id left_out.now.voids) (has_id left_out.now.uploads) read)
         → IfOk result (λ p. IsCleanLog D.Disk log.new → IsBehind p setup (read ++ left)
@@ -155,7 +160,7 @@ pub fn catch_up<D: Disk, S: Disk>(
         → IsSettled D.Disk log.old setup batches → IsSettled D.Disk log.new setup batches }
 {
     let mut progress = progress;
-    while let Some((entries, next)) = log.batch_at(alloc, progress.place)? {
+    while let Some((entries, next)) = log.batch_at(alloc, progress.place, files)? {
         progress = add_staying(alloc, shorter, left_out, progress, entries.as_slice(), next)?;
     }
     Ok(progress)

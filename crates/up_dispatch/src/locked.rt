@@ -107,6 +107,7 @@ impl<B: Naming> Locked<B> {
             id,
             consent,
             request,
+            ..
         } = entry;
         let (result, remains) = self
             .inside
@@ -140,6 +141,7 @@ impl<B: Naming> Locked<B> {
                 id,
                 consent,
                 request,
+                ..
             } = entry;
             return Some(self.commit(rt, alloc, seat, request, id, &asked_of(consent)));
         }

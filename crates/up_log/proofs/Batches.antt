@@ -9,7 +9,9 @@ use Rattle.up_log.specs.declared.fault.Unread.TheVariants as unread
 use Rattle.up_log.specs.Spelling.{word, entry, batch}
 use Rattle.up_log.specs.Reading.{Fails, word_at, batch_at, whole_at}
 use Rattle.up_log.specs.Blocks.{body, block, blocks, IsClosed}
-use Rattle.up_log.proofs.Again.{word_again, batch_again}
+use Rattle.up_log.specs.Held.{AreHeld, batch_back}
+use Rattle.up_log.proofs.Again.{word_again, batch_spelled_back}
+use Rattle.up_places.specs.Places.{Content}
 
 some_same : {A : Type 0} (x y : A) → Some x ≡ Some y → x ≡ y
 some_same x y e = cc
@@ -90,17 +92,17 @@ module _ (first : List Entry) (others : List (List Entry)) (back file : List ℕ
   goes_on n same = sym (drop-drop n (gate + 9) file) ∙ ap (λ (l : List ℕ). drop n l) after_size ∙ drop_at (batch first) behind n (sym same)
 
 -- a batch is read from its spelling
-whole_again : (first : List Entry) → whole_at (batch first) ≡ Some first
+whole_again : (content : Content) (first : List Entry) → whole_at content (batch first) ≡ Some (batch_back content first)
 unfolding whole_at
-whole_again first =
-    let whole : batch_at (batch first) ≡ Some (first, []) = ap batch_at (sym (append-nil (batch first))) ∙ batch_again first [] in
+whole_again content first =
+    let whole : batch_at content (batch first) ≡ Some (batch_back content first, []) = ap (batch_at content) (sym (append-nil (batch first))) ∙ batch_spelled_back content first [] in
     rw whole refl
 
-pub batch_read : (first entries : List Entry) (bytes : List ℕ) → bytes ≡ batch first → whole_at bytes ≡ Some entries → entries ≡ first
-batch_read first entries bytes are read = some_same entries first (sym read ∙ ap whole_at are ∙ whole_again first)
+pub batch_read : (content : Content) (first entries : List Entry) (bytes : List ℕ) → bytes ≡ batch first → whole_at content bytes ≡ Some entries → entries ≡ batch_back content first
+batch_read content first entries bytes are read = some_same entries (batch_back content first) (sym read ∙ ap (whole_at content) are ∙ whole_again content first)
 
-pub batch_reads : (first : List Entry) (bytes : List ℕ) → bytes ≡ batch first → whole_at bytes ≡ None → ⊥
-batch_reads first bytes are read = none_some first (sym read ∙ ap whole_at are ∙ whole_again first)
+pub batch_reads : (content : Content) (first : List Entry) (bytes : List ℕ) → bytes ≡ batch first → whole_at content bytes ≡ None → ⊥
+batch_reads content first bytes are read = none_some (batch_back content first) (sym read ∙ ap (whole_at content) are ∙ whole_again content first)
 
 pub batch_nonempty : (first : List Entry) (n : ℕ) (bytes : List ℕ) → take n bytes ≡ batch first → n ≡ 0 → ⊥
 batch_nonempty first n bytes is none =
@@ -108,3 +110,15 @@ batch_nonempty first n bytes is none =
 
 pub none_by : {X : Type 0} (fault : Unread) (read : Option X) → Fails fault read → fault ≡ unread.Damaged → read ≡ None
 none_by fault read fails is = subst (λ (f : Unread). Fails f read) is fails
+
+abbrev head_or : List (List Entry) → List Entry
+head_or [] = []
+head_or (first ∷ others) = first
+
+-- what is read of the first of batches that are held
+pub held_next : (content : Content) (first : List Entry) (others : List (List Entry)) → AreHeld content (first ∷ others) → batch_back content first ≡ first
+held_next content first others held = ap (λ (l : List (List Entry)). head_or l) held
+
+-- the others are held, too
+pub held_left : (content : Content) (first : List Entry) (others : List (List Entry)) → AreHeld content (first ∷ others) → AreHeld content others
+held_left content first others held = ap (λ (l : List (List Entry)). drop 1 l) held

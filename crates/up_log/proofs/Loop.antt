@@ -25,6 +25,7 @@ pub ends : {X : Type 0} (field : List ℕ → Read X) (e : Unread) (front : List
     → with_front front (so_many_at field (count - i) bytes) ≡ total → Fails e total
 unfolding so_many_at
 ends field unread.Memory front count i bytes total lt h so_far = tt
+ends field (unread.NotThere start) front count i bytes total lt h so_far = tt
 ends field unread.Damaged front count i bytes total lt h so_far =
     let k : count - i ≡ suc (count - (i + 1)) = omega arith in
     let one : with_front front (so_many_at field (count - i) bytes) ≡ None = rw (k, h) refl in

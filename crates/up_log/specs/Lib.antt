@@ -3,3 +3,4 @@ pub mod Reading
 pub mod Blocks
 pub mod Logs
 pub mod Staging
+pub mod Held

@@ -10,7 +10,9 @@ use Rattle.up_log.specs.declared.reader.LogReader.{LogReader}
 use Rattle.up_log.specs.declared.reader.Refused.{Refused}
 use Rattle.up_log.specs.declared.setup.Setup.{Setup}
 use Rattle.up_log.specs.Blocks.{blocks, written, IsAtRest, IsClosed}
+use Rattle.up_log.specs.Held.{batch_back}
 use Rattle.up_log.specs.Spelling.{batch}
+use Rattle.up_places.specs.Places.{Content}
 
 -- the file is at rest, the place of its gate is known, all of the file is on the disk, and the disk can be used
 pub record IsSettled {D : Type 0} (g : Ghosts D) (log : Log D) (setup : Setup) (batches : List (List Entry)) : Type 0 where
@@ -64,23 +66,24 @@ abbrev pub HasSize : List Entry → Result ℕ LogFault → Type 0
 HasSize first (Ok size) = size ≡ length (batch first)
 HasSize first (Err e) = IsDamaged e → ⊥
 
--- this batch, or an error that is not damage
-abbrev pub IsBatchRead : List Entry → Result (List Entry) LogFault → Type 0
-IsBatchRead first (Ok entries) = entries ≡ first
-IsBatchRead first (Err e) = IsDamaged e → ⊥
+-- this batch, with the bytes that data files of this content have, or an error that is not damage
+abbrev pub IsBatchRead : Content → List Entry → Result (List Entry) LogFault → Type 0
+IsBatchRead content first (Ok entries) = entries ≡ batch_back content first
+IsBatchRead content first (Err e) = IsDamaged e → ⊥
 
--- the first of the batches that are left, with the place after its block; none if none is left; or an error that is not
--- damage
-abbrev pub ReadsAt : Setup → List (List Entry) → List (List Entry) → Result (Option (List Entry × ℕ)) LogFault → Type 0
-ReadsAt setup read left (Ok None) = left ≡ []
-ReadsAt setup read left (Ok (Some found)) =
-    (others : List (List Entry)) × (left ≡ found.0 ∷ others) × (found.1 ≡ length (written setup (read ++ found.0 ∷ [])))
-ReadsAt setup read left (Err e) = IsDamaged e → ⊥
+-- the first of the batches that are left, as it is read, with the place after its block; none if none is left; or an
+-- error that is not damage
+abbrev pub ReadsAt : Content → Setup → List (List Entry) → List (List Entry) → Result (Option (List Entry × ℕ)) LogFault → Type 0
+ReadsAt content setup read left (Ok None) = left ≡ []
+ReadsAt content setup read left (Ok (Some found)) =
+    (first : List Entry) × (others : List (List Entry)) × (left ≡ first ∷ others) × (found.0 ≡ batch_back content first)
+    × (found.1 ≡ length (written setup (read ++ first ∷ [])))
+ReadsAt content setup read left (Err e) = IsDamaged e → ⊥
 
--- this batch and this place, or an error that is not damage
-abbrev pub BlockIs : List Entry → ℕ → Result (List Entry × ℕ) LogFault → Type 0
-BlockIs first end (Ok block) = (block.0 ≡ first) × (block.1 ≡ end)
-BlockIs first end (Err e) = IsDamaged e → ⊥
+-- this batch, as it is read, and this place, or an error that is not damage
+abbrev pub BlockIs : Content → List Entry → ℕ → Result (List Entry × ℕ) LogFault → Type 0
+BlockIs content first end (Ok block) = (block.0 ≡ batch_back content first) × (block.1 ≡ end)
+BlockIs content first end (Err e) = IsDamaged e → ⊥
 
 module _ {D : Type 0} (g : Ghosts D) where
   -- no wrong data from the disk was taken as correct
@@ -90,12 +93,13 @@ module _ {D : Type 0} (g : Ghosts D) where
   abbrev pub IsCleanLog : Log D → Type 0
   IsCleanLog log = IsTrue (g.is_clean log.device)
 
-  -- the first of the batches that are left; none if none is left; or an error that is not damage
-  abbrev pub ReadsNext : LogReader D → Setup → List (List Entry) → List (List Entry) → Result (Option (List Entry)) LogFault → Type 0
-  ReadsNext new setup read left (Ok None) = (left ≡ []) × IsReaderAt g new setup read left
-  ReadsNext new setup read left (Ok (Some entries)) =
-      (others : List (List Entry)) × (left ≡ entries ∷ others) × IsReaderAt g new setup (read ++ entries ∷ []) others
-  ReadsNext new setup read left (Err e) = (IsDamaged e → ⊥) × IsReaderAt g new setup read left
+  -- the first of the batches that are left, as it is read; none if none is left; or an error that is not damage
+  abbrev pub ReadsNext : Content → LogReader D → Setup → List (List Entry) → List (List Entry) → Result (Option (List Entry)) LogFault → Type 0
+  ReadsNext content new setup read left (Ok None) = (left ≡ []) × IsReaderAt g new setup read left
+  ReadsNext content new setup read left (Ok (Some entries)) =
+      (first : List Entry) × (others : List (List Entry)) × (left ≡ first ∷ others) × (entries ≡ batch_back content first)
+      × IsReaderAt g new setup (read ++ first ∷ []) others
+  ReadsNext content new setup read left (Err e) = (IsDamaged e → ⊥) × IsReaderAt g new setup read left
 
   -- what a crash may leave of the file, if the disk read it correctly
   abbrev pub reader_leaves : Result (LogReader D) (Refused D) → List ℕ → Type 0

@@ -12,6 +12,8 @@ use Rattle.up_log.specs.declared.entry.Consent.TheVariants.{Skipped, Allowed, Al
 use Rattle.up_log.specs.declared.entry.Entry.{Entry}
 use Rattle.up_log.specs.declared.fault.Unread.{Unread}
 use Rattle.up_log.specs.declared.fault.Unread.TheVariants as unread
+use Rattle.up_places.specs.Places.{Content}
+use Rattle.up_places.specs.declared.position.Position.{Position}
 
 -- a value and the bytes after it, or none if the bytes do not begin with such a value
 abbrev pub Read : Type 0 → Type 0
@@ -22,10 +24,12 @@ abbrev pub ◌>>=◌ : {A B : Type 0} → Option A → (A → Option B) → Opti
 (Some x) >>= f = f x
 None >>= f = None
 
--- the result of a function, seen through `view`, is what reading yields, unless memory ran out
+-- the result of a function, seen through `view`, is what reading yields, unless memory ran out or bytes of data files
+-- are not there
 abbrev pub Fails : {Y : Type 0} → Unread → Option Y → Type 0
 Fails unread.Memory read = Unit {0}
 Fails unread.Damaged read = read ≡ None
+Fails (unread.NotThere start) read = Unit {0}
 
 abbrev pub ReadsAs : {X Y : Type 0} → (X → Y) → Result X Unread → Option Y → Type 0
 ReadsAs view (Ok x) read = read ≡ Some (view x)
@@ -112,47 +116,66 @@ new_upload_at bytes = do
   concat ← maybe_at text_at metadata.1
   Some (record { kind = kind.0; length = length.0; parts = parts.0; pairs = pairs.0; metadata = metadata.0; concat = concat.0 }, concat.1)
 
-unfoldable pub patch_at : List ℕ → Read Patch
-patch_at bytes = do
+unfoldable pub position_at : List ℕ → Read Position
+position_at bytes = do
+  file ← word_at bytes
+  at ← word_at file.1
+  Some (record { file = file.0; at = at.0 }, at.1)
+
+-- bytes, or where they begin in data files that have this content, and what these have there
+unfoldable pub placed_at : Content → Bool → List ℕ → Read (Option Position × List ℕ)
+placed_at content false bytes = do
+  body ← text_at bytes
+  Some ((None, body.0), body.1)
+placed_at content true bytes = do
+  start ← position_at bytes
+  count ← word_at start.1
+  Some ((Some start.0, content start.0.file start.0.at count.0), count.1)
+
+unfoldable pub patch_at : Content → Bool → List ℕ → Read (Option Position × Patch)
+patch_at content is_placed bytes = do
   id ← id_at bytes
   media ← flag_at id.1
   offset ← maybe_at word_at media.1
   length ← declared_at offset.1
-  body ← text_at length.1
-  Some (record { id = id.0; media = media.0; offset = offset.0; length = length.0; bytes = body.0 }, body.1)
+  body ← placed_at content is_placed length.1
+  Some ((body.0.0, record { id = id.0; media = media.0; offset = offset.0; length = length.0; bytes = body.0.1 }), body.1)
 
-unfoldable pub asked_for_at : List ℕ → Read Request
-asked_for_at [] = None
-asked_for_at (zero ∷ rest) = Some (request.Options, rest)
-asked_for_at (suc zero ∷ rest) = do
+unfoldable pub asked_for_at : Content → List ℕ → Read (Option Position × Request)
+asked_for_at content [] = None
+asked_for_at content (zero ∷ rest) = Some ((None, request.Options), rest)
+asked_for_at content (suc zero ∷ rest) = do
   new ← new_upload_at rest
-  Some (request.Create new.0, new.1)
-asked_for_at (suc (suc zero) ∷ rest) = do
+  Some ((None, request.Create new.0), new.1)
+asked_for_at content (suc (suc zero) ∷ rest) = do
   u ← id_at rest
-  Some (request.Head u.0, u.1)
-asked_for_at (suc (suc (suc zero)) ∷ rest) = do
-  p ← patch_at rest
-  Some (request.Patch p.0, p.1)
-asked_for_at (suc (suc (suc (suc zero))) ∷ rest) = do
+  Some ((None, request.Head u.0), u.1)
+asked_for_at content (suc (suc (suc zero)) ∷ rest) = do
+  p ← patch_at content false rest
+  Some ((p.0.0, request.Patch p.0.1), p.1)
+asked_for_at content (suc (suc (suc (suc zero))) ∷ rest) = do
   u ← id_at rest
-  Some (request.Delete u.0, u.1)
-asked_for_at (suc (suc (suc (suc (suc zero)))) ∷ rest) = do
+  Some ((None, request.Delete u.0), u.1)
+asked_for_at content (suc (suc (suc (suc (suc zero)))) ∷ rest) = do
   u ← id_at rest
-  Some (request.Get u.0, u.1)
-asked_for_at (suc (suc (suc (suc (suc (suc b))))) ∷ rest) = None
+  Some ((None, request.Get u.0), u.1)
+asked_for_at content (suc (suc (suc (suc (suc (suc zero))))) ∷ rest) = do
+  p ← patch_at content true rest
+  Some ((p.0.0, request.Patch p.0.1), p.1)
+asked_for_at content (suc (suc (suc (suc (suc (suc (suc b)))))) ∷ rest) = None
 
-unfoldable pub entry_at : List ℕ → Read Entry
-entry_at bytes = do
+unfoldable pub entry_at : Content → List ℕ → Read Entry
+entry_at content bytes = do
   id ← id_at bytes
   consent ← consent_at id.1
-  request ← asked_for_at consent.1
-  Some (record { id = id.0; consent = consent.0; request = request.0 }, request.1)
+  asked ← asked_for_at content consent.1
+  Some (record { id = id.0; consent = consent.0; place = asked.0.0; request = asked.0.1 }, asked.1)
 
-unfoldable pub batch_at : List ℕ → Read (List Entry)
-batch_at bytes = many_at entry_at bytes
+unfoldable pub batch_at : Content → List ℕ → Read (List Entry)
+batch_at content bytes = many_at (entry_at content) bytes
 
 -- a batch with no bytes after it
-unfoldable pub whole_at : List ℕ → Option (List Entry)
-whole_at bytes = do
-  entries ← batch_at bytes
+unfoldable pub whole_at : Content → List ℕ → Option (List Entry)
+whole_at content bytes = do
+  entries ← batch_at content bytes
   if length entries.1 == 0 then Some entries.0 else None

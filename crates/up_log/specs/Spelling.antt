@@ -11,10 +11,11 @@ use Rattle.up_headers.specs.declared.request.Request.TheVariants as request
 use Rattle.up_log.specs.declared.entry.Consent.{Consent}
 use Rattle.up_log.specs.declared.entry.Consent.TheVariants.{Skipped, Allowed, AllowedFinish}
 use Rattle.up_log.specs.declared.entry.Entry.{Entry}
+use Rattle.up_places.specs.declared.position.Position.{Position}
 
 -- the first of these entries; of none it is one that asks for nothing
 abbrev pub first_entry : List Entry → Entry
-first_entry [] = record { id = 0; consent = Skipped; request = request.Options }
+first_entry [] = record { id = 0; consent = Skipped; place = None; request = request.Options }
 first_entry (x ∷ entries) = x
 
 -- a number in eight cells, the lowest first. Below 2^64 each cell is a byte; the last cell takes everything above, so
@@ -75,19 +76,34 @@ abbrev pub new_upload : NewUpload → List ℕ
 new_upload new =
     kind new.kind ++ maybe word new.length ++ many id new.parts ++ many pair new.pairs ++ maybe text new.metadata ++ maybe text new.concat
 
-abbrev pub patch : Patch → List ℕ
-patch p = id p.id ++ flag p.media ++ maybe word p.offset ++ declared_length p.length ++ text p.bytes
+-- where bytes in data files begin
+abbrev pub position : Position → List ℕ
+position p = word p.file ++ word p.at
 
-abbrev pub asked_for : Request → List ℕ
-asked_for request.Options = 0 ∷ []
-asked_for (request.Create new) = 1 ∷ new_upload new
-asked_for (request.Head u) = 2 ∷ id u
-asked_for (request.Patch p) = 3 ∷ patch p
-asked_for (request.Delete u) = 4 ∷ id u
-asked_for (request.Get u) = 5 ∷ id u
+-- bytes, or where they begin in data files and how many they are
+abbrev pub placed : Option Position → List ℕ → List ℕ
+placed None bytes = text bytes
+placed (Some start) bytes = position start ++ word (length bytes)
+
+abbrev pub patch : Option Position → Patch → List ℕ
+patch place p = id p.id ++ flag p.media ++ maybe word p.offset ++ declared_length p.length ++ placed place p.bytes
+
+-- the kind of a PATCH whose bytes are in the entry, or in data files
+abbrev pub patch_kind : Option Position → ℕ
+patch_kind None = 3
+patch_kind (Some start) = 6
+
+-- a request; of a PATCH the bytes are at this place, if there is one
+abbrev pub asked_for : Option Position → Request → List ℕ
+asked_for place request.Options = 0 ∷ []
+asked_for place (request.Create new) = 1 ∷ new_upload new
+asked_for place (request.Head u) = 2 ∷ id u
+asked_for place (request.Patch p) = patch_kind place ∷ patch place p
+asked_for place (request.Delete u) = 4 ∷ id u
+asked_for place (request.Get u) = 5 ∷ id u
 
 abbrev pub entry : Entry → List ℕ
-entry e = id e.id ++ consent e.consent ++ asked_for e.request
+entry e = id e.id ++ consent e.consent ++ asked_for e.place e.request
 
 -- a batch of entries
 abbrev pub batch : List Entry → List ℕ

@@ -7,12 +7,14 @@ ghost use Rattle.up_log.specs.declared.fault.Unread.TheVariants.{Damaged};
 ghost use Rattle.up_log.specs.declared.entry.Entry.{Entry as Logged};
 
 use crate::device::{read_from, read_vec};
+use crate::entries::whole_batch;
 use crate::entry::Entry;
 use crate::fault::{LogFault, Unread};
-use crate::reading::{whole_batch, word_of};
+use crate::reading::word_of;
 use sqlite_disk::Disk;
 use std::alloc::Global;
 use up_message::Sequence;
+use up_places::Contents;
 
 /// The log's fault for a block at the place `gate` whose bytes were not read as a batch.
 fn log_fault(fault: Unread, gate: usize) -> LogFault
@@ -22,6 +24,10 @@ fn log_fault(fault: Unread, gate: usize) -> LogFault
     match fault {
         Unread::Memory => LogFault::Memory,
         Unread::Damaged => damaged_at(gate),
+        Unread::NotThere(start) => LogFault::NotThere {
+            file: start.file,
+            at: start.at,
+        },
     }
 }
 
@@ -87,15 +93,16 @@ fn size_at<D: Disk>(disk: &mut D, len: usize, gate: usize) -> Result<usize, LogF
 }
 
 /// The batch that is encoded in the `size` bytes at the place `at`. Its block begins at the place `gate`.
-fn batch_from<D: Disk>(
+fn batch_from<D: Disk, C: Contents>(
     alloc: Global,
     disk: &mut D,
+    files: &C,
     gate: usize,
     at: usize,
     size: usize,
 ) -> Result<Sequence<Entry>, LogFault>
     ensures entries { (first : List Logged) → take size (drop at (D.seen disk.old)) ≡ batch first
-        → IsTrue (D.is_clean disk.new) → IsBatchRead first result }
+        → IsTrue (D.is_clean disk.new) → IsBatchRead (C.content files.now) first result }
     ensures place { IfErr result (IsDamagedAt gate) }
     ensures seen { D.seen disk.new ≡ D.seen disk.old }
     ensures usable { IsTrue (D.is_usable disk.old) → IsTrue (D.is_usable disk.new) }
@@ -106,23 +113,25 @@ fn batch_from<D: Disk>(
         return Err(damaged_at(gate));
     }
     let bytes = read_vec(alloc, disk, at, size)?;
-    match whole_batch(alloc, &bytes) {
+    match whole_batch(alloc, files, &bytes) {
         Ok(entries) => Ok(entries),
         Err(fault) => Err(log_fault(fault, gate)),
     }
 }
 
 /// The batch of the block at this place, and the place after the block.
-pub(crate) fn block_at<D: Disk>(
+pub(crate) fn block_at<D: Disk, C: Contents>(
     alloc: Global,
     disk: &mut D,
+    files: &C,
     len: usize,
     gate: usize,
 ) -> Result<(Sequence<Entry>, usize), LogFault>
     ensures block { (first : List Logged) (others : List (List Logged)) (back : List ℕ)
         → drop gate (D.seen disk.old) ≡ blocks (first ∷ others) ++ back
         → len ≡ length (D.seen disk.old)
-        → IsTrue (D.is_clean disk.new) → BlockIs first (gate + 9 + length (batch first)) result }
+        → IsTrue (D.is_clean disk.new)
+        → BlockIs (C.content files.now) first (gate + 9 + length (batch first)) result }
     ensures fits { IfOk result (λ block. (gate < block.1) × (block.1 ≤ len)) }
     ensures place { IfErr result (IsDamagedAt gate) }
     ensures seen { D.seen disk.new ≡ D.seen disk.old }
@@ -132,6 +141,6 @@ pub(crate) fn block_at<D: Disk>(
 {
     let size = size_at(disk, len, gate)?;
     let at = gate + 9;
-    let entries = batch_from(alloc, disk, gate, at, size)?;
+    let entries = batch_from(alloc, disk, files, gate, at, size)?;
     Ok((entries, at + size))
 }

@@ -6,6 +6,7 @@ ghost use Rattle.up_log.specs.declared.fault.LogFault.TheVariants as log_fault;
 use std::alloc::{AllocError, AllocFailed};
 use std::io;
 use thiserror::Error;
+use up_places::Position;
 
 /// Why a field cannot be read from bytes.
 #[derive(Clone, Copy, Debug, PartialEq, Eq, Error)]
@@ -15,6 +16,9 @@ pub enum Unread {
     /// The bytes do not begin with such a field.
     #[error("no such field")]
     Damaged,
+    /// The bytes name bytes of data files, from here on, which are not there.
+    #[error("no such bytes in data file {} from byte {} on", .0.file, .0.at)]
+    NotThere(Position),
 }
 
 impl From<AllocError> for Unread {
@@ -55,6 +59,9 @@ pub enum LogFault {
     /// The place is that of the gate, in bytes from the beginning of the file.
     #[error("the log is damaged at byte {place}")]
     Damaged { place: u64 },
+    /// A batch names bytes of a data file, from this byte on, which are not there.
+    #[error("the log names bytes of data file {file} from byte {at} on, which are not there")]
+    NotThere { file: u64, at: u64 },
     /// The file has fewer bytes than were written to it, so it is another file, or something else changed it.
     #[error("the log has {len} bytes, and {written} were written to it")]
     Short { len: u64, written: u64 },

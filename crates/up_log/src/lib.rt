@@ -4,6 +4,7 @@
 mod appending;
 mod block;
 mod device;
+mod entries;
 mod entry;
 mod fault;
 mod file;
@@ -18,7 +19,7 @@ mod staging;
 mod writing;
 
 pub use appending::Log;
-pub use entry::{Consent, Entry};
+pub use entry::{Consent, Entry, place_of};
 pub use fault::{LogFault, Unread};
 pub use file::{open_device, open_file};
 pub use reader::{LogReader, Refused};

@@ -17,6 +17,7 @@ use crate::setup::Setup;
 use sqlite_disk::Disk;
 use std::alloc::Global;
 use up_message::Sequence;
+use up_places::Contents;
 
 /// A log that is being opened. Its batches are read one after another, so that at most one of them is in memory.
 #[derive(Drop)]
@@ -116,11 +117,17 @@ impl<D: Disk> LogReader<D> {
         }
     }
 
-    /// The next batch, `None` at the end. `Damaged` names the place of the block that can't be read.
-    pub fn next_batch(&mut self, alloc: Global) -> Result<Option<Sequence<Entry>>, LogFault>
+    /// The next batch, `None` at the end. These data files have the bytes of which it names the place. `Damaged` names
+    /// the place of the block that can't be read, and `NotThere` bytes that the data files don't have.
+    pub fn next_batch<C: Contents>(
+        &mut self,
+        alloc: Global,
+        files: &C,
+    ) -> Result<Option<Sequence<Entry>>, LogFault>
         ensures reads { (setup : Numbers) (read left : List (List Logged))
             → IsReaderAt D.Disk self.old setup read left
-            → IsCleanReader D.Disk self.new → ReadsNext D.Disk self.new setup read left result }
+            → IsCleanReader D.Disk self.new
+            → ReadsNext D.Disk (C.content files.now) self.new setup read left result }
         ensures end { IfOk result (λ found. IfNone found
             (self.old.len ≡ length (D.seen self.old.device) → IsCleanReader D.Disk self.new
             → IsClosed (drop self.old.gate (D.seen self.old.device)))) }
@@ -135,7 +142,7 @@ impl<D: Disk> LogReader<D> {
         if !begins_at(&mut self.device, self.len, self.gate)? {
             return Ok(None);
         }
-        let (entries, gate) = block_at(alloc, &mut self.device, self.len, self.gate)?;
+        let (entries, gate) = block_at(alloc, &mut self.device, files, self.len, self.gate)?;
         self.gate = gate;
         Ok(Some(entries))
     }

@@ -1,17 +1,17 @@
-//! Decoding entries.
-ghost use Rattle.std.specs.Prelude.{◌≡◌, ◌<◌, List, length, Some, IfOk};
-ghost use Rattle.up_log.specs.Spelling.{batch};
+//! Decoding requests.
+ghost use Rattle.std.specs.Prelude.{◌≡◌, ◌<◌, length, IfErr, IfOk};
 ghost use Rattle.up_log.specs.Reading.{ReadsAs, word_at, id_at, text_at, maybe_at, many_at, so_many_at};
 ghost use Rattle.up_log.specs.Reading.{flag_at, kind_at, consent_at, declared_at, pair_at, new_upload_at};
-ghost use Rattle.up_log.specs.Reading.{patch_at, asked_for_at, entry_at, batch_at, whole_at};
-ghost use Rattle.up_log.specs.declared.entry.Entry.{Entry as Logged};
+ghost use Rattle.up_log.specs.Reading.{position_at, placed_at, patch_at, asked_for_at};
+ghost use Rattle.up_log.specs.declared.fault.Unread.TheVariants.{Damaged};
 
-use crate::entry::{Consent, Entry};
+use crate::entry::Consent;
 use crate::fault::Unread;
 use std::alloc::Global;
 use up_events::{Id, Kind};
 use up_headers::{NewUpload, NotDigits, Pairs, Patch, Request};
 use up_message::{Piece, Sequence};
+use up_places::{Contents, Position};
 
 /// A number of eight bytes, the lowest first, and what follows it.
 #[tactic(auto, unfolding(crate::specs::Reading::word_at))]
@@ -34,7 +34,7 @@ pub(crate) fn word_of(bytes: &[u8]) -> Result<(u64, &[u8]), Unread>
 
 /// A number of sixteen bytes, the lowest first, and what follows it.
 #[tactic(auto, unfolding(crate::specs::Reading::id_at))]
-fn number_of(bytes: &[u8]) -> Result<(u128, &[u8]), Unread>
+pub(crate) fn number_of(bytes: &[u8]) -> Result<(u128, &[u8]), Unread>
     ensures { ReadsAs (λ x. (x.0, x.1.now)) result (id_at bytes.now) }
 {
     let (low, rest) = word_of(bytes)?;
@@ -122,7 +122,7 @@ fn kind_of(bytes: &[u8]) -> Result<(Kind, &[u8]), Unread>
 
 /// What the closures answered, and what follows it.
 #[tactic(auto, unfolding(crate::specs::Reading::consent_at))]
-fn consent_of(bytes: &[u8]) -> Result<(Consent, &[u8]), Unread>
+pub(crate) fn consent_of(bytes: &[u8]) -> Result<(Consent, &[u8]), Unread>
     ensures { ReadsAs (λ x. (x.0, x.1.now)) result (consent_at bytes.now) }
 {
     match bytes {
@@ -227,91 +227,6 @@ fn new_upload_of(alloc: Global, bytes: &[u8]) -> Result<(NewUpload, &[u8]), Unre
     Ok((new, rest))
 }
 
-/// The request to append to an upload, and what follows it.
-#[tactic(auto, unfolding(crate::specs::Reading::patch_at))]
-fn patch_of(alloc: Global, bytes: &[u8]) -> Result<(Patch, &[u8]), Unread>
-    ensures { ReadsAs (λ x. (x.0, x.1.now)) result (patch_at bytes.now) }
-{
-    let (number, rest) = number_of(bytes)?;
-    let (media, rest) = flag_of(rest)?;
-    let (offset, rest) = length_of(rest)?;
-    let (length, rest) = declared_of(rest)?;
-    let (bytes, rest) = piece_of(alloc, rest)?;
-    let patch = Patch {
-        id: Id::new(number),
-        media,
-        offset,
-        length,
-        bytes,
-    };
-    Ok((patch, rest))
-}
-
-/// A request, with a byte before it that says which kind it is, and what follows it.
-#[tactic(auto, unfolding(crate::specs::Reading::asked_for_at))]
-fn request_of(alloc: Global, bytes: &[u8]) -> Result<(Request, &[u8]), Unread>
-    ensures { ReadsAs (λ x. (x.0, x.1.now)) result (asked_for_at bytes.now) }
-{
-    match bytes {
-        [0, rest @ ..] => Ok((Request::Options, rest)),
-        [1, rest @ ..] => {
-            let (new, rest) = new_upload_of(alloc, rest)?;
-            Ok((Request::Create(new), rest))
-        }
-        [2, rest @ ..] => {
-            let (number, rest) = number_of(rest)?;
-            Ok((Request::Head(Id::new(number)), rest))
-        }
-        [3, rest @ ..] => {
-            let (patch, rest) = patch_of(alloc, rest)?;
-            Ok((Request::Patch(patch), rest))
-        }
-        [4, rest @ ..] => {
-            let (number, rest) = number_of(rest)?;
-            Ok((Request::Delete(Id::new(number)), rest))
-        }
-        [5, rest @ ..] => {
-            let (number, rest) = number_of(rest)?;
-            Ok((Request::Get(Id::new(number)), rest))
-        }
-        _ => Err(Unread::Damaged),
-    }
-}
-
-/// An entry, and what follows it.
-#[tactic(auto, unfolding(crate::specs::Reading::entry_at))]
-fn entry_of(alloc: Global, bytes: &[u8]) -> Result<(Entry, &[u8]), Unread>
-    ensures { ReadsAs (λ x. (x.0, x.1.now)) result (entry_at bytes.now) }
-{
-    let (number, rest) = number_of(bytes)?;
-    let (consent, rest) = consent_of(rest)?;
-    let (request, rest) = request_of(alloc, rest)?;
-    let entry = Entry {
-        id: Id::new(number),
-        consent,
-        request,
-    };
-    Ok((entry, rest))
-}
-
-/// `count` entries, and what follows them.
-fn so_many_entries(
-    alloc: Global,
-    count: u64,
-    bytes: &[u8],
-) -> Result<(Sequence<Entry>, &[u8]), Unread>
-    ensures { ReadsAs (λ x. (x.0, x.1.now)) result (so_many_at entry_at count bytes.now) }
-{
-    let mut entries = Sequence::new(alloc);
-    let mut rest = bytes;
-    for _ in 0..count {
-        let (entry, after) = entry_of(alloc, rest)?;
-        entries.push(entry)?;
-        rest = after;
-    }
-    Ok((entries, rest))
-}
-
 /// A number of bytes with their count before them. They are not copied.
 #[tactic(auto, unfolding(crate::specs::Reading::text_at))]
 fn span_of(bytes: &[u8]) -> Result<(&[u8], &[u8]), Unread>
@@ -326,24 +241,118 @@ fn span_of(bytes: &[u8]) -> Result<(&[u8], &[u8]), Unread>
     Ok(rest.split_at(count))
 }
 
-/// The batch that these bytes encode.
-#[tactic(auto, unfolding(crate::specs::Reading::whole_at))]
-pub(crate) fn whole_batch(alloc: Global, bytes: &[u8]) -> Result<Sequence<Entry>, Unread>
-    ensures { ReadsAs (λ x. x) result (whole_at bytes.now) }
+/// Where bytes in data files begin, and what follows it.
+#[tactic(auto, unfolding(crate::specs::Reading::position_at))]
+fn position_of(bytes: &[u8]) -> Result<(Position, &[u8]), Unread>
+    ensures { ReadsAs (λ x. (x.0, x.1.now)) result (position_at bytes.now) }
 {
-    let (entries, rest) = read_batch(alloc, bytes)?;
-    if !rest.is_empty() {
-        return Err(Unread::Damaged);
-    }
-    Ok(entries)
+    let (file, rest) = word_of(bytes)?;
+    let (at, rest) = word_of(rest)?;
+    Ok((Position { file, at }, rest))
 }
 
-/// The entries at the start of the bytes, and the bytes after them.
-#[tactic(auto, unfolding(crate::specs::Reading::batch_at, crate::specs::Reading::many_at))]
-fn read_batch(alloc: Global, bytes: &[u8]) -> Result<(Sequence<Entry>, &[u8]), Unread>
-    // Exactly what the definition decodes.
-    ensures exact { ReadsAs (λ x. (x.0, x.1.now)) result (batch_at bytes.now) }
+/// What data files have at a place.
+fn piece_at<C: Contents>(
+    alloc: Global,
+    files: &C,
+    start: Position,
+    len: usize,
+) -> Result<Piece, Unread>
+    ensures there { IfOk result (λ piece. piece ≡ C.content files.now start.file start.at len) }
+    ensures cause { IfErr result (λ fault. fault ≡ Damaged → ⊥) }
 {
-    let (count, rest) = word_of(bytes)?;
-    so_many_entries(alloc, count, rest)
+    match files.place(start, len) {
+        Ok(place) => Ok(Piece::at(alloc, place)?),
+        Err(_) => Err(Unread::NotThere(start)),
+    }
+}
+
+/// The bytes of a PATCH, copied, or those that data files have where it says, and what follows them.
+#[tactic(auto, unfolding(crate::specs::Reading::placed_at))]
+fn placed_of<'a, C: Contents>(
+    alloc: Global,
+    files: &C,
+    is_placed: bool,
+    bytes: &'a [u8],
+) -> Result<((Option<Position>, Piece), &'a [u8]), Unread>
+    ensures { ReadsAs (λ x. (x.0, x.1.now)) result
+        (placed_at (C.content files.now) is_placed bytes.now) }
+{
+    if !is_placed {
+        let (piece, rest) = piece_of(alloc, bytes)?;
+        return Ok(((None, piece), rest));
+    }
+    let (start, rest) = position_of(bytes)?;
+    let (count, rest) = word_of(rest)?;
+    let piece = piece_at(alloc, files, start, count as usize)?;
+    Ok(((Some(start), piece), rest))
+}
+
+/// The request to append to an upload, with the place of its bytes if that is given in their stead, and what follows it.
+#[tactic(auto, unfolding(crate::specs::Reading::patch_at))]
+fn patch_of<'a, C: Contents>(
+    alloc: Global,
+    files: &C,
+    is_placed: bool,
+    bytes: &'a [u8],
+) -> Result<((Option<Position>, Patch), &'a [u8]), Unread>
+    ensures { ReadsAs (λ x. (x.0, x.1.now)) result
+        (patch_at (C.content files.now) is_placed bytes.now) }
+{
+    let (number, rest) = number_of(bytes)?;
+    let (media, rest) = flag_of(rest)?;
+    let (offset, rest) = length_of(rest)?;
+    let (length, rest) = declared_of(rest)?;
+    let (body, rest) = placed_of(alloc, files, is_placed, rest)?;
+    let (place, bytes) = body;
+    let patch = Patch {
+        id: Id::new(number),
+        media,
+        offset,
+        length,
+        bytes,
+    };
+    Ok(((place, patch), rest))
+}
+
+/// A request, with a byte before it that says which kind it is, and the place of its bytes; and what follows it.
+#[tactic(auto, unfolding(crate::specs::Reading::asked_for_at))]
+pub(crate) fn request_of<'a, C: Contents>(
+    alloc: Global,
+    files: &C,
+    bytes: &'a [u8],
+) -> Result<((Option<Position>, Request), &'a [u8]), Unread>
+    ensures { ReadsAs (λ x. (x.0, x.1.now)) result
+        (asked_for_at (C.content files.now) bytes.now) }
+{
+    match bytes {
+        [0, rest @ ..] => Ok(((None, Request::Options), rest)),
+        [1, rest @ ..] => {
+            let (new, rest) = new_upload_of(alloc, rest)?;
+            Ok(((None, Request::Create(new)), rest))
+        }
+        [2, rest @ ..] => {
+            let (number, rest) = number_of(rest)?;
+            Ok(((None, Request::Head(Id::new(number))), rest))
+        }
+        [3, rest @ ..] => {
+            let (patch, rest) = patch_of(alloc, files, false, rest)?;
+            let (place, patch) = patch;
+            Ok(((place, Request::Patch(patch)), rest))
+        }
+        [4, rest @ ..] => {
+            let (number, rest) = number_of(rest)?;
+            Ok(((None, Request::Delete(Id::new(number))), rest))
+        }
+        [5, rest @ ..] => {
+            let (number, rest) = number_of(rest)?;
+            Ok(((None, Request::Get(Id::new(number))), rest))
+        }
+        [6, rest @ ..] => {
+            let (patch, rest) = patch_of(alloc, files, true, rest)?;
+            let (place, patch) = patch;
+            Ok(((place, Request::Patch(patch)), rest))
+        }
+        _ => Err(Unread::Damaged),
+    }
 }

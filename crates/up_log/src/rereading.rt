@@ -14,6 +14,7 @@ use crate::heading::BEGINNING;
 use sqlite_disk::Disk;
 use std::alloc::Global;
 use up_message::Sequence;
+use up_places::Contents;
 
 impl<D: Disk> Log<D> {
     /// The place of the first batch.
@@ -30,15 +31,17 @@ impl<D: Disk> Log<D> {
         self.gate
     }
 
-    /// The batch at a place, and the place after it; `None` at the end. The log is unchanged, also after an error.
-    pub fn batch_at(
+    /// The batch at a place, and the place after it; `None` at the end. These data files have the bytes of which it
+    /// names the place. The log is unchanged, also after an error.
+    pub fn batch_at<C: Contents>(
         &mut self,
         alloc: Global,
         place: usize,
+        files: &C,
     ) -> Result<Option<(Sequence<Entry>, usize)>, LogFault>
         ensures reads { (setup : Numbers) (read left : List (List Logged))
             → IsSettled D.Disk self.old setup (read ++ left) → place ≡ length (written setup read)
-            → IsCleanLog D.Disk self.new → ReadsAt setup read left result }
+            → IsCleanLog D.Disk self.new → ReadsAt (C.content files.now) setup read left result }
         ensures further { IfOk result (λ found. IfSome found (λ block.
             (place < self.old.gate) × (place < block.1))) }
         ensures kept { (setup : Numbers) (batches : List (List Logged))
@@ -53,7 +56,7 @@ impl<D: Disk> Log<D> {
             return Ok(None);
         }
         let len = len_of(&mut self.device)?;
-        let (entries, next) = block_at(alloc, &mut self.device, len, place)?;
+        let (entries, next) = block_at(alloc, &mut self.device, files, len, place)?;
         Ok(Some((entries, next)))
     }
 }

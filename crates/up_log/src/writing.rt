@@ -1,7 +1,7 @@
 //! Encoding entries.
 ghost use Rattle.std.specs.Prelude.{◌≡◌, ◌++◌, [], IfOk, OnOk};
 ghost use Rattle.up_log.specs.Spelling.{word, id, text, maybe, many, flag, kind, consent, declared_length, pair};
-ghost use Rattle.up_log.specs.Spelling.{new_upload, patch, asked_for, entry, batch};
+ghost use Rattle.up_log.specs.Spelling.{new_upload, position, placed, patch, patch_kind, asked_for, entry};
 
 use crate::entry::{Consent, Entry};
 use bytes::Bytes;
@@ -9,6 +9,7 @@ use std::alloc::{AllocError, Global};
 use up_events::{Id, Kind};
 use up_headers::{NewUpload, NotDigits, Pairs, Patch, Request};
 use up_message::{MIN_SHARED, Piece, Sequence};
+use up_places::Position;
 
 /// A number as eight bytes, the lowest first.
 #[tactic(auto, unfolding(crate::specs::Spelling::word))]
@@ -69,7 +70,7 @@ fn nothing() -> Bytes
 fn put_piece(out: &mut Vec<u8>, bytes: &Piece) -> Result<Bytes, AllocError>
     ensures { IfOk result (λ back. out.new.items ++ back ≡ out.old.items ++ text bytes.now) }
 {
-    // No entry can name a place yet, and nothing puts bodies into data files yet.
+    // Bytes at a place are named, and not put.
     let Some(shared) = bytes.in_memory_shared()? else {
         return Err(AllocError);
     };
@@ -79,6 +80,33 @@ fn put_piece(out: &mut Vec<u8>, bytes: &Piece) -> Result<Bytes, AllocError>
     }
     out.extend_from_slice(shared.as_slice())?;
     Ok(nothing())
+}
+
+/// Puts where bytes in data files begin.
+fn put_position(out: &mut Vec<u8>, start: Position) -> Result<(), AllocError>
+    ensures { OnOk result (out.new.items ≡ out.old.items ++ position start) }
+{
+    put_word(out, start.file)?;
+    put_word(out, start.at)
+}
+
+/// Puts bytes as `put_piece` does, or where they begin in data files and how many they are.
+fn put_placed(
+    out: &mut Vec<u8>,
+    place: Option<Position>,
+    bytes: &Piece,
+) -> Result<Bytes, AllocError>
+    ensures { IfOk result (λ back.
+        out.new.items ++ back ≡ out.old.items ++ placed place bytes.now) }
+{
+    match place {
+        None => put_piece(out, bytes),
+        Some(start) => {
+            put_position(out, start)?;
+            put_word(out, bytes.len() as u64)?;
+            Ok(nothing())
+        }
+    }
 }
 
 /// Puts a length, or that there is none.
@@ -193,20 +221,35 @@ fn put_new_upload(out: &mut Vec<u8>, new: &NewUpload) -> Result<(), AllocError>
 }
 
 /// Returns the bytes that are still to be put, as `put_piece` does.
-fn put_patch(out: &mut Vec<u8>, sent: &Patch) -> Result<Bytes, AllocError>
-    ensures { IfOk result (λ back. out.new.items ++ back ≡ out.old.items ++ patch sent.now) }
+fn put_patch(out: &mut Vec<u8>, place: Option<Position>, sent: &Patch) -> Result<Bytes, AllocError>
+    ensures { IfOk result (λ back.
+        out.new.items ++ back ≡ out.old.items ++ patch place sent.now) }
 {
     put_id(out, sent.id)?;
     put_flag(out, sent.media)?;
     put_length(out, sent.offset)?;
     put_declared(out, sent.length)?;
-    put_piece(out, &sent.bytes)
+    put_placed(out, place, &sent.bytes)
+}
+
+/// The kind of a PATCH whose bytes are in the entry, or in data files.
+fn kind_of_patch(place: Option<Position>) -> u8
+    ensures { result ≡ patch_kind place }
+{
+    match place {
+        None => 3,
+        Some(_) => 6,
+    }
 }
 
 /// Returns the bytes that are still to be put, as `put_piece` does.
-fn put_request(out: &mut Vec<u8>, request: &Request) -> Result<Bytes, AllocError>
+fn put_request(
+    out: &mut Vec<u8>,
+    place: Option<Position>,
+    request: &Request,
+) -> Result<Bytes, AllocError>
     ensures { IfOk result (λ back.
-        out.new.items ++ back ≡ out.old.items ++ asked_for request.now) }
+        out.new.items ++ back ≡ out.old.items ++ asked_for place request.now) }
 {
     match request {
         Request::Options => out.push(0)?,
@@ -219,8 +262,8 @@ fn put_request(out: &mut Vec<u8>, request: &Request) -> Result<Bytes, AllocError
             put_id(out, *upload)?;
         }
         Request::Patch(sent) => {
-            out.push(3)?;
-            return put_patch(out, sent);
+            out.push(kind_of_patch(place))?;
+            return put_patch(out, place, sent);
         }
         Request::Delete(upload) => {
             out.push(4)?;
@@ -240,7 +283,7 @@ pub(crate) fn put_entry(out: &mut Vec<u8>, logged: &Entry) -> Result<Bytes, Allo
 {
     put_id(out, logged.id)?;
     put_consent(out, logged.consent)?;
-    put_request(out, &logged.request)
+    put_request(out, logged.place, &logged.request)
 }
 
 /// The approximate number of bytes of an entry that are not shared. A buffer with this much room mostly does not move

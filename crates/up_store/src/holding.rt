@@ -8,6 +8,7 @@ use std::sync::atomic::Ordering;
 use up_history::Chronicle;
 use up_log::{Entry, LogFault};
 use up_message::Sequence;
+use up_places::NoFiles;
 use up_tie::Site;
 
 impl<D: Disk, N, J: Site, K: Chronicle> Store<D, N, J, K> {
@@ -33,7 +34,7 @@ impl<D: Disk, N, J: Site, K: Chronicle> Store<D, N, J, K> {
         place: usize,
     ) -> Result<Option<(Sequence<Entry>, usize)>, LogFault> {
         match self.log.lock(rt).written_mut() {
-            Some(written) => written.batch_at(alloc, place),
+            Some(written) => written.batch_at(alloc, place, &NoFiles),
             None => Err(LogFault::NotRead),
         }
     }

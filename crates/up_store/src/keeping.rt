@@ -1,5 +1,6 @@
 //! Conversations whose changes are written to a log before they are made.
 ghost use Rattle.std.specs.Prelude.{◌≡◌, [], List, IfOk, IsTrue};
+ghost use Rattle.up_log.specs.Held.{AreHeld};
 ghost use Rattle.up_log.specs.Logs.{IsReaderAt};
 ghost use Rattle.up_log.specs.declared.entry.Entry.{Entry as Logged};
 ghost use Rattle.up_hooks.specs.MayAnswer.{ClosuresMayAnswer};
@@ -8,6 +9,7 @@ ghost use Rattle.up_dispatch.specs.Exchanges.{KeepsBorrows, stand_in};
 ghost use Rattle.up_dispatch.specs.Keepers.{seat_state};
 ghost use Rattle.up_dispatch.specs.Turn.{Converses, no_disk};
 ghost use Rattle.up_dispatch.specs.Lists.{EachAt};
+ghost use Rattle.up_places.specs.Places.{no_content};
 ghost use Rattle.up_store.specs.Permits.{HasCounted, counted_in};
 ghost use Rattle.up_store.specs.StoredCommits.{by_stored_seat};
 
@@ -30,6 +32,7 @@ use up_handed::Counted;
 use up_history::{Chronicle, Trail};
 use up_hooks::PreHooks;
 use up_log::{Entry, LogReader};
+use up_places::NoFiles;
 use up_tie::{Reading, Site};
 use up_wire::{Sink, Source};
 
@@ -38,7 +41,7 @@ use up_wire::{Sink, Source};
 #[derive(Drop)]
 pub struct Keeping<D: Disk, N, F, J: Site, K: Chronicle> {
     /// The log of the changes, and that of the voids, until they are read.
-    readers: Mutex<Option<(Reading<D, J>, LogReader<D>)>>,
+    readers: Mutex<Option<(Reading<D, NoFiles, J>, LogReader<D>)>>,
     pub(crate) store: Store<D, N, J, K>,
     pub(crate) shortening: Shortening<D, F>,
     pub(crate) permit: Permit,
@@ -65,11 +68,12 @@ impl<D: Disk, N, F, J: Site, K: Chronicle> Keeping<D, N, F, J, K> {
         requires written { histories.written ≡ J.history }
         requires drawn { histories.drawn ≡ K.history }
         requires reader { J.premise
-            → (batches : List (List Logged)) × IsReaderAt D.Disk changes J.setup [] batches }
+            → (batches : List (List Logged)) × IsReaderAt D.Disk changes J.setup [] batches
+            × AreHeld no_content batches }
         ensures { IfOk result (λ keeping. counted_in keeping.permit ≡ counted.items) }
     {
         let (store, history) = Store::unread(alloc, notices, histories)?;
-        let reading = Reading::new(changes, history);
+        let reading = Reading::new(changes, NoFiles, history);
         Ok(Keeping {
             store,
             readers: Mutex::new(Some((reading, voids))),

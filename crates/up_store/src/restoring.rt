@@ -21,6 +21,7 @@ use up_history::{Chronicle, Front, Receipt};
 use up_log::{Entry, LogReader};
 use up_machine::Refusal;
 use up_message::Sequence;
+use up_places::NoFiles;
 use up_replay::{Unreplayed, fits};
 use up_tie::{Reading, Site, Written};
 
@@ -103,9 +104,9 @@ fn take_in_log<B: Naming, D: Disk, J: Site, R: Wait>(
     alloc: Global,
     board: &Board<B>,
     seat: &mut Seat<B>,
-    changes: Reading<D, J>,
+    changes: Reading<D, NoFiles, J>,
     voids: &BTreeSet<u64>,
-) -> Result<Reading<D, J>, Unrestored>
+) -> Result<Reading<D, NoFiles, J>, Unrestored>
 where
     D: Drop,
     requires same { J.history ≡ B.history }
@@ -196,7 +197,7 @@ impl<D: Disk, N, J: Site, K: Chronicle> Store<D, N, J, K> {
         alloc: Global,
         board: &Board<B>,
         seat: &mut Seat<B>,
-        readers: (Reading<D, J>, LogReader<D>),
+        readers: (Reading<D, NoFiles, J>, LogReader<D>),
         least: &Least<'_>,
     ) -> Result<Logs<D, J>, Unrestored>
     where

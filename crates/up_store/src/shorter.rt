@@ -12,6 +12,7 @@ use up_handed::EndedUpload;
 use up_history::Chronicle;
 use up_log::{Log, LogFault, LogReader};
 use up_message::Sequence;
+use up_places::NoFiles;
 use up_tie::Site;
 
 /// Why a log was not replaced by a shorter one.
@@ -65,7 +66,7 @@ where
     D: Drop,
 {
     let mut reader = reader;
-    if reader.next_batch(alloc)?.is_some() {
+    if reader.next_batch(alloc, &NoFiles)?.is_some() {
         return Err(LogFault::Foreign);
     }
     finished(reader)

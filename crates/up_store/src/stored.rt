@@ -18,7 +18,7 @@ use up_dispatch::{Board, Keeper, Naming, Seat};
 use up_events::{Id, MAX_UPLOAD_BYTES};
 use up_headers::Request;
 use up_history::{Chronicle, Receipt, Trail};
-use up_log::{Consent, Entry, Spelled};
+use up_log::{Consent, Entry, Spelled, place_of};
 use up_machine::{Asked, Done, Plan, Refusal};
 use up_tie::Site;
 
@@ -183,6 +183,7 @@ impl<B: Naming, D: Disk + Drop, N: StoreNotices + LogFile<D>, J: Site, K: Chroni
         let entry = Entry {
             id,
             consent,
+            place: place_of(&request),
             request,
         };
         let Ok(Some(receipt)) = self.keep(alloc, &entry) else {

@@ -3,8 +3,8 @@ use sqlite_disk::Disk;
 use std::alloc::{AllocError, Global};
 use std::collections::BTreeSet;
 use up_events::Id;
-use up_headers::Request;
-use up_log::{Consent, Entry, Log, LogFault, LogReader, Spelled};
+use up_log::{Entry, Log, LogFault, LogReader, Spelled};
+use up_places::NoFiles;
 
 /// The places of the entries of a log that are on the disk and were not carried out, because memory ran out or the
 /// board was closed. They have a log of their own, where each is an entry that asks for nothing and has the place as
@@ -40,11 +40,7 @@ const ROOM: usize = 64;
 
 /// The entry for this place.
 fn void_of(place: u64) -> Entry {
-    Entry {
-        id: Id::new(u128::from(place)),
-        consent: Consent::Skipped,
-        request: Request::Options,
-    }
+    Entry::nothing(Id::new(u128::from(place)))
 }
 
 /// Adds the places of these entries.
@@ -64,7 +60,7 @@ fn read_places<D: Disk>(
     places: &mut BTreeSet<u64>,
 ) -> Result<(), LogFault> {
     for _ in 0..u64::MAX {
-        let Some(entries) = reader.next_batch(alloc)? else {
+        let Some(entries) = reader.next_batch(alloc, &NoFiles)? else {
             break;
         };
         take_places(places, entries.as_slice())?;
@@ -103,7 +99,7 @@ impl<D: Disk> Voids<D> {
         let mut places = BTreeSet::new(alloc);
         let mut place = Log::<D>::first_place();
         for _ in 0..u64::MAX {
-            let Some((entries, next)) = self.log.batch_at(alloc, place)? else {
+            let Some((entries, next)) = self.log.batch_at(alloc, place, &NoFiles)? else {
                 break;
             };
             take_places(&mut places, entries.as_slice())?;

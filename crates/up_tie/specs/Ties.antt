@@ -1,11 +1,13 @@
 -- What ties a log, and what is on its disk, to histories.
 use Rattle.std.specs.Prelude.{◌≡◌, ◌⊎◌, ◌<◌, ◌+◌, ℕ, Bool, false, List, IsTrue, Some, slice_get}
 use Rattle.sqlite_disk.specs.declared.Disk.{Ghosts}
+use Rattle.up_log.specs.Held.{AreHeld}
 use Rattle.up_log.specs.Logs.{IsCleanLog, IsCleanReader, IsReaderAt, IsSettled}
 use Rattle.up_log.specs.declared.appending.Log.{Log}
 use Rattle.up_log.specs.declared.entry.Entry.{Entry}
 use Rattle.up_log.specs.declared.reader.LogReader.{LogReader}
 use Rattle.up_log.specs.declared.setup.Setup.{Setup}
+use Rattle.up_places.specs.Places.{Content}
 use Rattle.up_replay.specs.Replay.{entries_of}
 
 -- all of the log is on the disk, in batches that satisfy P; or a call of the log failed, and it accepts no more
@@ -18,10 +20,11 @@ IsSettledAs g log setup premise P =
 abbrev pub LogContains : {D : Type 0} → Ghosts D → Log D → Setup → Type 0 → List Entry → Type 0
 LogContains g log setup premise entries = IsSettledAs g log setup premise (λ batches. entries_of batches ≡ entries)
 
--- of a log that is being read, these entries were read
-abbrev pub HasRead : {D : Type 0} → Ghosts D → LogReader D → Setup → Type 0 → List Entry → Type 0
-HasRead g reader setup premise entries =
-    premise → IsCleanReader g reader → (read : List (List Entry)) × (left : List (List Entry)) × IsReaderAt g reader setup read left × (entries_of read ≡ entries)
+-- of a log that is being read, these entries were read; data files of this content hold what the others name
+abbrev pub HasRead : {D : Type 0} → Ghosts D → Content → LogReader D → Setup → Type 0 → List Entry → Type 0
+HasRead g content reader setup premise entries =
+    premise → IsCleanReader g reader → (read : List (List Entry)) × (left : List (List Entry)) × IsReaderAt g reader setup read left
+    × AreHeld content left × (entries_of read ≡ entries)
 
 -- a log, the entries that were written to it, and whether it is known to contain exactly these
 pub record TiedLog (D : Type 0) : Type 0 where

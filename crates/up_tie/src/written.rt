@@ -19,6 +19,7 @@ use std::marker::Model;
 use up_history::{Chronicle, Front, History};
 use up_log::{Entry, Log, LogFault, Spelled};
 use up_message::Sequence;
+use up_places::Contents;
 
 /// Entries are added to a history by what is encoded of them.
 struct OfSpelled;
@@ -156,17 +157,19 @@ impl<D: Disk, J: Site> Written<D, J> {
         self.log.is_broken()
     }
 
-    /// The batch at a place of the file, and the place after it; `None` at the end. The log is unchanged, also after an
-    /// error.
-    pub fn batch_at(
+    /// The batch at a place of the file, and the place after it; `None` at the end. These data files have the bytes of
+    /// which it names the place. The log is unchanged, also after an error.
+    pub fn batch_at<C: Contents>(
         &mut self,
         alloc: Global,
         place: usize,
+        files: &C,
     ) -> Result<Option<(Sequence<Entry>, usize)>, LogFault>
         ensures reads { (setup : Numbers) (read left : List (List Logged))
             → IsSettled D.Disk self.old.log setup (read ++ left)
             → place ≡ length (written setup read)
-            → IsCleanLog D.Disk self.new.log → ReadsAt setup read left result }
+            → IsCleanLog D.Disk self.new.log
+            → ReadsAt (C.content files.now) setup read left result }
         ensures kept { (setup : Numbers) (batches : List (List Logged))
             → IsSettled D.Disk self.old.log setup batches
             → IsSettled D.Disk self.new.log setup batches }
@@ -180,7 +183,7 @@ impl<D: Disk, J: Site> Written<D, J> {
         ensures same { (self.new.entries ≡ self.old.entries)
             × (self.new.is_tied ≡ self.old.is_tied) }
     {
-        self.log.batch_at(alloc, place)
+        self.log.batch_at(alloc, place, files)
     }
 
     /// Appends changes to the log as one batch, and returns once the batch is on the disk. Then adds them to the

@@ -9,8 +9,8 @@ returns-then-size-eq0-clause-entries g c = λ first is clean damaged.
 
 pub returns-in-Ok-clause-entries : goal.returns-in-Ok-clause-entries
 returns-in-Ok-clause-entries g c = λ first is clean.
-    batch_read first c.in-Ok.entries c.deref.result.now (c.deref.ensures.value ∙ c.in_ok-bytes.ensures.bytes clean ∙ is) c.in-Ok.ensures
+    batch_read (g.C.Contents.content c.args.files.now) first c.in-Ok.entries c.deref.result.now (c.deref.ensures.value ∙ c.in_ok-bytes.ensures.bytes clean ∙ is) c.in-Ok.ensures
 
 pub returns-clause-entries : goal.returns-clause-entries
 returns-clause-entries g c = λ first is clean damaged.
-    batch_reads first c.deref.result.now (c.deref.ensures.value ∙ c.in_ok-bytes.ensures.bytes clean ∙ is) (none_by c.in-Err.fault (whole_at c.deref.result.now) c.in-Err.ensures (c.log_fault.ensures.damage damaged))
+    batch_reads (g.C.Contents.content c.args.files.now) first c.deref.result.now (c.deref.ensures.value ∙ c.in_ok-bytes.ensures.bytes clean ∙ is) (none_by c.in-Err.fault (whole_at (g.C.Contents.content c.args.files.now) c.deref.result.now) c.in-Err.ensures (c.log_fault.ensures.damage damaged))

@@ -5,44 +5,52 @@ use Rattle.up_log.proofs.reading.request_of.Goals as goal
 
 pub returns-in_err-new-in-1 : goal.returns-in_err-new-in-1
 unfolding asked_for_at
-returns-in_err-new-in-1 c = grind (arith, common_steps)
+returns-in_err-new-in-1 g c = grind (arith, common_steps)
 
 pub returns-in_err-number-in-2 : goal.returns-in_err-number-in-2
 unfolding asked_for_at
-returns-in_err-number-in-2 c = grind (arith, common_steps)
+returns-in_err-number-in-2 g c = grind (arith, common_steps)
 
 pub returns-in_err-patch-in-3 : goal.returns-in_err-patch-in-3
 unfolding asked_for_at
-returns-in_err-patch-in-3 c = grind (arith, common_steps)
+returns-in_err-patch-in-3 g c = grind (arith, common_steps)
 
 pub returns-in_err-number-in-4 : goal.returns-in_err-number-in-4
 unfolding asked_for_at
-returns-in_err-number-in-4 c = grind (arith, common_steps)
+returns-in_err-number-in-4 g c = grind (arith, common_steps)
 
 pub returns-in_err-number-in-5 : goal.returns-in_err-number-in-5
 unfolding asked_for_at
-returns-in_err-number-in-5 c = grind (arith, common_steps)
+returns-in_err-number-in-5 g c = grind (arith, common_steps)
 
 pub returns-in_ok-new-in-1 : goal.returns-in_ok-new-in-1
 unfolding asked_for_at
-returns-in_ok-new-in-1 c = grind (arith, common_steps)
+returns-in_ok-new-in-1 g c = grind (arith, common_steps)
 
 pub returns-in_ok-number-in-2 : goal.returns-in_ok-number-in-2
 unfolding asked_for_at
-returns-in_ok-number-in-2 c = grind (arith, common_steps)
+returns-in_ok-number-in-2 g c = grind (arith, common_steps)
 
 pub returns-in_ok-patch-in-3 : goal.returns-in_ok-patch-in-3
 unfolding asked_for_at
-returns-in_ok-patch-in-3 c = grind (arith, common_steps)
+returns-in_ok-patch-in-3 g c = grind (arith, common_steps)
 
 pub returns-in_ok-number-in-4 : goal.returns-in_ok-number-in-4
 unfolding asked_for_at
-returns-in_ok-number-in-4 c = grind (arith, common_steps)
+returns-in_ok-number-in-4 g c = grind (arith, common_steps)
 
 pub returns-in_ok-number-in-5 : goal.returns-in_ok-number-in-5
 unfolding asked_for_at
-returns-in_ok-number-in-5 c = grind (arith, common_steps)
+returns-in_ok-number-in-5 g c = grind (arith, common_steps)
+
+pub returns-in_err-patch-in-6 : goal.returns-in_err-patch-in-6
+unfolding asked_for_at
+returns-in_err-patch-in-6 g c = grind (arith, common_steps)
+
+pub returns-in_ok-patch-in-6 : goal.returns-in_ok-patch-in-6
+unfolding asked_for_at
+returns-in_ok-patch-in-6 g c = grind (arith, common_steps)
 
 pub returns-in_default : goal.returns-in_default
 unfolding asked_for_at
-returns-in_default c = grind (arith, common_steps)
+returns-in_default g c = grind (arith, common_steps)

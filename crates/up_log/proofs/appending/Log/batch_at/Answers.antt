@@ -33,13 +33,10 @@ returns-clause-reads g c = λ setup read left settled is clean.
     let seen = g.D.Disk.seen c.args.self.now.device in
     let place = c.args.place in
     let len = c.in_ok-len.len in
-    let entries = c.in_ok-entries.entries in
     let len_is = c.in_ok-len.ensures.len (c.block_at.ensures.clean clean) in
     let part = part_of setup seen place len read left settled.file is len_is in
     let found = some_left setup c.args.self.now.gate place read left settled.place is c.if-place-self.false in
     let same = c.len_of.ensures.seen in
     let tail = ap (λ (l : List ℕ). drop place l) same ∙ tail_is setup seen place len read left part ∙ ap (λ (l : List (List Entry)). blocks l ++ part.back) found.2 in
     let block = c.in_ok-entries.ensures.block found.0 found.1 part.back tail (len_is ∙ ap length (sym same)) clean in
-    let are = found.2 ∙ ap (λ (f : List Entry). f ∷ found.1) (sym block.0) in
-    let next = block.1 ∙ ap (λ (f : List Entry). place + 9 + length (batch f)) (sym block.0) in
-    (found.1, are, (goes_on setup seen place len c.in_ok-entries.next read left found.1 entries part are next).place)
+    (found.0, found.1, found.2, block.0, (goes_on setup seen place len c.in_ok-entries.next read left found.1 found.0 part found.2 block.1).place)

@@ -19,14 +19,14 @@ returns-clause-reads g c = λ setup read left reading clean.
     let same = c.begins_at.ensures.seen in
     let tail_then = ap (λ (l : List ℕ). drop gate l) same ∙ tail ∙ ap (λ (l : List (List Entry)). blocks l ++ part.back) next.2 in
     let block = c.in_ok-entries.ensures.block first others part.back tail_then (part.len_is ∙ ap length (sym same)) clean in
-    let are = next.2 ∙ ap (λ (f : List Entry). f ∷ others) (sym block.0) in
-    let place = block.1 ∙ ap (λ (f : List Entry). gate + 9 + length (batch f)) (sym block.0) in
-    let on = goes_on setup seen gate len c.in_ok-entries.gate read left others c.in_ok-entries.entries part are place in
+    let on = goes_on setup seen gate len c.in_ok-entries.gate read left others first part next.2 block.1 in
     let all = c.block_at.ensures.seen ∙ same in (
+      first,
       others,
-      are,
+      next.2,
+      block.0,
       (
-        subst (λ (f : List ℕ). IsFileReadUpTo setup f c.in_ok-entries.gate len (read ++ c.in_ok-entries.entries ∷ []) others) (sym all) on,
+        subst (λ (f : List ℕ). IsFileReadUpTo setup f c.in_ok-entries.gate len (read ++ first ∷ []) others) (sym all) on,
         λ d now. reading.1 d (c.begins_at.ensures.crash d (c.block_at.ensures.crash d now)) ∙ sym all,
       ),
     )

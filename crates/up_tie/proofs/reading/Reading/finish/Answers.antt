@@ -5,4 +5,4 @@ pub tied-requires : goal.tied-requires
 tied-requires g c = λ premise clean.
     let read = c.self.invariant premise (c.in-Ok.ensures.clean clean) in
     let done = c.in-Ok.ensures.settled g.J.Site.setup read.0 read.1 read.2 clean in
-    inr (read.0, done.1, read.3)
+    inr (read.0, done.1, read.4)
