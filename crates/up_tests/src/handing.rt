@@ -75,6 +75,22 @@ fn told<F>(recorder: &Recorder<F>) -> (u64, usize) {
     }
 }
 
+/// A run with this count that hands over the events from the first to this number.
+fn run_on<F: Fn(&Event) -> Outcome + Send + Copy, D: Disk + Send + Drop>(
+    alloc: Global,
+    answer: F,
+    handed: Handed<D>,
+    events: u64,
+) -> Continued<Recorder<F>, D>
+    requires callable { F.IsAlwaysCallable answer }
+    requires codes { AnswersWithCodes F.Fn answer }
+    requires on_disk { IsOnDisk D.Disk (device_of handed) (count_of handed) }
+{
+    let mut run = Continued::new(Recorder::new(alloc, answer), handed);
+    hand_over(&mut run, events);
+    run
+}
+
 /// A run with this file that hands over the events from the first to this number.
 fn run_over<F: Fn(&Event) -> Outcome + Send + Copy, D: Disk + Send + Drop>(
     alloc: Global,
@@ -86,9 +102,7 @@ fn run_over<F: Fn(&Event) -> Outcome + Send + Copy, D: Disk + Send + Drop>(
     requires codes { AnswersWithCodes F.Fn answer }
 {
     let handed = opened(device)?;
-    let mut run = Continued::new(Recorder::new(alloc, answer), handed);
-    hand_over(&mut run, events);
-    Ok(run)
+    Ok(run_on(alloc, answer, handed, events))
 }
 
 /// The file that a run leaves after it handed over this number of events.
@@ -132,24 +146,23 @@ fn what_earlier_runs_handed_over_is_passed_over(rt: HostRuntime) {
     }
 }
 
-/// The number of events, out of three, that a run hands over if its disk fails from some call on, and the number of the
-/// first event that the next run hands over after a crash.
-fn crashed<F: Fn(&Event) -> Outcome + Send + Copy>(
+/// The number of events, out of three, that a run with this file hands over, and the number of the first event that the
+/// next run hands over after a crash.
+fn crashed<F: Fn(&Event) -> Outcome + Send + Copy, D: Crash + Send + Drop>(
     alloc: Global,
     answer: F,
-    calls: u64,
+    device: D,
 ) -> Result<(usize, u64), HandedFault>
     requires callable { F.IsAlwaysCallable answer }
     requires codes { AnswersWithCodes F.Fn answer }
 {
-    let first = run_over(alloc, answer, Fuse::new(Memory::new(alloc), calls), 3)?;
+    let first = run_over(alloc, answer, device, 3)?;
     let (_, count) = told(first.hook());
     let handed = match restart(first) {
         Ok(handed) => handed,
         Err(refused) => return Err(refused.fault),
     };
-    let mut next = Continued::new(Recorder::new(alloc, answer), handed);
-    hand_over(&mut next, 4);
+    let next = run_on(alloc, answer, handed, 4);
     let (number, _) = told(next.hook());
     Ok((count, number))
 }
@@ -157,7 +170,7 @@ fn crashed<F: Fn(&Event) -> Outcome + Send + Copy>(
 #[test]
 fn a_crash_repeats_one_event_at_most(rt: HostRuntime) {
     let alloc = rt.alloc();
-    // Opening takes two calls, and each event takes two: a write and a sync.
+    // The calls after which the disk fails. Opening takes two calls, and each event takes two: a write and a sync.
     for (calls, handed, next) in [
         (2, 1, 1),
         (3, 1, 1),
@@ -168,7 +181,8 @@ fn a_crash_repeats_one_event_at_most(rt: HostRuntime) {
         (8, 3, 4),
         (9, 3, 4),
     ] {
-        let found = crashed(alloc, |_: &Event| Outcome::Done, calls).expect(&rt, "a count");
+        let device = Fuse::new(Memory::new(alloc), calls);
+        let found = crashed(alloc, |_: &Event| Outcome::Done, device).expect(&rt, "a count");
         expect_same(&rt, &(calls, found), &(calls, (handed, next)));
     }
 }
@@ -208,8 +222,7 @@ fn one_more<F: Fn(&Event) -> Outcome + Send + Copy>(
 {
     let handed = open_handed(rt, path, Unknown)?;
     let before = handed.count();
-    let mut run = Continued::new(Recorder::new(rt.alloc(), answer), handed);
-    hand_over(&mut run, before.saturating_add(1));
+    let run = run_on(rt.alloc(), answer, handed, before.saturating_add(1));
     let is_busy = matches!(open_handed(rt, path, Unknown), Err(HandedFault::Busy));
     let (_, handed) = run.into_parts();
     Ok((handed.count(), is_busy))

@@ -42,6 +42,8 @@ mod logs;
 #[cfg(test)]
 mod noting;
 #[cfg(test)]
+mod places;
+#[cfg(test)]
 mod replaying;
 #[cfg(test)]
 mod replays;

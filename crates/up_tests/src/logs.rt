@@ -7,6 +7,7 @@ use up_events::{Id, Kind};
 use up_headers::{NewUpload, Patch, Request};
 use up_log::{Consent, Entry, Log, LogFault, LogReader, Setup, Spelled};
 use up_message::{Piece, Sequence};
+use up_places::NoFiles;
 
 pub const SETUP: Setup = Setup {
     lanes: 2,
@@ -63,6 +64,7 @@ pub fn entries_of(alloc: Global, rows: &[Row]) -> Result<Vec<Entry>, AllocError>
         entries.push(Entry {
             id: Id::new(row.1),
             consent,
+            place: None,
             request: request_of(alloc, *row)?,
         })?;
     }
@@ -93,7 +95,7 @@ pub fn disk_of(alloc: Global, bytes: &[u8]) -> io::Result<Memory> {
 /// The number of batches that are left to be read.
 pub fn batches_of<D: Disk>(alloc: Global, reader: &mut LogReader<D>) -> Result<u64, LogFault> {
     for count in 0..10 {
-        if reader.next_batch(alloc)?.is_none() {
+        if reader.next_batch(alloc, &NoFiles)?.is_none() {
             return Ok(count);
         }
     }

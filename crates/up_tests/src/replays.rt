@@ -5,6 +5,7 @@ use std::alloc::Global;
 use up_events::{Id, MAX_UPLOAD_BYTES};
 use up_machine::Book;
 use up_message::Sequence;
+use up_places::NoFiles;
 use up_replay::{Unreplayed, replay, restore};
 
 /// The offset and the length of an upload.
@@ -58,7 +59,7 @@ fn a_book_comes_back(rt: HostRuntime) {
     let mut book = Book::new(alloc, 2, 1000).expect(&rt, "memory");
     let file = file_of(alloc, &[&first, &second]).expect(&rt, "a log");
     let reader = reader_of(alloc, file).expect(&rt, "the log again");
-    restore(alloc, reader, &mut book).expect(&rt, "a book");
+    restore(alloc, reader, &NoFiles, &mut book).expect(&rt, "a book");
     expect_same(&rt, &book.journal().accepted_count(), &4);
     expect_same(&rt, &standing(&book, 5), &Some((3, Some(4))));
     expect_same(&rt, &standing(&book, 6), &None);

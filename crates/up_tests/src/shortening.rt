@@ -11,6 +11,7 @@ use up_headers::{NewUpload, Request};
 use up_log::{Consent, Entry, Log};
 use up_machine::Book;
 use up_message::Sequence;
+use up_places::NoFiles;
 use up_replay::restore;
 
 fn ids_of(alloc: Global, numbers: &[u128]) -> Result<BTreeSet<Id>, AllocError> {
@@ -30,6 +31,7 @@ fn joining(alloc: Global, id: u128, parts: &[u128]) -> Result<Entry, AllocError>
     Ok(Entry {
         id: Id::new(id),
         consent: Consent::AllowedFinish,
+        place: None,
         request: Request::Create(NewUpload {
             kind: Kind::Final,
             length: Some(0),
@@ -92,7 +94,7 @@ fn log_of<R: Abort>(rt: &R, alloc: Global, first: &[Row], second: &[Row]) -> Log
 fn book_of<R: Abort>(rt: &R, alloc: Global, log: Log<Memory>) -> Book {
     let mut book = Book::new(alloc, 2, 1000).expect(rt, "memory");
     let reader = reader_of(alloc, log.into_device()).expect(rt, "a log");
-    restore(alloc, reader, &mut book).expect(rt, "a book");
+    restore(alloc, reader, &NoFiles, &mut book).expect(rt, "a book");
     book
 }
 
@@ -125,7 +127,10 @@ fn hold_reached<R: Abort>(
     want: (u64, u64),
 ) -> Progress {
     let left_out = left_out(alloc).expect(rt, "memory");
-    let reached = catch_up(alloc, log, shorter, &left_out, since).expect(rt, "a shorter log");
+    let reached = catch_up(alloc, log, &NoFiles, shorter, &left_out, since).expect(
+        rt,
+        "a shorter log",
+    );
     expect_same(rt, &(reached.count, reached.stayed), &want);
     expect_same(rt, &reached.place, &log.end_place());
     reached
@@ -170,7 +175,7 @@ fn hold_batch<R: Abort>(
     place: usize,
     want: usize,
 ) -> usize {
-    let found = log.batch_at(alloc, place).expect(rt, "a log");
+    let found = log.batch_at(alloc, place, &NoFiles).expect(rt, "a log");
     let (entries, next) = found.expect(rt, "a batch");
     expect_same(rt, &entries.len(), &want);
     next
@@ -184,7 +189,11 @@ fn an_open_log_is_read_from_its_places(rt: HostRuntime) {
     let mut log = log_of(&rt, alloc, &first, &second);
     let place = hold_batch(&rt, alloc, &mut log, Log::<Memory>::first_place(), 1);
     let place = hold_batch(&rt, alloc, &mut log, place, 2);
-    assert!(rt; log.batch_at(alloc, place).expect(&rt, "a log").is_none());
+    assert!(rt;
+        log.batch_at(alloc, place, &NoFiles)
+            .expect(&rt, "a log")
+            .is_none()
+    );
     // Another batch can still be appended, and is then at this place.
     append(&rt, alloc, &mut log, &first);
     hold_batch(&rt, alloc, &mut log, place, 1);

@@ -1,7 +1,7 @@
 //! Conversations that are served by a book alone, and from a seat of a board whose lanes run meanwhile. One board keeps
 //! its changes, and another counts them. The responses are the same, and the same changes are accepted. For the board
 //! that counts its changes, the number is compared.
-ghost use Rattle.std.specs.Prelude.{◌≡◌, IsTrue, [], length};
+ghost use Rattle.std.specs.Prelude.{◌≡◌, All, IsTrue, [], length};
 ghost use Rattle.up_dispatch.specs.Free.{no_history};
 ghost use Rattle.up_dispatch.specs.Parts.{IsNamed};
 ghost use Rattle.up_hooks.specs.Verdicts.{is_allowed_verdict};
@@ -17,6 +17,7 @@ use std::thread::Threads;
 use up_dispatch::{Board, BoardParts, Counting, Ended, Lent, Naming, Report, Seat, Seated};
 use up_events::{Accepted, Changes, Event};
 use up_hooks::{Outcome, PostHook, PreHook, PreHooks, Recorder};
+use up_lanes::{Lane, LaneEnd};
 use up_machine::{Ask, Book, Point, Reason, Verdict};
 
 /// A conversation of a server without closures: creations, appends in one piece, in chunks and at a wrong offset, two
@@ -95,6 +96,63 @@ fn told_from<B: Naming, R: Wait + Abort>(
     (seat, told)
 }
 
+/// What is told from a seat of a board.
+trait Telling {
+    fn told<B: Naming, R: Wait + Abort>(
+        &self,
+        rt: &R,
+        alloc: Global,
+        board: &Board<B>,
+    ) -> (Seat<B>, Told)
+        requires free { B.history ≡ no_history };
+}
+
+/// A conversation, and the closures that are asked about its changes.
+#[derive(Clone, Copy)]
+struct Conversation<'a> {
+    hooks: &'a PreHooks,
+    asked: &'a [u8],
+}
+
+impl Telling for Conversation<'_> {
+    fn told<B: Naming, R: Wait + Abort>(
+        &self,
+        rt: &R,
+        alloc: Global,
+        board: &Board<B>,
+    ) -> (Seat<B>, Told) {
+        told_from(rt, alloc, board, self.hooks, self.asked)
+    }
+}
+
+/// What is told from a seat of a board while its lanes run, and how these end.
+fn told_beside<
+    B: Naming + Send + Sync,
+    H: PostHook + Drop,
+    R: Threads + Wait + Abort + Sync,
+    W: Telling + Sync,
+>(
+    rt: &R,
+    alloc: Global,
+    board: &Board<B>,
+    lanes: Vec<Lane<H>>,
+    telling: &W,
+) -> ((Seat<B>, Told), Vec<LaneEnd<H>>)
+    requires free { B.history ≡ no_history }
+    requires own { All (λ l. l.queue ≡ B.queue l.lane) lanes.items }
+    ensures own { All (λ e. e.take_end.queue ≡ B.queue e.lane) result.1.items }
+{
+    run_beside(
+        rt,
+        board,
+        board,
+        lanes,
+        || -> (Seat<B>, Told)
+            requires { B.history ≡ no_history }
+        { telling.told(rt, alloc, board) },
+    )
+}
+
 /// Serves the conversation from a seat of a new board whose two lanes run meanwhile.
 fn on_board<B: Naming + Send + Sync, H: PostHook + Drop, R: Threads + Wait + Abort + Sync>(
     rt: &R,
@@ -113,16 +171,8 @@ fn on_board<B: Naming + Send + Sync, H: PostHook + Drop, R: Threads + Wait + Abo
     requires free { B.history ≡ no_history }
 {
     let (board, lanes) = open_board::<B, _, _>(rt, alloc, parts, recorders, keeps);
-    let shared = &board;
-    let ((seat, told), ends) = run_beside(
-        rt,
-        shared,
-        shared,
-        lanes,
-        || -> (Seat<B>, Told)
-            requires { B.history ≡ no_history }
-        { told_from(rt, alloc, shared, hooks, asked) },
-    );
+    let telling = Conversation { hooks, asked };
+    let ((seat, told), ends) = told_beside(rt, alloc, &board, lanes, &telling);
     (finished_from(rt, alloc, board, seat, ends), told)
 }
 

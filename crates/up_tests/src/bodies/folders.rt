@@ -9,7 +9,7 @@ use std::process::Abort;
 use std::sync::atomic::{AtomicU64, Ordering};
 use std::{fs, io};
 use up_bodies::{BodyFault, BodyFiles, BodyFolder, BodyNotices, BodyShelf, BodySpool, Head};
-use up_places::{BLOCK, Place, Shelf, Spool};
+use up_places::{BLOCK, Place, Position, Shelf, Spool};
 
 /// A folder of which file 7 is `HELLO`, and no other file can be opened. The files that are made are numbered from 0 on, up
 /// to this number, after which none can be made.
@@ -95,11 +95,11 @@ fn put_body<S: Spool, R: Abort + AllocGlobal>(
 }
 
 /// The place in this file with "hello world", as `HELLO` has it.
-fn hello_in<R: Abort + AllocGlobal>(rt: &R, file: u64) -> Place
+fn hello_in(file: u64) -> Place
     ensures { 0 < length result.bytes }
 {
-    let mut place = Place::empty(file, 56);
-    place.extend(&Vec::from_slice(rt.alloc(), b"hello world").expect(rt, "memory"));
+    let mut place = Place::empty(Position { file, at: 56 });
+    place.extend(b"hello world");
     place
 }
 
@@ -114,7 +114,7 @@ fn read_ends<S: Shelf, R: Abort + AllocGlobal>(
     shelf: &mut S,
     file: u64,
 ) -> Option<(u8, u8)> {
-    if shelf.read(&hello_in(rt, file), 0).is_err() {
+    if shelf.read(&hello_in(file), 0).is_err() {
         return None;
     }
     let block = shelf.block();

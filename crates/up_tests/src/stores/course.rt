@@ -2,9 +2,10 @@
 ghost use Rattle.std.specs.Prelude.{◌≡◌};
 
 use super::disks::{Files, files_of};
-use super::running::{Boxed, store_on};
+use super::running::{Boxed, change, store_on};
 use super::tally::{Again, Tally};
 use super::tasks::{Task, run};
+use crate::logs::Row;
 use std::alloc::Global;
 use std::marker::Send;
 use std::process::Abort;
@@ -43,6 +44,21 @@ fn found_through<B: Naming, D: Again + Drop, J: Site, K: Chronicle, C: Course<D>
 {
     let mut keeper = Stored::new(rt, board, store, seat);
     course.take(rt, alloc, board, store, &mut keeper)
+}
+
+/// Makes these changes through this store, from this seat.
+pub fn change_in<B: Naming, D: Again + Drop, J: Site, K: Chronicle, R: Wait + Abort>(
+    rt: &R,
+    alloc: Global,
+    board: &Board<B>,
+    store: &Store<D, &Tally, J, K>,
+    seat: &mut Seat<B>,
+    rows: &[Row],
+)
+    requires same { J.history ≡ B.history }
+{
+    let mut keeper = Stored::new(rt, board, store, seat);
+    change(rt, alloc, &mut keeper, rows);
 }
 
 /// A course through a store whose logs are on these disks.

@@ -5,6 +5,7 @@ use sqlite_disk::{Disk, Memory};
 use std::alloc::{AllocError, Global};
 use up_history::Chronicle;
 use up_log::{Log, LogFault};
+use up_places::NoFiles;
 use up_store::Voids;
 use up_tie::Site;
 
@@ -13,7 +14,7 @@ pub fn count_in(alloc: Global, file: Memory) -> Result<(u64, Memory), LogFault> 
     let mut reader = reader_of(alloc, file)?;
     let mut count: u64 = 0;
     for _ in 0..10_000u64 {
-        let Some(entries) = reader.next_batch(alloc)? else {
+        let Some(entries) = reader.next_batch(alloc, &NoFiles)? else {
             break;
         };
         count = count.saturating_add(entries.len() as u64);

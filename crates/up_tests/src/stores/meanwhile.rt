@@ -1,7 +1,8 @@
 //! Stores whose log is made shorter while changes are made, on disks of which a call fails.
 ghost use Rattle.std.specs.Prelude.{◌≡◌};
 
-use super::running::{Boxed, change, store_on};
+use super::course::change_in;
+use super::running::{Boxed, store_on};
 use super::tally::Tally;
 use super::tasks::{Task, run};
 use crate::faulty::FaultyFile;
@@ -20,7 +21,7 @@ use up_handed::EndedUpload;
 use up_history::Chronicle;
 use up_log::{LogFault, LogReader};
 use up_message::Sequence;
-use up_store::{Current, EndedUploads, Folder, Histories, Shortening, Store, Stored, Unrestored};
+use up_store::{Current, EndedUploads, Folder, Histories, Shortening, Store, Unrestored};
 use up_tie::Site;
 
 /// A file of which two calls can fail.
@@ -79,8 +80,9 @@ impl<B: Naming, J: Site, K: Chronicle, R: Wait + Abort> Meanwhile<'_, B, J, K, R
     /// Makes the changes.
     fn change(&self) {
         let mut seat = self.board.seat(self.rt).expect(self.rt, "a seat");
-        let mut keeper = Stored::new(self.rt, self.board, self.store, &mut seat);
-        change(self.rt, self.alloc, &mut keeper, &MEANWHILE);
+        change_in(
+            self.rt, self.alloc, self.board, self.store, &mut seat, &MEANWHILE,
+        );
     }
 }
 
@@ -127,8 +129,7 @@ fn try_twice<'x, B: Naming, J: Site, K: Chronicle, R: Wait + Abort>(
 ) -> Counts
     requires same { J.history ≡ B.history }
 {
-    let mut keeper = Stored::new(rt, board, store, seat);
-    change(rt, alloc, &mut keeper, &BEFORE);
+    change_in(rt, alloc, board, store, seat, &BEFORE);
     let count = AtomicU64::new(0);
     let folder = Meanwhile {
         rt,
@@ -145,7 +146,7 @@ fn try_twice<'x, B: Naming, J: Site, K: Chronicle, R: Wait + Abort>(
     .expect(rt, "memory");
     shortening.shorten(rt, alloc, store);
     let first = count.load(Ordering::SeqCst);
-    change(rt, alloc, &mut keeper, &AFTER);
+    change_in(rt, alloc, board, store, seat, &AFTER);
     shortening.shorten(rt, alloc, store);
     (first, count.load(Ordering::SeqCst))
 }

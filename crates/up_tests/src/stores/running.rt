@@ -23,7 +23,7 @@ use up_history::Chronicle;
 use up_hooks::PreHooks;
 use up_log::{LogFault, LogReader};
 use up_machine::{Asked, Done, Refusal};
-use up_places::Nowhere;
+use up_places::{NoFiles, Nowhere};
 use up_replay::{asked_of, fits};
 use up_store::{Histories, Least, Store, Unrestored};
 use up_tie::{Reading, Site};
@@ -181,7 +181,7 @@ fn plain_of<B: Naming, R: Wait + Abort>(
 pub type Boxed<'a, D, J, K> = Box<Store<D, &'a Tally, J, K>, Global>;
 
 /// A store on these disks that was not read yet, and who reads them.
-pub type Unread<'a, D, J, K> = (Boxed<'a, D, J, K>, (Reading<D, J>, LogReader<D>));
+pub type Unread<'a, D, J, K> = (Boxed<'a, D, J, K>, (Reading<D, NoFiles, J>, LogReader<D>));
 
 /// A store on these disks that was not read yet, and who reads them.
 pub fn unread_on<'a, D: Disk, J: Site, K: Chronicle>(
@@ -201,7 +201,7 @@ where
     let (store, front) = Store::unread(alloc, tally, histories)?;
     Ok((
         Box::new(alloc, store)?,
-        (Reading::new(changes, front), voids),
+        (Reading::new(changes, NoFiles, front), voids),
     ))
 }
 

@@ -12,17 +12,12 @@ use std::process::Abort;
 use std::sync::Wait;
 use std::test::Fail;
 use up_events::Id;
-use up_headers::Request;
-use up_log::{Consent, Entry, LogFault, Spelled, open_file};
+use up_log::{Entry, LogFault, Spelled, open_file};
 use up_store::Voids;
 
 /// The batch that says that a place is void.
 fn void_of(alloc: Global, place: u128) -> Result<Vec<Spelled>, AllocError> {
-    let entry = Entry {
-        id: Id::new(place),
-        consent: Consent::Skipped,
-        request: Request::Options,
-    };
+    let entry = Entry::nothing(Id::new(place));
     let mut batch = Vec::new(alloc);
     batch.push(Spelled::new(alloc, &entry)?)?;
     Ok(batch)
