@@ -83,12 +83,17 @@ class Tree:
         """The source of a crate."""
         return self.folder / "crates" / crate / "src/lib.rt"
 
-    def begin(self, *words, path=None, **given):
-        """Begins to run `./up` with these words, and with this environment."""
+    def environment(self, path=None, **given):
+        """The environment of a run, with these variables."""
         path = f"{self.tools}:{os.environ['PATH']}" if path is None else path
         environment = {**os.environ, "PATH": path, "RT_NOTES": str(self.notes), **given}
-        pipes = {"stdin": subprocess.DEVNULL, "stdout": subprocess.PIPE, "stderr": subprocess.PIPE}
         environment.pop("UP_PROGRAM", None)
+        return environment
+
+    def begin(self, *words, **given):
+        """Begins to run `./up` with these words, and with this environment."""
+        pipes = {"stdin": subprocess.DEVNULL, "stdout": subprocess.PIPE, "stderr": subprocess.PIPE}
+        environment = self.environment(**given)
         return subprocess.Popen([self.folder / "up", *words], env=environment, text=True, preexec_fn=heed, **pipes)
 
     def run(self, *words, **given):
@@ -179,8 +184,8 @@ def shares():
         with tree(crates=None) as at:
             chosen = ",".join(map(str, sorted(os.sched_getaffinity(0))[:processors]))
             words = ["taskset", "-c", chosen, at.folder / "up", "--version"]
-            environment = {**os.environ, "PATH": f"{at.tools}:{os.environ['PATH']}", "RT_NOTES": str(at.notes)}
-            subprocess.run(words, env=environment, stdout=subprocess.DEVNULL, stderr=subprocess.DEVNULL, check=True)
+            nothing = {"stdout": subprocess.DEVNULL, "stderr": subprocess.DEVNULL}
+            subprocess.run(words, env=at.environment(), check=True, **nothing)
             jobs = [int(line.split()[4]) for line in at.logged() if " told: " in line]
             same(len(jobs), len(USES), "how many crates are proved")
             same([it for it in jobs if not 1 <= it <= processors], [], f"wrong numbers of jobs of {processors}")
@@ -240,6 +245,31 @@ def signals():
             same("begun up_b again" in at.noted(), True, "whether it goes on")
 
 
+# Put into `./up`, it gives it a signal as soon as a prover runs, and notes the number of that one's process.
+STRUCK = """
+def struck(*words, **given):
+    process = subprocess.Popen(*words, **given)
+    pathlib.Path(os.environ["RT_NOTES"] + ".process").write_text(str(process.pid))
+    os.kill(os.getpid(), signal.SIGTERM)
+    return process
+
+
+def begin("""
+
+
+def signal_at_the_start():
+    """A signal that comes while a prover is being started ends that prover, too."""
+    with tree() as at:
+        text = (at.folder / "up").read_text()
+        text = text.replace("    return subprocess.Popen(", "    return struck(").replace("\ndef begin(", STRUCK)
+        (at.folder / "up").write_text(text)
+        same(text.count("struck("), 2, "how often `./up` speaks of it")
+        same(at.run("--version", RT_SLOW="up_a")[:2], (1, ""), "the status, and what is written")
+        prover = pathlib.Path(f"{at.notes}.process").read_text()
+        same(os.path.exists(f"/proc/{prover}"), False, "whether the prover is there")
+        at.is_tidy()
+
+
 def killed():
     """After a kill the next run finds the crate's work, and removes what is left of the room."""
     with tree() as at:
@@ -260,8 +290,8 @@ def ignored_signal():
     """A hangup that is ignored, as under nohup, ends nothing."""
     with tree() as at:
         words = ["sh", "-c", 'trap "" HUP; exec "$0" --version', str(at.folder / "up")]
-        environment = {**os.environ, "PATH": f"{at.tools}:{os.environ['PATH']}", "RT_NOTES": str(at.notes)}
-        run = subprocess.Popen(words, env=environment, stdout=subprocess.PIPE, stderr=subprocess.PIPE, text=True)
+        pipes = {"stdout": subprocess.PIPE, "stderr": subprocess.PIPE}
+        run = subprocess.Popen(words, env=at.environment(), text=True, **pipes)
         soon(at.notes.exists, "the first crate")
         run.send_signal(signal.SIGHUP)
         same(ended(run)[:2], (0, "up 1 --version\n"), "what it does")
@@ -331,8 +361,8 @@ def words():
 
 
 CASES = [
-    first_build, most_at_once, shares, second_start, changed_source, two_at_once, signals, killed, ignored_signal,
-    bad_crate, no_toolchain, unlisted, words,
+    first_build, most_at_once, shares, second_start, changed_source, two_at_once, signals, signal_at_the_start, killed,
+    ignored_signal, bad_crate, no_toolchain, unlisted, words,
 ]
 PASSED_OVER = () if may_mount() else ("no_space: it needs leave to mount a disk",)
 if may_mount():
